@@ -1,0 +1,6 @@
+pub mod Choice
+pub mod Bytes
+pub mod Prefix
+pub mod Stack
+pub mod Parts
+pub mod Results

@@ -1,0 +1,4 @@
+pub mod Choice
+pub mod Bytes
+pub mod Result
+pub mod Stack

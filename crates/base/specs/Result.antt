@@ -1,0 +1,13 @@
+-- What a rule gives, or 01's 'A refusal is its number and place'.
+use Prim.Native.Nat.{ℕ}
+
+pub data Result (A : Type 0) : Type 0 where
+  gives : A → Result A
+  refused : (number place : ℕ) → Result A
+
+-- one rule after another: the first refusal that is met is the answer
+module _ {A B : Type 0} where
+  infixl 10 _>>=_
+  unfoldable pub _>>=_ : Result A → (A → Result B) → Result B
+  _>>=_ (gives a) f = f a
+  _>>=_ (refused n p) f = refused n p

@@ -1,0 +1,4 @@
+pub mod Tokens
+pub mod Reading
+pub mod Opening
+pub mod Walks

@@ -1,0 +1,169 @@
+-- A record's bytes as numbers, its kind, and where it ends. Assumes nothing.
+use Prim.Native.Nat.{ℕ, suc, _+_, _-_, _*_, _≤_, _<_}
+use mathlib.Core.Path.{_≡_, refl, sym, ap, ap₂, _∙_}
+use mathlib.Core.Bool.{true}
+use mathlib.Core.List.{List, [], _∷_}
+use lib.Dec.{leb, ltb}
+use lib.ListN.{length, take, drop, getD, length-drop, drop-of-length-le, List·getD-eq-default}
+use lib.Seq.{drop-drop, getD-drop, take-all, take-nil}
+use native.Mathlib.Omega.{arith}
+use native.Mathlib.Nat.{le-refl, add-zero}
+use borrow.Author.Tests.{lt-ltb, le-ltb, le-leb, lt-leb, leb-true}
+use Rattle.base.specs.Choice.{if_then_else_}
+use Rattle.base.proofs.Choice.{and-left, and-right, if-true, if-false}
+use Rattle.document.specs.Document.{Token, little, styles, blocks, kindOf, size, tokenAt, tokensFrom, fits}
+use Rattle.document.specs.Answers.{part, tokenOf, Read}
+use Rattle.document.specs.declared.Kind.{Kind}
+use Rattle.document.specs.declared.Kind.the-variants as kind
+use Rattle.document.specs.declared.Block.{Block}
+use Rattle.document.specs.declared.Block.the-variants as block
+use Rattle.document.specs.declared.Style.{Style}
+use Rattle.document.specs.declared.Style.the-variants as style
+use Rattle.document.specs.declared.Head.{Head}
+use Rattle.document.proofs.Tokens.{tokens-at, tokens-end, nextAt}
+
+-- Numbers
+
+little-more : (n : ℕ) (s : List ℕ) → little (take (suc n) s) ≡ getD s 0 0 + 256 * little (take n (drop 1 s))
+unfolding little
+little-more n [] = rw (take-nil n) refl
+little-more n (b ∷ s) = refl
+
+pub little-two : (s : List ℕ) (at : ℕ) → little (take 2 (drop at s)) ≡ getD s at 0 + 256 * getD s (at + 1) 0
+unfolding little
+little-two s at =
+    let a : getD (drop at s) 0 0 ≡ getD s at 0 = getD-drop at s 0 0 ∙ ap (λ (k : ℕ). getD s k 0) (add-zero at) in
+    let b : getD (drop 1 (drop at s)) 0 0 ≡ getD s (at + 1) 0 = getD-drop 1 (drop at s) 0 0 ∙ getD-drop at s 1 0 in
+    omega (arith, little-more 1 (drop at s), little-more 0 (drop 1 (drop at s)), a, b)
+
+pub little-four : (s : List ℕ) (at x y : ℕ) → x ≡ little (take 2 (drop at s)) → y ≡ little (take 2 (drop (at + 2) s)) → x + 65536 * y ≡ little (take 4 (drop at s))
+unfolding little
+little-four s at x y e f =
+    let t = drop at s in
+    let q : drop 1 (drop 1 t) ≡ drop (at + 2) s = ap (drop 1) (drop-drop 1 at s) ∙ drop-drop 1 (at + 1) s ∙ ap (λ (k : ℕ). drop k s) (let z : at + 1 + 1 ≡ at + 2 = omega arith in z) in
+    let g : little (take 2 (drop 1 (drop 1 t))) ≡ y = rw q (sym f) in
+    omega (arith, little-more 3 t, little-more 2 (drop 1 t), little-more 1 t, little-more 0 (drop 1 t), e, g)
+
+-- of a number that is cut short the bytes that are missing count as 0
+pub little-one : (s : List ℕ) (at : ℕ) → length s ≤ at + 1 → little (take 2 (drop at s)) ≡ getD s at 0
+little-one s at h = let z : getD s (at + 1) 0 ≡ 0 = List·getD-eq-default s 0 h in omega (arith, little-two s at)
+
+pub little-none : (s : List ℕ) (at : ℕ) → length s ≤ at → little (take 2 (drop at s)) ≡ 0
+little-none s at h = let z : getD s at 0 ≡ 0 = List·getD-eq-default s 0 h in omega (arith, little-one s at (omega arith))
+
+-- Kinds
+
+module _ (k : ℕ) where
+  pub kind-text : (s : Style) → 1 ≤ k → k ≤ 5 → s ≡ getD styles (k - 1) style.Text → kind.Text s ≡ kindOf k
+  unfolding kindOf if_then_else_
+  kind-text s h j e = rw (le-leb 1 k h, le-leb k 5 j) (ap kind.Text e)
+
+  pub kind-start : (b : Block) → 0x0100 ≤ k → k ≤ 0x010B → b ≡ getD blocks (k - 0x0100) block.Header → kind.Start b ≡ kindOf k
+  unfolding kindOf if_then_else_
+  kind-start b h j e = rw (le-leb 1 k (omega arith), lt-leb k 5 (omega arith), le-leb 0x0100 k h, le-leb k 0x010B j) (ap kind.Start e)
+
+  pub kind-end : (b : Block) → 0x0200 ≤ k → k ≤ 0x020B → b ≡ getD blocks (k - 0x0200) block.Header → kind.End b ≡ kindOf k
+  unfolding kindOf if_then_else_
+  kind-end b h j e = rw (le-leb 1 k (omega arith), lt-leb k 5 (omega arith), le-leb 0x0100 k (omega arith), lt-leb k 0x010B (omega arith), le-leb 0x0200 k h, le-leb k 0x020B j) (ap kind.End e)
+
+  pub kind-0 : k < 1 → kind.Unknown ≡ kindOf k
+  unfolding kindOf if_then_else_
+  kind-0 h = rw (lt-leb 1 k h, lt-leb 0x0100 k (omega arith), lt-leb 0x0200 k (omega arith))
+
+  pub kind-1 : 5 < k → k < 0x0100 → kind.Unknown ≡ kindOf k
+  unfolding kindOf if_then_else_
+  kind-1 h j = rw (le-leb 1 k (omega arith), lt-leb k 5 h, lt-leb 0x0100 k j, lt-leb 0x0200 k (omega arith))
+
+  pub kind-2 : 0x010B < k → k < 0x0200 → kind.Unknown ≡ kindOf k
+  unfolding kindOf if_then_else_
+  kind-2 h j = rw (le-leb 1 k (omega arith), lt-leb k 5 (omega arith), le-leb 0x0100 k (omega arith), lt-leb k 0x010B h, lt-leb 0x0200 k j)
+
+  pub kind-3 : 0x020B < k → kind.Unknown ≡ kindOf k
+  unfolding kindOf if_then_else_
+  kind-3 h = rw (le-leb 1 k (omega arith), lt-leb k 5 (omega arith), le-leb 0x0100 k (omega arith), lt-leb k 0x010B (omega arith), le-leb 0x0200 k (omega arith), lt-leb k 0x020B h)
+
+-- Records
+
+token-eq : {p : ℕ} {k l : Kind} {x y : List ℕ} → k ≡ l → x ≡ y → _≡_ {A = Token} (record { place = p; kind = k; body = x }) (record { place = p; kind = l; body = y })
+token-eq {p} e f = λ i. record { place = p; kind = e i; body = f i }
+
+part-none : (s : List ℕ) (a : ℕ) → part s a a ≡ []
+part-none s a = let e : a - a ≡ 0 = omega arith in rw e
+
+fits-room : (s : List ℕ) → fits s ≡ true → 6 + size s ≤ length s
+unfolding fits
+fits-room s e =
+    let a = leb-true 6 (length s) (and-left (leb 6 (length s)) _ e) in
+    let b = leb-true (size s) (length s - 6) (and-right (leb 6 (length s)) _ e) in omega arith
+
+module _ (s : List ℕ) (at : ℕ) where
+  pub read-past : length s ≤ at → Read s at (record { kind = kind.Unknown; start = length s; next = length s })
+  read-past h = record {
+    listed = tokens-end s at h ∙ sym (if-false _ _ (le-ltb at (length s) h));
+    low = λ l. let z : ⊥ = omega arith in absurd z;
+    order = le-refl (length s);
+    high = le-refl (length s);
+    past = λ _. refl;
+    whole = λ l. let z : ⊥ = omega arith in absurd z;
+  }
+
+  module _ (k : Kind) (h : at < length s) (ek : k ≡ kindOf (little (take 2 (drop (at + 4) s)))) where
+    listed-here : (start next : ℕ) → part s start next ≡ take (size (drop at s)) (drop (at + 6) s) → tokensFrom s next ≡ tokensFrom s (nextAt s at)
+        → tokensFrom s at ≡ if ltb at (length s) then tokenOf s at (record { kind = k; start = start; next = next }) ∷ tokensFrom s next else []
+    unfolding tokenAt
+    listed-here start next b t =
+        tokens-at s at h
+        ∙ ap₂ _∷_ (token-eq (ap (λ (l : List ℕ). kindOf (little (take 2 l))) (drop-drop 4 at s) ∙ sym ek) (ap (take (size (drop at s))) (drop-drop 6 at s) ∙ sym b)) (sym t)
+        ∙ sym (if-true _ _ (lt-ltb at (length s) h))
+
+    pub read-short : length s < at + 6 → Read s at (record { kind = k; start = length s; next = length s })
+    read-short j = record {
+      listed = listed-here (length s) (length s)
+          (part-none s (length s) ∙ sym (ap (take (size (drop at s))) (drop-of-length-le s {i = at + 6} (omega arith)) ∙ take-nil (size (drop at s))))
+          (tokens-end s (length s) (le-refl (length s)) ∙ sym (tokens-end s (nextAt s at) (omega arith)));
+      low = λ l. l;
+      order = le-refl (length s);
+      high = le-refl (length s);
+      past = λ l. let z : ⊥ = omega arith in absurd z;
+      whole = λ _ f. let z : ⊥ = omega (arith, fits-room (drop at s) f, length-drop at s) in absurd z;
+    }
+
+    module _ (n : ℕ) (en : n ≡ size (drop at s)) (j : at + 6 ≤ length s) where
+      pub read-cut : length s - (at + 6) < n → Read s at (record { kind = k; start = at + 6; next = length s })
+      read-cut m = record {
+        listed = listed-here (at + 6) (length s)
+            (take-all (length s - (at + 6)) (drop (at + 6) s) (omega (arith, length-drop (at + 6) s)) ∙ sym (take-all (size (drop at s)) (drop (at + 6) s) (omega (arith, length-drop (at + 6) s))))
+            (tokens-end s (length s) (le-refl (length s)) ∙ sym (tokens-end s (nextAt s at) (omega arith)));
+        low = λ l. omega arith;
+        order = j;
+        high = le-refl (length s);
+        past = λ l. let z : ⊥ = omega arith in absurd z;
+        whole = λ _ f. let z : ⊥ = omega (arith, fits-room (drop at s) f, length-drop at s) in absurd z;
+      }
+
+      pub read-whole : n ≤ length s - (at + 6) → Read s at (record { kind = k; start = at + 6; next = at + 6 + n })
+      read-whole m =
+          let e : at + 6 + n - (at + 6) ≡ size (drop at s) = omega arith in
+          let f : at + 6 + n ≡ nextAt s at = omega arith in
+          record {
+            listed = listed-here (at + 6) (at + 6 + n) (rw e) (ap (λ (i : ℕ). tokensFrom s i) f);
+            low = λ l. omega arith;
+            order = omega arith;
+            high = omega arith;
+            past = λ l. let z : ⊥ = omega arith in absurd z;
+            whole = λ _ _. (refl, f);
+          }
+
+-- What was read is the record at that place.
+
+module _ {s : List ℕ} {at : ℕ} {h : Head} (r : Read s at h) (l : at < length s) where
+  -- it is the next record, and the rest follows
+  pub read-next : tokensFrom s at ≡ tokenOf s at h ∷ tokensFrom s (h .next)
+  read-next = r .listed ∙ if-true _ _ (lt-ltb at (length s) l)
+
+  pub read-token : tokenAt at (drop at s) ≡ tokenOf s at h
+  read-token = let e = sym (tokens-at s at l) ∙ read-next in cc
+
+  -- the next one stands further on
+  pub read-on : (at < h .next) × (h .next ≤ length s)
+  read-on = (omega (arith, r .low l, r .order), r .high)

@@ -1,0 +1,4 @@
+pub mod Document
+pub mod Answers
+pub mod Parts
+pub mod Stored

@@ -1,0 +1,207 @@
+-- The answers of the code, seen as steps of the rules. Assumes nothing.
+use Prim.Native.Nat.{ℕ, _+_, _-_, _≤_, _<_}
+use mathlib.Core.Path.{_≡_, refl, sym, ap, ap₂, _∙_}
+use mathlib.Core.Bool.{Bool, true, false, and-true}
+use mathlib.Core.List.{List, [], _∷_}
+use lib.Dec.{eqb}
+use lib.ListN.{length, take, drop, getD, length-drop}
+use lib.Seq.{drop-drop, drop-cons}
+use native.Mathlib.Nat.{le-refl}
+use native.Mathlib.Omega.{arith}
+use borrow.Author.Tests.{eq-eqb, ne-eqb}
+use Rattle.base.specs.Choice.{if_then_else_}
+use Rattle.base.specs.Bytes.{startsWith}
+use Rattle.utf8.specs.Utf8.{characters, continues}
+use Rattle.base.proofs.Choice.{pick}
+use Rattle.base.proofs.Prefix.{starts-fits}
+use Rattle.base.proofs.Parts.{part-over}
+use Rattle.splitter.specs.Split.{raw, line, word, ticks, four, isLineEnd, isLineEndOrSpace, Step, afterLineEnd, ticked, step, stripped}
+use Rattle.splitter.specs.Answers.{First, first, firstChunk, told, chunkOf, cursor, chunksFrom, textOf, PieceWithin, Within}
+use Rattle.splitter.specs.Parts.{Gives, wordFrom}
+use Rattle.splitter.specs.declared.Code.{Code}
+use Rattle.splitter.specs.declared.Code.the-variants as code
+use Rattle.splitter.specs.declared.Cursor.{Cursor}
+use Rattle.splitter.specs.declared.Piece.{Piece}
+use Rattle.splitter.specs.declared.Piece.the-variants.{Raw, Space, Paragraph, LineBreak}
+use Rattle.splitter.specs.declared.Word.{Word}
+use Rattle.splitter.specs.declared.Step.{Step as Answer}
+use Rattle.splitter.specs.declared.Step.the-variants.{Take, Done}
+use Rattle.splitter.proofs.Before.{before-part, before-within, before-after}
+use Rattle.splitter.proofs.Steps.{first-none, first-some, from-moves, next-is, chunks-take, chunks-done}
+
+adds-most : (b : ℕ) → (if continues b then 0 else 1) ≤ 1
+adds-most b = pick (λ (n : ℕ). n ≤ 1) (continues b) (λ _. omega arith) (λ _. omega arith)
+
+count-short : (s : List ℕ) → characters s ≤ length s
+count-short [] = omega arith
+count-short (b ∷ s) = let h = count-short s in let k = adds-most b in omega arith
+
+module _ (body : List ℕ) (at : ℕ) where
+  gives : (s : Step) (p : Piece) (to : ℕ) (d : Code) → chunkOf body p ≡ s .chunk → to ≡ at + s .used → d ≡ s .code → PieceWithin (length body) p
+      → Gives body at s (Take p (cursor to d))
+  gives s p to d e f g w = record { chunk = ap₂ first e (ap₂ cursor f g); lies = w }
+
+pub gave : {body : List ℕ} {at : ℕ} {s : Step} {r x : Answer} → r ≡ x → Gives body at s x → Gives body at s r
+gave e g = rw e g
+
+-- A line in ticks
+module _ (body : List ℕ) (at to : ℕ) (h : at < length body) (e : to ≡ at + length (line (drop at body))) where
+  tick-piece : chunkOf body (Raw at to 1_000_001) ≡ raw (line (drop at body)) 1_000_001
+  tick-piece = ap (λ (x : List ℕ). raw x 1_000_001) (before-part isLineEnd body at to e)
+
+  tick-within : PieceWithin (length body) (Raw at to 1_000_001)
+  tick-within = let w = before-within isLineEnd body at to e (omega arith) in (w .0, w .1, omega arith)
+
+  pub ticked-on : (last : Bool) → last ≡ false → Gives body at (ticked last (drop at body)) (Take (Raw at to 1_000_001) (cursor (to + 1) code.Rest))
+  unfolding ticked if_then_else_
+  ticked-on last f = rw f (gives body at (ticked false (drop at body)) (Raw at to 1_000_001) (to + 1) code.Rest tick-piece (omega arith) refl tick-within)
+
+  module _ (last : Bool) (f : last ≡ true) where
+    pub ticked-kept : startsWith (0x0A ∷ 0x0A ∷ []) (drop to body) ≡ true
+        → Gives body at (ticked last (drop at body)) (Take (Raw at to 1_000_001) (cursor to code.No))
+    unfolding ticked if_then_else_
+    ticked-kept g =
+        rw f (gives body at (ticked true (drop at body)) (Raw at to 1_000_001) to code.No tick-piece (rw (before-after isLineEnd body at to e, g) e) refl tick-within)
+
+    pub ticked-last : startsWith (0x0A ∷ 0x0A ∷ []) (drop to body) ≡ false
+        → Gives body at (ticked last (drop at body)) (Take (Raw at to 1_000_001) (cursor (to + 1) code.No))
+    unfolding ticked if_then_else_
+    ticked-last g =
+        rw f (gives body at (ticked true (drop at body)) (Raw at to 1_000_001) (to + 1) code.No tick-piece (rw (before-after isLineEnd body at to e, g) (omega arith)) refl tick-within)
+
+-- After a line end
+module _ (body : List ℕ) (at : ℕ) (h : at < length body) where
+  abbrev After : List ℕ
+  After = drop (at + 1) body
+
+  abbrev Answers : Answer → Type 0
+  Answers r = Gives body at (afterLineEnd After) r
+
+  pub after-code : (to : ℕ) → startsWith four After ≡ true → to ≡ at + 1 + 4 + length (line (drop (at + 1 + 4) body))
+      → Answers (Take (Raw (at + 1 + 4) to 1_000_000) (cursor to code.No))
+  unfolding afterLineEnd if_then_else_
+  after-code to f k =
+      let q : drop 4 (drop (at + 1) body) ≡ drop (at + 1 + 4) body = drop-drop 4 (at + 1) body in
+      let fits = starts-fits four body (at + 1) true (omega arith) (sym f) refl in
+      let w = before-within isLineEnd body (at + 1 + 4) to k fits in
+      rw (f, q) (gives body at _ (Raw (at + 1 + 4) to 1_000_000) to code.No (ap (λ (x : List ℕ). raw x 1_000_000) (before-part isLineEnd body (at + 1 + 4) to k)) (omega arith) refl (w .0, w .1, omega arith))
+
+  module _ (na : startsWith four After ≡ false) where
+    pub after-ticks : startsWith (0x0A ∷ ticks) After ≡ true → Answers (Take Paragraph (cursor (at + 1 + 1) code.First))
+    unfolding afterLineEnd if_then_else_
+    after-ticks f = rw (na, f) (gives body at _ Paragraph (at + 1 + 1) code.First refl (omega arith) refl tt)
+
+    module _ (nb : startsWith (0x0A ∷ ticks) After ≡ false) where
+      pub after-four : startsWith (0x0A ∷ four) After ≡ true → Answers (Take Paragraph (cursor (at + 1) code.No))
+      unfolding afterLineEnd if_then_else_
+      after-four f = rw (na, nb, f) (gives body at _ Paragraph (at + 1) code.No refl refl refl tt)
+
+      module _ (nc : startsWith (0x0A ∷ four) After ≡ false) where
+        pub after-para : startsWith (0x0A ∷ []) After ≡ true → Answers (Take Paragraph (cursor (at + 1 + 1) code.No))
+        unfolding afterLineEnd if_then_else_
+        after-para f = rw (na, nb, nc, f) (gives body at _ Paragraph (at + 1 + 1) code.No refl (omega arith) refl tt)
+
+        module _ (nd : startsWith (0x0A ∷ []) After ≡ false) where
+          pub after-break : startsWith (0x20 ∷ []) After ≡ true → Answers (Take LineBreak (cursor (at + 1 + 1) code.No))
+          unfolding afterLineEnd if_then_else_
+          after-break f = rw (na, nb, nc, nd, f) (gives body at _ LineBreak (at + 1 + 1) code.No refl (omega arith) refl tt)
+
+          pub after-space : startsWith (0x20 ∷ []) After ≡ false → Answers (Take Space (cursor (at + 1) code.No))
+          unfolding afterLineEnd if_then_else_
+          after-space f = rw (na, nb, nc, nd, f) (gives body at _ Space (at + 1) code.No refl refl refl tt)
+
+-- Outside ticks
+module _ (body : List ℕ) (at : ℕ) (h : at < length body) where
+  -- the byte at a place, as a prefix
+  starts-one : (x : ℕ) → startsWith (x ∷ []) (drop at body) ≡ eqb (getD body at 0) x
+  unfolding startsWith
+  starts-one x = rw (drop-cons body at 0 h) (and-true _)
+
+  pub plain-line : (r : Answer) → getD body at 0 ≡ 0x0A → Gives body at (afterLineEnd (drop (at + 1) body)) r → Gives body at (step code.No (drop at body)) r
+  unfolding step if_then_else_
+  plain-line r e g = rw (starts-one 0x0A ∙ eq-eqb _ _ e, drop-drop 1 at body) g
+
+  module _ (n : getD body at 0 ≡ 0x0A → ⊥) where
+    pub plain-space : getD body at 0 ≡ 0x20 → Gives body at (step code.No (drop at body)) (Take Space (cursor (at + 1) code.No))
+    unfolding step if_then_else_
+    plain-space e = rw (starts-one 0x0A ∙ ne-eqb _ _ n, starts-one 0x20 ∙ eq-eqb _ _ e) (gives body at _ Space (at + 1) code.No refl refl refl tt)
+
+    pub plain-word : (w : Word) → (getD body at 0 ≡ 0x20 → ⊥) → w ≡ wordFrom body at
+        → Gives body at (step code.No (drop at body)) (Take (Raw at (w .to) (w .width)) (cursor (w .to) code.No))
+    unfolding step if_then_else_
+    plain-word w m e =
+        let f = ap (λ (x : Word). x .to) e in
+        let g = ap (λ (x : Word). x .width) e in
+        let l = before-within isLineEndOrSpace body at (w .to) f (omega arith) in
+        rw (starts-one 0x0A ∙ ne-eqb _ _ n, starts-one 0x20 ∙ ne-eqb _ _ m)
+        (gives body at _ (Raw at (w .to) (w .width)) (w .to) code.No (ap₂ raw (before-part isLineEndOrSpace body at (w .to) f) g) f refl
+        (l .0, l .1, omega (arith, count-short (word (drop at body)))))
+
+-- In ticks
+module _ (body : List ℕ) (at : ℕ) (r : Answer) where
+  pub first-tick : Gives body at (ticked false (drop at body)) r → Gives body at (step code.First (drop at body)) r
+  unfolding step
+  first-tick g = g
+
+  pub later-tick : (last : Bool) → last ≡ startsWith ticks (drop at body) → Gives body at (ticked last (drop at body)) r → Gives body at (step code.Rest (drop at body)) r
+  unfolding step
+  later-tick last e g = rw (← e) g
+
+-- A step at a cursor
+
+-- the two promises of a step
+abbrev pub Answered : List ℕ → Cursor → Answer → Type 0
+Answered body c r = (told body r ≡ firstChunk body c) × Within body c r
+
+module _ (body : List ℕ) (c : Cursor) where
+  told-some : (d : Code) (r : Answer) → c .at < length body → c .code ≡ d → Gives body (c .at) (step d (drop (c .at) body)) r → told body r ≡ firstChunk body c
+  told-some d r h e g = g .chunk ∙ rw (← e) (sym (first-some body c h))
+
+  within-some : (d : Code) (r : Answer) → c .at < length body → c .code ≡ d → Gives body (c .at) (step d (drop (c .at) body)) r → Within body c r
+  within-some d Done h e g = let z : _≡_ {A = ℕ} 0 1 = cc (g .chunk) in absurd (omega arith)
+  within-some d (Take p k) h e g =
+      let n = next-is body c p k h (told-some d (Take p k) h e g) in
+      let m = from-moves body c h in
+      let f = ap (λ (x : Cursor). x .at) (n .1) in
+      let l = length-drop (c .at) body in
+      (g .lies, omega arith, omega arith)
+
+  pub answers-some : (d : Code) (r : Answer) → c .at < length body → c .code ≡ d → Gives body (c .at) (step d (drop (c .at) body)) r
+      → Answered body c r
+  answers-some d r h e g = (told-some d r h e g, within-some d r h e g)
+
+  pub answers-none : length body ≤ c .at → Answered body c Done
+  answers-none h = (sym (first-none body c h), h)
+
+-- What a loop over cursors learns of an answer
+
+-- a chunk: those from here on are it and those from the next cursor on, which lies further on
+pub record Took (body : List ℕ) (c : Cursor) (p : Piece) (d : Cursor) : Type 0 where
+  pub chunks : chunksFrom body c ≡ chunkOf body p ∷ chunksFrom body d
+  pub piece : PieceWithin (length body) p
+  pub further : c .at + 1 ≤ d .at
+  pub short : d .at ≤ length body + 1
+
+module _ (body : List ℕ) (c : Cursor) (r : Answer) where
+  pub took : (p : Piece) (d : Cursor) → r ≡ Take p d → Answered body c r → Took body c p d
+  took p d e a =
+      let b : Answered body c (Take p d) = rw e at a in
+      record { chunks = chunks-take body c p d (b .0); piece = b .1 .0; further = b .1 .1; short = b .1 .2 }
+
+  -- none: none is left
+  pub ended : r ≡ Done → Answered body c r → chunksFrom body c ≡ []
+  ended e a = let b : Answered body c Done = rw e at a in chunks-done body c (b .0)
+
+-- A prefix
+module _ (prefix text : List ℕ) where
+  pub stripped-there : startsWith prefix text ≡ true → take (length text - length prefix) (drop (length prefix) text) ≡ stripped prefix text
+  unfolding stripped if_then_else_
+  stripped-there e = rw e (part-over text (length prefix) (length text) (le-refl (length text)))
+
+  pub stripped-not : startsWith prefix text ≡ false → text ≡ stripped prefix text
+  unfolding stripped if_then_else_
+  stripped-not e = rw e
+
+-- A piece
+pub text-raw : (body : List ℕ) (from to width : ℕ) (p : Piece) → p ≡ Raw from to width → take (to - from) (drop from body) ≡ textOf body p
+text-raw body from to width p e = rw e

@@ -1,0 +1,7 @@
+pub mod Before
+pub mod Words
+pub mod Steps
+pub mod Answers
+pub mod Kept
+pub mod Say
+pub mod Samples

@@ -1,0 +1,39 @@
+use mathlib.Core.Path.{sym, _∙_}
+use Prim.Native.Nat.{_-_}
+use native.Mathlib.Omega.{arith}
+use borrow.Author.Needs.{needs}
+use denote.Ref.{now}
+use lib.ListN.{length}
+use Rattle.splitter.proofs.part.Statement.{statement}
+use Rattle.splitter.proofs.part.Tie as tie
+use Rattle.base.proofs.Parts.{part-none, part-past, part-over}
+
+returns : tie.Need-returns
+returns c = sym (part-none (now (c .before .before .args .body)) (c .before .before .args .from) (c .before .before .args .to) (c .before .if1 .taken))
+
+returns-2 : tie.Need-returns-2
+returns-2 c = sym (part-past (now (c .before .before .before .args .body)) (c .before .before .before .args .from) (c .before .before .before .args .to) (c .before .if2 .taken))
+
+returns-3 : tie.Need-returns-3
+returns-3 c = part-over (now (c .before .before .before .before .args .body)) (c .before .before .before .before .args .from) (length (now (c .before .before .before .before .args .body))) (omega arith) ∙ sym (part-over (now (c .before .before .before .before .args .body)) (c .before .before .before .before .args .from) (c .before .before .before .before .args .to) (c .before .if3 .taken))
+
+pub part-spec : {M : Type 1} → statement M
+part-spec =
+    tie.close
+    (tie.spec
+    (λ c. search needs)
+    (λ c. search needs)
+    (λ c. search needs)
+    returns
+    (λ c. search needs)
+    (λ c. search needs)
+    (λ c. search needs)
+    returns-2
+    (λ c. search needs)
+    (λ c. search needs)
+    (λ c. search needs)
+    returns-3
+    (λ c. search needs)
+    (λ c. search needs)
+    (λ c. search needs)
+    (λ c. search needs))

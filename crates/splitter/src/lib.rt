@@ -1,0 +1,236 @@
+// The chunks of a body, one at a time (src/buffer/splitter.rs).
+ghost use mathlib.Core.Path.{_≡_};
+ghost use mathlib.Core.Bool.{true, false};
+ghost use Prim.Native.Nat.{_+_, _-_, _≤_, _<_};
+ghost use lib.ListN.{length, take, drop};
+ghost use Rattle.splitter.specs.Split.{line, step, split, stripped, ticked as tickedLine, afterLineEnd};
+ghost use Rattle.splitter.specs.Answers.{cursor, told, firstChunk, textOf, Within};
+ghost use Rattle.splitter.specs.Parts.{Gives, wordFrom};
+ghost use Rattle.splitter.specs.declared.Code.the-variants as code;
+ghost use Rattle.splitter.specs.declared.Step.the-variants.{Take};
+
+// Where a body stands to ticks: outside them, at their first line, at a later one.
+pub enum Code {
+    No,
+    First,
+    Rest,
+}
+
+// A place in a body, and how the body stands there.
+pub struct Cursor {
+    pub at: usize,
+    pub code: Code,
+}
+
+// A chunk: a part of the body from a place up to another with its width, one space, a paragraph, a line break.
+pub enum Piece {
+    Raw(usize, usize, usize),
+    Space,
+    Paragraph,
+    LineBreak,
+}
+
+// A chunk with the cursor after it, or that there is none.
+pub enum Step {
+    Take(Piece, Cursor),
+    Done,
+}
+
+// Where the line that starts at `at` ends.
+fn line_end(body: &[u8], at: usize) -> usize
+    ensures { λ r. ⌜ r ≡ at + length (line (drop at (now (body .entry)))) ⌝ }
+{
+    let mut i = at;
+    while i < body.len() {
+        if body[i] == b'\n' {
+            return i;
+        }
+        i += 1;
+    }
+    i
+}
+
+// Where a word ends, and how many characters it has.
+struct Word {
+    to: usize,
+    width: usize,
+}
+
+// The word that starts at `at`: one pass finds its end and counts.
+fn word_end(body: &[u8], at: usize) -> Word
+    ensures { λ r. ⌜ r ≡ wordFrom (now (body .entry)) at ⌝ }
+{
+    let mut to = at;
+    let mut width: usize = 0;
+    while to < body.len() {
+        let x = body[to];
+        if x == b' ' {
+            return Word {
+                to: to,
+                width: width,
+            };
+        }
+        if x == b'\n' {
+            return Word {
+                to: to,
+                width: width,
+            };
+        }
+        if x >> 6 != 2 {
+            width += 1;
+        }
+        to += 1;
+    }
+    Word {
+        to: to,
+        width: width,
+    }
+}
+
+// A chunk, and where the next one starts, and how.
+fn found(piece: Piece, at: usize, code: Code) -> Step
+    ensures { λ r. ⌜ r ≡ Take piece (cursor at code) ⌝ }
+{
+    Step::Take(piece, Cursor { at: at, code: code })
+}
+
+// A line in ticks.
+fn ticked(body: &[u8], at: usize, last: bool) -> Step
+    requires { ⌜ at < length (now body) ⌝ }
+    ensures { λ r. ⌜ Gives (now (body .entry)) at (tickedLine last (drop at (now (body .entry)))) r ⌝ }
+{
+    let to = line_end(body, at);
+    if last {
+        if base::starts_with(body, to, b"\n\n") {
+            return found(Piece::Raw(at, to, 1_000_001), to, Code::No);
+        }
+        return found(Piece::Raw(at, to, 1_000_001), to + 1, Code::No);
+    }
+    found(Piece::Raw(at, to, 1_000_001), to + 1, Code::Rest)
+}
+
+// What the line end at `start` begins.
+fn after_line_end(body: &[u8], start: usize) -> Step
+    requires { ⌜ start < length (now body) ⌝ }
+    ensures { λ r. ⌜ Gives (now (body .entry)) start (afterLineEnd (drop (start + 1) (now (body .entry)))) r ⌝ }
+{
+    let at = start + 1;
+    if base::starts_with(body, at, b"    ") {
+        let from = at + 4;
+        let to = line_end(body, from);
+        return found(Piece::Raw(from, to, 1_000_000), to, Code::No);
+    }
+    if base::starts_with(body, at, b"\n```") {
+        return found(Piece::Paragraph, at + 1, Code::First);
+    }
+    if base::starts_with(body, at, b"\n    ") {
+        return found(Piece::Paragraph, at, Code::No);
+    }
+    if base::starts_with(body, at, b"\n") {
+        return found(Piece::Paragraph, at + 1, Code::No);
+    }
+    if base::starts_with(body, at, b" ") {
+        return found(Piece::LineBreak, at + 1, Code::No);
+    }
+    found(Piece::Space, at, Code::No)
+}
+
+// Outside ticks.
+fn plain(body: &[u8], at: usize) -> Step
+    requires { ⌜ at < length (now body) ⌝ }
+    ensures { λ r. ⌜ Gives (now (body .entry)) at (step code.No (drop at (now (body .entry)))) r ⌝ }
+{
+    let b = body[at];
+    if b == b'\n' {
+        return after_line_end(body, at);
+    }
+    if b == b' ' {
+        return found(Piece::Space, at + 1, Code::No);
+    }
+    let w = word_end(body, at);
+    let to = w.to;
+    found(Piece::Raw(at, to, w.width), to, Code::No)
+}
+
+// In ticks, after their first line.
+fn later(body: &[u8], at: usize) -> Step
+    requires { ⌜ at < length (now body) ⌝ }
+    ensures { λ r. ⌜ Gives (now (body .entry)) at (step code.Rest (drop at (now (body .entry)))) r ⌝ }
+{
+    let last = base::starts_with(body, at, b"```");
+    ticked(body, at, last)
+}
+
+// The first chunk from a cursor on, and the cursor after it.
+pub fn step_at(body: &[u8], c: Cursor) -> Step
+    ensures chunk { λ r. ⌜ told (now (body .entry)) r ≡ firstChunk (now (body .entry)) c ⌝ }
+    ensures within { λ r. ⌜ Within (now (body .entry)) c r ⌝ }
+{
+    let at = c.at;
+    if body.len() <= at {
+        return Step::Done;
+    }
+    let code = c.code;
+    match code {
+        Code::No => plain(body, at),
+        Code::First => ticked(body, at, false),
+        Code::Rest => later(body, at),
+    }
+}
+
+// The bytes from a place up to another, as far as there are any.
+fn part<'a>(body: &'a [u8], from: usize, to: usize) -> &'a [u8]
+    ensures { λ r. ⌜ now r ≡ take (to - from) (drop from (now (body .entry))) ⌝ }
+{
+    if to <= from {
+        return &body[0..0];
+    }
+    if body.len() <= from {
+        return &body[0..0];
+    }
+    if body.len() <= to {
+        return &body[from..];
+    }
+    &body[from..to]
+}
+
+// The part of a body that a word or a line is; nothing of the other pieces.
+pub fn text_of<'a>(body: &'a [u8], p: Piece) -> &'a [u8]
+    ensures { λ r. ⌜ now r ≡ textOf (now (body .entry)) p ⌝ }
+{
+    match p {
+        Piece::Raw(from, to, _) => part(body, from, to),
+        Piece::Space => &body[0..0],
+        Piece::Paragraph => &body[0..0],
+        Piece::LineBreak => &body[0..0],
+    }
+}
+
+// The text after a prefix, all of it if the prefix isn't there.
+pub fn strip_prefix<'a>(text: &'a [u8], prefix: &[u8]) -> &'a [u8]
+    ensures { λ r. ⌜ now r ≡ stripped (now (prefix .entry)) (now (text .entry)) ⌝ }
+{
+    if base::starts_with(text, 0, prefix) {
+        let from = prefix.len();
+        return &text[from..];
+    }
+    text
+}
+
+// How many chunks a body has.
+pub fn count_chunks(body: &[u8]) -> usize
+    ensures { λ r. ⌜ r ≡ length (split (now (body .entry))) ⌝ }
+{
+    let mut n: usize = 0;
+    let mut c = Cursor {
+        at: 0,
+        code: Code::No,
+    };
+    loop {
+        let Step::Take(_, next) = step_at(body, c) else {
+            return n;
+        };
+        n += 1;
+        c = next;
+    }
+}

@@ -1,0 +1,390 @@
+// Well-formed UTF-8, its characters and their number, its printing characters, and the White_Space at its end.
+ghost use mathlib.Core.Path.{_≡_};
+ghost use mathlib.Core.List.{[], _∷_};
+ghost use Prim.Native.Nat.{_<_, _≤_, _+_, _-_, _*_, _^_};
+ghost use lib.ListN.{length, take, drop};
+ghost use Rattle.utf8.specs.Utf8.{_to_, utf8, characters, begins, sizeOf, characterAt};
+ghost use Rattle.utf8.specs.White.{white, trim, printingCount};
+ghost use Rattle.utf8.specs.Parts.{leadOf, Ran, Counted, AtMost, whiteBytes, whiteSize};
+
+// Whether a byte from lo to hi stands at `at`.
+fn next1(s: &[u8], at: usize, lo: u8, hi: u8) -> bool
+    ensures { λ r. ⌜ r ≡ begins (lo to hi ∷ []) (drop at (now (s .entry))) ⌝ }
+{
+    if s.len() <= at {
+        return false;
+    }
+    let b = s[at];
+    if b < lo {
+        return false;
+    }
+    b <= hi
+}
+
+// The same, with a byte from 0x80 to 0xBF after it.
+fn next2(s: &[u8], at: usize, lo: u8, hi: u8) -> bool
+    requires { ⌜ at + 1 < 2 ^ 64 ⌝ }
+    ensures { λ r. ⌜ r ≡ begins (lo to hi ∷ 0x80 to 0xBF ∷ []) (drop at (now (s .entry))) ⌝ }
+{
+    if next1(s, at, lo, hi) {
+        return next1(s, at + 1, 0x80, 0xBF);
+    }
+    false
+}
+
+// The same, with two such bytes after it.
+fn next3(s: &[u8], at: usize, lo: u8, hi: u8) -> bool
+    requires { ⌜ at + 2 < 2 ^ 64 ⌝ }
+    ensures { λ r. ⌜ r ≡ begins (lo to hi ∷ 0x80 to 0xBF ∷ 0x80 to 0xBF ∷ []) (drop at (now (s .entry))) ⌝ }
+{
+    if next1(s, at, lo, hi) {
+        return next2(s, at + 1, 0x80, 0xBF);
+    }
+    false
+}
+
+// How many bytes the character at i has, 0 where none stands there.
+fn size(s: &[u8], i: usize) -> usize
+    requires { ⌜ i < length (now s) ⌝ }
+    ensures { λ r. ⌜ r ≡ sizeOf (drop i (now (s .entry))) ⌝ }
+{
+    let a = s[i];
+    let j = i + 1;
+    if a < 0x80 {
+        return 1;
+    }
+    if a < 0xC2 {
+        return 0;
+    }
+    if a < 0xE0 {
+        if next1(s, j, 0x80, 0xBF) {
+            return 2;
+        }
+        return 0;
+    }
+    if a < 0xF0 {
+        let mut lo: u8 = 0x80;
+        let mut hi: u8 = 0xBF;
+        if a == 0xE0 {
+            lo = 0xA0;
+        } else if a == 0xED {
+            hi = 0x9F;
+        }
+        if next2(s, j, lo, hi) {
+            return 3;
+        }
+        return 0;
+    }
+    if a < 0xF5 {
+        let mut lo: u8 = 0x80;
+        let mut hi: u8 = 0xBF;
+        if a == 0xF0 {
+            lo = 0x90;
+        } else if a == 0xF4 {
+            hi = 0x8F;
+        }
+        if next3(s, j, lo, hi) {
+            return 4;
+        }
+    }
+    0
+}
+
+// The largest of the 64 bytes from a.
+fn top(s: &[u8], a: usize) -> u8
+    requires { ⌜ a + 64 ≤ length (now s) ⌝ }
+    ensures { λ r. ⌜ AtMost (now (s .entry)) a 64 r ⌝ }
+{
+    let mut m: u8 = 0;
+    let mut i: usize = 0;
+    while i < 64 {
+        let b = s[a + i];
+        if m < b {
+            m = b;
+        }
+        i += 1;
+    }
+    m
+}
+
+// Goes on from a by characters until e is reached, and returns where it stands, or 0 where no character stands.
+fn chars(s: &[u8], a: usize, e: usize) -> usize
+    requires { ⌜ (a < e) × (e ≤ length (now s)) ⌝ }
+    ensures { λ r. ⌜ Ran (now (s .entry)) a e r ⌝ }
+{
+    let mut i: usize = a;
+    while i < e {
+        if s[i] < 0x80 {
+            i += 1;
+        } else {
+            let k = size(s, i);
+            if k == 0 {
+                return 0;
+            }
+            i += k;
+        }
+    }
+    i
+}
+
+// Whether s is well-formed UTF-8: by blocks of 64 where they are ASCII, else by characters.
+pub fn valid(s: &[u8]) -> bool
+    ensures { λ r. ⌜ r ≡ utf8 (now (s .entry)) ⌝ }
+{
+    let mut i: usize = 0;
+    while i < s.len() {
+        if s.len() - i < 64 {
+            let k = chars(s, i, s.len());
+            if k == 0 {
+                return false;
+            }
+            i = k;
+        } else if top(s, i) < 0x80 {
+            i += 64;
+        } else {
+            let k = chars(s, i, i + 64);
+            if k == 0 {
+                return false;
+            }
+            i = k;
+        }
+    }
+    true
+}
+
+// How many of the bytes from a to e start a character.
+fn some(s: &[u8], a: usize, e: usize) -> u8
+    requires { ⌜ (a ≤ e) × (e ≤ length (now s)) × (e ≤ a + 128) ⌝ }
+    ensures { λ r. ⌜ Counted (now (s .entry)) a e r ⌝ }
+{
+    let mut n: u8 = 0;
+    let mut i: usize = a;
+    while i < e {
+        if s[i] >> 6 != 2 {
+            n += 1;
+        }
+        i += 1;
+    }
+    n
+}
+
+// How many bytes of s start a character, by blocks of 128.
+pub fn count(s: &[u8]) -> usize
+    ensures { λ r. ⌜ r ≡ characters (now (s .entry)) ⌝ }
+{
+    let mut n: usize = 0;
+    let mut i: usize = 0;
+    while i < s.len() {
+        if s.len() - i > 128 {
+            n += some(s, i, i + 128) as usize;
+            i += 128;
+        } else {
+            n += some(s, i, s.len()) as usize;
+            i = s.len();
+        }
+    }
+    n
+}
+
+// Whether these bytes are one White_Space character.
+fn white1(c: u8) -> bool
+    ensures { λ r. ⌜ r ≡ whiteBytes (c ∷ []) ⌝ }
+{
+    if c == 0x20 {
+        return true;
+    }
+    if c < 0x09 {
+        return false;
+    }
+    c <= 0x0D
+}
+
+fn white2(b: u8, c: u8) -> bool
+    ensures { λ r. ⌜ r ≡ whiteBytes (b ∷ c ∷ []) ⌝ }
+{
+    if b == 0xC2 {
+        if c == 0x85 {
+            return true;
+        }
+        return c == 0xA0;
+    }
+    false
+}
+
+fn white_e280(c: u8) -> bool
+    ensures { λ r. ⌜ r ≡ whiteBytes (0xE2 ∷ 0x80 ∷ c ∷ []) ⌝ }
+{
+    if c < 0x80 {
+        return false;
+    }
+    if c <= 0x8A {
+        return true;
+    }
+    if c == 0xA8 {
+        return true;
+    }
+    if c == 0xA9 {
+        return true;
+    }
+    c == 0xAF
+}
+
+fn white3(a: u8, b: u8, c: u8) -> bool
+    ensures { λ r. ⌜ r ≡ whiteBytes (a ∷ b ∷ c ∷ []) ⌝ }
+{
+    if a == 0xE2 {
+        if b == 0x80 {
+            return white_e280(c);
+        }
+        if b == 0x81 {
+            return c == 0x9F;
+        }
+        return false;
+    }
+    if a == 0xE1 {
+        if b == 0x9A {
+            return c == 0x80;
+        }
+        return false;
+    }
+    if a == 0xE3 {
+        if b == 0x80 {
+            return c == 0x80;
+        }
+    }
+    false
+}
+
+// How many bytes the White_Space character that ends at e has, 0 where none does.
+fn white_size(s: &[u8], e: usize) -> usize
+    requires { ⌜ e ≤ length (now s) ⌝ }
+    ensures { λ r. ⌜ r ≡ whiteSize (take e (now (s .entry))) ⌝ }
+{
+    if e < 1 {
+        return 0;
+    }
+    let c = s[e - 1];
+    if white1(c) {
+        return 1;
+    }
+    if e < 2 {
+        return 0;
+    }
+    let b = s[e - 2];
+    if white2(b, c) {
+        return 2;
+    }
+    if e < 3 {
+        return 0;
+    }
+    if white3(s[e - 3], b, c) {
+        return 3;
+    }
+    0
+}
+
+// How many bytes of s are left without the White_Space at its end.
+pub fn trim_end(s: &[u8]) -> usize
+    ensures { λ r. ⌜ r ≡ length (trim (now (s .entry))) ⌝ }
+{
+    let mut e = s.len();
+    while 0 < e {
+        let k = white_size(s, e);
+        if k == 0 {
+            return e;
+        }
+        e -= k;
+    }
+    0
+}
+
+// Whether c has the property White_Space.
+pub fn is_white(c: u32) -> bool
+    ensures { λ r. ⌜ r ≡ white c ⌝ }
+{
+    match c {
+        0x09..=0x0D | 0x20 | 0x85 | 0xA0 | 0x1680 | 0x2000..=0x200A => true,
+        0x2028 | 0x2029 | 0x202F | 0x205F | 0x3000 => true,
+        _ => false,
+    }
+}
+
+// What stands at a place: a character with the place after it, or none.
+pub enum Decoded {
+    Char(u32, usize),
+    Nothing,
+}
+
+fn wide(b: u8) -> u32
+    ensures { λ r. ⌜ r ≡ b ⌝ }
+{
+    b as u32
+}
+
+// Of the first bytes that announce as many bytes as a, the one whose payload is 0 (table 3-6).
+fn lead(a: u8) -> u8
+    ensures { λ r. ⌜ r ≡ leadOf a ⌝ }
+{
+    if a < 0x80 {
+        return 0;
+    }
+    if a < 0xE0 {
+        return 0xC0;
+    }
+    if a < 0xF0 {
+        return 0xE0;
+    }
+    0xF0
+}
+
+// A code point so far, with the payload of a byte more.
+fn with(c: u32, b: u8) -> u32
+    requires { ⌜ (c < 2 ^ 21) × (0x80 ≤ b) ⌝ }
+    ensures { λ r. ⌜ r ≡ c * 64 + (b - 0x80) ⌝ }
+{
+    c * 64 + (wide(b) - 0x80)
+}
+
+// The character whose bytes stand at `at`.
+pub fn decode(s: &[u8], at: usize) -> Decoded
+    ensures { λ r. ⌜ r ≡ characterAt (now (s .entry)) at ⌝ }
+{
+    if s.len() <= at {
+        return Decoded::Nothing;
+    }
+    let a = s[at];
+    if a < 0x80 {
+        return Decoded::Char(wide(a), at + 1);
+    }
+    let k = size(s, at);
+    if k == 0 {
+        return Decoded::Nothing;
+    }
+    let c = with(wide(a - lead(a)), s[at + 1]);
+    if k == 2 {
+        return Decoded::Char(c, at + 2);
+    }
+    let d = with(c, s[at + 2]);
+    if k == 3 {
+        return Decoded::Char(d, at + 3);
+    }
+    Decoded::Char(with(d, s[at + 3]), at + 4)
+}
+
+// How many characters of s are printing ones, 0 where s is not UTF-8.
+pub fn count_printing(s: &[u8]) -> usize
+    ensures { λ r. ⌜ r ≡ printingCount (now (s .entry)) ⌝ }
+{
+    let mut n: usize = 0;
+    let mut i: usize = 0;
+    while i < s.len() {
+        let Decoded::Char(c, next) = decode(s, i) else {
+            return 0;
+        };
+        if !is_white(c) {
+            n += 1;
+        }
+        i = next;
+    }
+    n
+}

@@ -1,0 +1,4 @@
+pub mod Counter
+pub mod Shown
+pub mod Leads
+pub mod Keeps

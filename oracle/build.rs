@@ -1,0 +1,15 @@
+//! Links the port's static library, only where a `linked-*` feature asks for it.
+
+use std::env;
+
+fn main() {
+    println!("cargo:rerun-if-changed=build.rs");
+    println!("cargo:rerun-if-env-changed=SEFGRUNN_LIB_DIR");
+    if env::vars_os().any(|(name, _)| name.to_string_lossy().starts_with("CARGO_FEATURE_LINKED")) {
+        let dir = env::var("SEFGRUNN_LIB_DIR")
+            .expect("SEFGRUNN_LIB_DIR must name the directory of libsefgrunn.a");
+        println!("cargo:rustc-link-search=native={dir}");
+        println!("cargo:rustc-link-lib=static=sefgrunn");
+        println!("cargo:rerun-if-changed={dir}/libsefgrunn.a");
+    }
+}

@@ -1,0 +1,224 @@
+//! One type for a call of any public function and one for its answer, with the list form that
+//! `oracle record` writes.
+
+use crate::rules::{self, Chunk, Operation, Refusal, Renderer};
+
+#[derive(Debug, Clone, Copy, Eq, PartialEq)]
+pub enum Call {
+    Check,
+    Render(Renderer),
+    Build(Operation),
+    Split,
+}
+
+/// A call with all that it reads and all that its room holds before it.
+#[derive(Debug, Clone, Eq, PartialEq)]
+pub struct Case {
+    pub call: Call,
+    /// the document; for the builder the text written or the document added; the body to split
+    pub document: Vec<u8>,
+    /// the room before the call: a pattern without zeros, or the builder's document so far and then
+    /// such a pattern
+    pub room: Vec<u8>,
+    /// the builder's length so far
+    pub length: u64,
+}
+
+#[derive(Debug, Clone, Eq, PartialEq)]
+pub struct Answer {
+    /// 0 where the call is accepted, else the refusal's number
+    pub number: u32,
+    /// the refusal's place, or the length of an accepted text; 0 for other accepted calls
+    pub at: u64,
+    /// every byte of the room after the call
+    pub room: Vec<u8>,
+    /// the builder's length after the call
+    pub length: u64,
+    /// the chunks of a body
+    pub chunks: Vec<Chunk>,
+}
+
+/// What a room holds before a call, from `start` on: no byte is 0.
+pub fn pattern(start: usize, end: usize) -> impl Iterator<Item = u8> {
+    (start..end).map(|i| (i * 31 % 255) as u8 + 1)
+}
+
+/// The answer by `rules`.
+pub fn answer(case: &Case) -> Answer {
+    let mut answer = Answer {
+        number: 0,
+        at: 0,
+        room: case.room.clone(),
+        length: case.length,
+        chunks: Vec::new(),
+    };
+    let outcome: Result<u64, Refusal> = match case.call {
+        Call::Check => rules::check(&case.document).map(|_| 0),
+        Call::Render(renderer) => {
+            let run = rules::render(renderer, &case.document, case.room.len());
+            // 01: 0 beyond what was written, all 0 after a refusal
+            answer.room.fill(0);
+            run.outcome.map(|text| {
+                answer.room[..text.len()].copy_from_slice(&text);
+                text.len() as u64
+            })
+        }
+        Call::Build(operation) => rules::build(operation, &case.room, case.length, &case.document)
+            .map(|result| {
+                answer.room[..result.len()].copy_from_slice(&result);
+                answer.length = result.len() as u64;
+                0
+            }),
+        Call::Split => {
+            answer.chunks = rules::split(&case.document);
+            Ok(answer.chunks.len() as u64)
+        }
+    };
+    match outcome {
+        Ok(at) => answer.at = at,
+        Err(Refusal { number, place }) => (answer.number, answer.at) = (number, place as u64),
+    }
+    answer
+}
+
+/// The number of a call in a list, its setting (width, style or block), and its two flags.
+fn header(call: Call) -> (u8, u64, bool, bool) {
+    match call {
+        Call::Check => (0, 0, false, false),
+        Call::Render(Renderer::Console { width, full }) => (1, width, full, false),
+        Call::Render(Renderer::Html { full, css, strict: false }) => (2, 0, full, css),
+        Call::Render(Renderer::Html { full, css, strict: true }) => (3, 0, full, css),
+        Call::Render(Renderer::Markdown { full }) => (4, 0, full, false),
+        Call::Render(Renderer::Roff) => (5, 0, false, false),
+        Call::Build(Operation::Write { style }) => (6, style.into(), false, false),
+        Call::Build(Operation::Open { block }) => (7, block.into(), false, false),
+        Call::Build(Operation::Close { block }) => (8, block.into(), false, false),
+        Call::Build(Operation::Doc) => (9, 0, false, false),
+        Call::Build(Operation::EmDoc) => (10, 0, false, false),
+        Call::Split => (11, 0, false, false),
+    }
+}
+
+/// The start that a list gives to the one space of a line end, which is no part of its body.
+const NO_START: u32 = 0xFFFF_FFFF;
+
+fn put(out: &mut Vec<u8>, number: u64) {
+    let number = u32::try_from(number).expect("a recorded number fits in 32 bits");
+    out.extend_from_slice(&number.to_le_bytes());
+}
+
+/// Appends a case and its answer to a list. All numbers are little-endian.
+///
+/// ```text
+/// u32  bytes of this case after this field
+/// u8   call: 0 check, 1 console, 2 html, 3 html_strict, 4 markdown, 5 roff,
+///      6 write, 7 open, 8 close, 9 doc, 10 em_doc, 11 split
+/// u32  width (console), style (write) or block (open, close); else 0
+/// u8   full (console, html, html_strict, markdown); else 0
+/// u8   css (html, html_strict); else 0
+/// u32  room length R
+/// u32  document length D
+/// D    the document; write: the text; doc, em_doc: the document added; split: the body
+/// 6 to 10 only:
+///   u32  length so far
+///   R    the room before the call
+/// the answer:
+/// u32  number: 0 accepted, else the refusal
+/// u32  place of a refusal; accepted: length of the text (1 to 5), count of chunks (11), else 0
+/// accepted 1 to 5: the text; the room's other bytes are 0
+/// refused 1 to 5:  nothing; every byte of the room is 0
+/// accepted 6 to 10: u32 new length, then R: the whole room after the call
+/// refused 6 to 10:  nothing; length and room are as before
+/// 11, for each chunk:
+///   u8   0 raw, 1 paragraph, 2 line break
+///   u32  start in the body; 0xFFFFFFFF for the one space that a line end gives; 0 for tags 1, 2
+///   u32  length in bytes; 0 for tags 1 and 2
+///   u32  width; 0 for tags 1 and 2
+/// ```
+pub fn list(case: &Case, answer: &Answer, out: &mut Vec<u8>) {
+    let start = out.len();
+    put(out, 0);
+    let (call, setting, full, css) = header(case.call);
+    out.push(call);
+    put(out, setting);
+    out.extend_from_slice(&[full.into(), css.into()]);
+    put(out, case.room.len() as u64);
+    put(out, case.document.len() as u64);
+    out.extend_from_slice(&case.document);
+    let builds = matches!(case.call, Call::Build(_));
+    if builds {
+        put(out, case.length);
+        out.extend_from_slice(&case.room);
+    }
+    put(out, answer.number.into());
+    put(out, answer.at);
+    if answer.number == 0 && builds {
+        put(out, answer.length);
+        out.extend_from_slice(&answer.room);
+    } else if answer.number == 0 && matches!(case.call, Call::Render(_)) {
+        out.extend_from_slice(&answer.room[..answer.at as usize]);
+    }
+    for chunk in &answer.chunks {
+        let (tag, start, len, width) = match *chunk {
+            Chunk::Raw { start, len, width } => {
+                (0, start.map_or(NO_START as u64, |s| s as u64), len, width)
+            }
+            Chunk::Paragraph => (1, 0, 0, 0),
+            Chunk::LineBreak => (2, 0, 0, 0),
+        };
+        out.push(tag);
+        [start, len as u64, width as u64].into_iter().for_each(|n| put(out, n));
+    }
+    let size = u32::try_from(out.len() - start - 4).expect("a case is short");
+    out[start..start + 4].copy_from_slice(&size.to_le_bytes());
+}
+
+#[cfg(test)]
+mod tests {
+    use super::*;
+
+    /// The list form of three cases, byte for byte.
+    #[test]
+    fn list_form() {
+        let form = |case: Case| {
+            let mut out = Vec::new();
+            list(&case, &answer(&case), &mut out);
+            out
+        };
+        let document = vec![3, 0, 0, 0, 1, 0, b'a', b' ', b'b'];
+        let case = Case {
+            call: Call::Render(Renderer::Console { width: 2, full: true }),
+            document: document.clone(),
+            room: pattern(0, 4).collect(),
+            length: 0,
+        };
+        let mut expected = vec![39, 0, 0, 0, 1, 2, 0, 0, 0, 1, 0, 4, 0, 0, 0, 9, 0, 0, 0];
+        expected.extend(&document);
+        expected.extend([0, 0, 0, 0, 3, 0, 0, 0, b'a', b'\n', b'b']);
+        expected[0] = (expected.len() - 4) as u8;
+        assert_eq!(form(case), expected);
+
+        let case = Case {
+            call: Call::Build(Operation::Close { block: 11 }),
+            document: vec![],
+            room: vec![0, 0, 0, 0, 11, 1, 9, 9, 9, 9, 9, 9, 9],
+            length: 6,
+        };
+        let mut expected = vec![0, 0, 0, 0, 8, 11, 0, 0, 0, 0, 0, 13, 0, 0, 0, 0, 0, 0, 0];
+        expected.extend([6, 0, 0, 0, 0, 0, 0, 0, 11, 1, 9, 9, 9, 9, 9, 9, 9]);
+        expected.extend([0, 0, 0, 0, 0, 0, 0, 0, 12, 0, 0, 0]);
+        expected.extend([0, 0, 0, 0, 11, 1, 0, 0, 0, 0, 11, 2, 9]);
+        expected[0] = (expected.len() - 4) as u8;
+        assert_eq!(form(case), expected);
+
+        let case = Case { call: Call::Split, document: b"a\nb".to_vec(), room: vec![], length: 0 };
+        let mut expected = vec![0, 0, 0, 0, 11, 0, 0, 0, 0, 0, 0, 0, 0, 0, 0, 3, 0, 0, 0];
+        expected.extend(b"a\nb");
+        expected.extend([0, 0, 0, 0, 3, 0, 0, 0]);
+        expected.extend([0, 0, 0, 0, 0, 1, 0, 0, 0, 1, 0, 0, 0]);
+        expected.extend([0, 255, 255, 255, 255, 1, 0, 0, 0, 1, 0, 0, 0]);
+        expected.extend([0, 2, 0, 0, 0, 1, 0, 0, 0, 1, 0, 0, 0]);
+        expected[0] = (expected.len() - 4) as u8;
+        assert_eq!(form(case), expected);
+    }
+}

@@ -1,0 +1,840 @@
+//! Seeded cases: documents valid, damaged and random, settings, rooms near what a text needs, and
+//! builder calls. A case is a function of subject, seed, index and limits alone.
+
+use crate::cases::{answer, pattern, Call, Case};
+use crate::rules::{self, Misreading, Operation, Renderer};
+use crate::stored::{put_record, MOST_BYTES, MOST_OPEN};
+
+/// What a case is about.
+#[derive(Debug, Clone, Copy, Eq, PartialEq)]
+pub enum Subject {
+    Check,
+    Console,
+    Html,
+    HtmlStrict,
+    Markdown,
+    Roff,
+    Builder,
+    Split,
+}
+
+impl Subject {
+    pub const ALL: [(Subject, &'static str); 8] = [
+        (Subject::Check, "check"),
+        (Subject::Console, "console"),
+        (Subject::Html, "html"),
+        (Subject::HtmlStrict, "html_strict"),
+        (Subject::Markdown, "markdown"),
+        (Subject::Roff, "roff"),
+        (Subject::Builder, "builder"),
+        (Subject::Split, "split"),
+    ];
+
+    pub fn named(name: &str) -> Option<Subject> {
+        Self::ALL.iter().find(|(_, n)| *n == name).map(|(subject, _)| *subject)
+    }
+}
+
+/// Bounds on what is generated.
+#[derive(Debug, Clone, Copy)]
+pub struct Limits {
+    /// most bytes of a document; those about the limit of 32,768 come only where this admits them
+    pub bytes: usize,
+    /// only what a list can hold and a caller can say without the C interface: numbers of 32 bits,
+    /// styles and blocks that exist
+    pub recorded: bool,
+}
+
+impl Limits {
+    pub const COMPARED: Limits = Limits { bytes: 40_000, recorded: false };
+    pub const RECORDED: Limits = Limits { bytes: 720, recorded: true };
+
+    /// The most bytes of one document: few are long, fewer in lists.
+    fn one(self, rng: &mut Rng) -> usize {
+        let sizes =
+            if self.recorded { [30, 60, 60, 90, 120, 400] } else { [60, 60, 150, 150, 400, 1_500] };
+        rng.pick(&sizes).min(self.bytes)
+    }
+}
+
+/// splitmix64.
+#[derive(Debug, Clone)]
+pub struct Rng(u64);
+
+impl Rng {
+    pub fn new(seed: u64, index: u64) -> Self {
+        let mut rng = Rng(seed);
+        rng.0 = rng.next() ^ index.wrapping_mul(0xD134_2543_DE82_EF95);
+        rng.next();
+        rng
+    }
+
+    fn next(&mut self) -> u64 {
+        self.0 = self.0.wrapping_add(0x9E37_79B9_7F4A_7C15);
+        let mut z = self.0;
+        z = (z ^ (z >> 30)).wrapping_mul(0xBF58_476D_1CE4_E5B9);
+        z = (z ^ (z >> 27)).wrapping_mul(0x94D0_49BB_1331_11EB);
+        z ^ (z >> 31)
+    }
+
+    /// 0 to `n - 1`
+    fn below(&mut self, n: usize) -> usize {
+        (self.next() % n as u64) as usize
+    }
+
+    /// `low` to `high`
+    fn within(&mut self, low: usize, high: usize) -> usize {
+        low + self.below(high - low + 1)
+    }
+
+    /// true once in `n`
+    fn once_in(&mut self, n: usize) -> bool {
+        self.below(n) == 0
+    }
+
+    fn pick<T: Copy>(&mut self, from: &[T]) -> T {
+        from[self.below(from.len())]
+    }
+}
+
+// ---------------------------------------------------------------------------------------------
+// Bodies
+
+const WORDS: &[&str] = &[
+    "a",
+    "b",
+    "x",
+    "y",
+    "of",
+    "port",
+    "word",
+    "-p",
+    "--listen",
+    "0",
+    "UPPER",
+    "longer-word-to-fold",
+    "end.",
+];
+const WIDE: &[&str] =
+    &["é", "ß", "漢字", "ア", "😀", "e\u{301}", "ﬁ", "\u{200B}", "\u{FEFF}", "\u{10FFFF}"];
+const MARKS: &[&str] = &[
+    "<", ">", "&", "&amp;", "&lt;", "&gt;", "&am", "amp;", "lt;", "gt;", "&&lt;", "'", "\\", "-",
+    ".", "[", "]", "*", "_", "`", "``", "```", "#", "\"", "\\fB", "\\&", "\0",
+];
+const BREAKS: &[&str] = &[
+    "\n",
+    "\n",
+    "\n\n",
+    "\n\n",
+    "\n\n\n",
+    "\n ",
+    "\n  ",
+    "\n    ",
+    "\n\n    ",
+    "\n\n     ",
+    "\n\n```",
+    "\n\n```\n",
+    "\n```",
+    "\n```\n",
+    "\n```\n\n",
+    "\n```\n\n\n",
+    "\n.",
+    "\n'",
+    "    ",
+    " \n",
+    "\n\n ",
+];
+/// White_Space without space and line feed.
+const BLANKS: &[&str] = &[
+    "\t", "\u{B}", "\u{C}", "\r", "\u{85}", "\u{A0}", "\u{1680}", "\u{2000}", "\u{2001}",
+    "\u{2002}", "\u{2003}", "\u{2004}", "\u{2005}", "\u{2006}", "\u{2007}", "\u{2008}", "\u{2009}",
+    "\u{200A}", "\u{2028}", "\u{2029}", "\u{202F}", "\u{205F}", "\u{3000}",
+];
+
+fn body(rng: &mut Rng, ascii: bool) -> String {
+    let mut out = String::new();
+    let pieces = if rng.once_in(8) { 0 } else { rng.within(1, 9) };
+    for _ in 0..pieces {
+        let group = match rng.below(20) {
+            0..=6 => WORDS,
+            7..=11 => &[" "][..],
+            12..=14 => BREAKS,
+            15..=16 => MARKS,
+            17 => BLANKS,
+            _ => WIDE,
+        };
+        let piece = rng.pick(group);
+        if !ascii || piece.is_ascii() {
+            out.push_str(piece);
+        }
+    }
+    out
+}
+
+/// A term of 0 to 30 characters, often about the 24 that the tabstop admits.
+fn term(rng: &mut Rng, ascii: bool) -> String {
+    let count = if rng.once_in(3) { rng.within(22, 27) } else { rng.below(31) };
+    let letter = if ascii { "t" } else { rng.pick(&["t", "t", "é", "漢"]) };
+    letter.repeat(count)
+}
+
+// ---------------------------------------------------------------------------------------------
+// Documents
+
+const ITEM_TERM: usize = 4;
+const ITEM_BODY: usize = 5;
+const LIST: usize = 6;
+const BLOCK: usize = 7;
+const INLINE: usize = 8;
+const TERM_REF: usize = 9;
+const META: usize = 10;
+
+/// What a valid document may hold.
+#[derive(Debug, Clone, Copy)]
+struct Palette {
+    ascii: bool,
+    term_refs: bool,
+    metas: bool,
+}
+
+impl Palette {
+    /// Renderers refuse some blocks and some text: mostly without these, so that walks get far.
+    fn of(subject: Subject, rng: &mut Rng) -> Self {
+        match subject {
+            Subject::Roff => {
+                Palette { ascii: !rng.once_in(3), term_refs: rng.once_in(8), metas: rng.once_in(2) }
+            }
+            Subject::Html | Subject::HtmlStrict | Subject::Markdown => {
+                Palette { ascii: rng.once_in(3), term_refs: true, metas: rng.once_in(4) }
+            }
+            _ => Palette { ascii: rng.once_in(3), term_refs: true, metas: true },
+        }
+    }
+}
+
+/// A valid document under construction, its open blocks, and the most bytes it may have when closed.
+struct Maker<'r> {
+    rng: &'r mut Rng,
+    palette: Palette,
+    bytes: Vec<u8>,
+    open: Vec<usize>,
+    most: usize,
+}
+
+impl Maker<'_> {
+    fn fits(&self, bytes: usize) -> bool {
+        self.bytes.len() + bytes + 6 * self.open.len() <= self.most
+    }
+
+    fn text(&mut self, body: &str) {
+        if self.fits(6 + body.len()) {
+            let style = if self.rng.once_in(2) { 1 } else { self.rng.within(1, 5) };
+            put_record(&mut self.bytes, style as u16, body.as_bytes());
+        }
+    }
+
+    fn some_text(&mut self) {
+        let body = body(self.rng, self.palette.ascii);
+        self.text(&body);
+    }
+
+    /// Whether a block may be opened, and is then open.
+    fn start(&mut self, block: usize) -> bool {
+        let shut_out =
+            block == META && !self.palette.metas || block == TERM_REF && !self.palette.term_refs;
+        let starts = !shut_out && self.open.len() < MOST_OPEN && self.fits(12);
+        if starts {
+            put_record(&mut self.bytes, 0x0100 + block as u16, b"");
+            self.open.push(block);
+        }
+        starts
+    }
+
+    fn end(&mut self) {
+        if let Some(block) = self.open.pop() {
+            put_record(&mut self.bytes, 0x0200 + block as u16, b"");
+        }
+    }
+
+    fn around(&mut self, block: usize, inner: impl FnOnce(&mut Self)) {
+        let depth = self.open.len();
+        if self.start(block) {
+            inner(self);
+            while self.open.len() > depth {
+                self.end();
+            }
+        }
+    }
+
+    fn act(&mut self) {
+        match self.rng.below(26) {
+            0..=5 => self.some_text(),
+            // bodies that would split or escape otherwise if they were joined
+            6 => {
+                let pairs = [
+                    ("\n", "\n"),
+                    ("a\n", "\nb"),
+                    ("&", "amp;"),
+                    ("\n", "    a"),
+                    ("\n\n``", "`"),
+                    ("é", " é"),
+                ];
+                let (first, second) = self.rng.pick(&pairs);
+                self.text(first);
+                self.text(second);
+            }
+            7..=9 => {
+                let block = self.rng.below(12);
+                self.start(block);
+            }
+            10..=12 => self.end(),
+            13..=14 => {
+                let in_list = !self.rng.once_in(3);
+                if in_list {
+                    self.start(LIST);
+                }
+                for _ in 0..self.rng.within(1, 2) {
+                    let term = term(self.rng, self.palette.ascii);
+                    let empty = self.rng.once_in(5);
+                    self.around(ITEM_TERM, |m| {
+                        if !empty {
+                            m.text(&term)
+                        }
+                    });
+                    self.around(ITEM_BODY, Self::some_text);
+                }
+                if in_list && !self.rng.once_in(4) {
+                    self.end();
+                }
+            }
+            // Section4, mostly with the adjacent gap
+            15 => {
+                let (nested, gap) = (self.rng.once_in(4), !self.rng.once_in(3));
+                self.around(3, |m| {
+                    m.some_text();
+                    if nested {
+                        m.around(3, Self::some_text);
+                        m.around(BLOCK, |_| {});
+                    }
+                });
+                self.around(BLOCK, |m| {
+                    if !gap {
+                        m.some_text()
+                    }
+                });
+                self.some_text();
+            }
+            // margins far to the right
+            16 => {
+                let block = self.rng.pick(&[ITEM_BODY, ITEM_BODY, 2, 3, ITEM_TERM]);
+                for _ in 0..self.rng.within(4, 27) {
+                    let other = self.rng.pick(&[2, ITEM_BODY]);
+                    let mixed = self.rng.once_in(6);
+                    self.start(if mixed { other } else { block });
+                }
+                self.some_text();
+            }
+            17 => self.around(TERM_REF, Self::some_text),
+            // a paragraph in a bracket: with `full` off what follows is skipped up to its end
+            18..=19 => {
+                let inner = self.rng.once_in(3);
+                self.around(INLINE, |m| {
+                    m.text("a\n\nb");
+                    m.around(TERM_REF, Self::some_text);
+                    if inner {
+                        m.around(INLINE, Self::some_text);
+                        m.some_text();
+                    }
+                });
+                self.some_text();
+            }
+            // headings, also within headings
+            20 => {
+                let (outer, inner) = (self.rng.below(4), self.rng.below(4));
+                let nested = self.rng.once_in(3);
+                self.around(outer, |m| {
+                    m.some_text();
+                    if nested {
+                        m.around(inner, Self::some_text);
+                        m.some_text();
+                    }
+                });
+            }
+            // about column 28, from which a body keeps two columns before it; maybe an empty body
+            21 => {
+                let line = "u".repeat(self.rng.within(24, 31));
+                let (before, empty) = (self.rng.pick(&["\n ", "\n\n"]), self.rng.once_in(3));
+                self.text(before);
+                self.text(&line);
+                self.around(ITEM_BODY, |m| {
+                    if !empty {
+                        m.some_text();
+                    }
+                });
+                self.some_text();
+            }
+            // an empty code line leaves the column far out at the start of a line
+            22 => {
+                let line = self.rng.pick(&["a\n \n    ", "\n    ", "a\n\n    ", "a\n \n    \n"]);
+                let block = self.rng.pick(&[BLOCK, BLOCK, 1, ITEM_TERM]);
+                let after = self.rng.pick(&["b", " b", "\nb c", " "]);
+                self.text(line);
+                self.around(block, |_| {});
+                self.text(after);
+            }
+            // terms and bodies in a term, line ends in it, and what follows each
+            23 => {
+                let inner = self.rng.pick(&[ITEM_TERM, ITEM_TERM, ITEM_BODY]);
+                let after = self.rng.pick(&["a\n.b", "x\n'y", "tttt", "\n"]);
+                self.around(ITEM_TERM, |m| {
+                    m.text("tt\n.t");
+                    m.around(inner, Self::some_text);
+                    m.text(after);
+                });
+                self.around(ITEM_BODY, Self::some_text);
+            }
+            24 => {
+                self.around(11, |m| m.text("[x]"));
+                self.text("[y]");
+            }
+            // an empty block
+            _ => {
+                let block = self.rng.below(12);
+                self.around(block, |_| {});
+            }
+        }
+    }
+}
+
+/// A valid document of at most `most` bytes; its blocks are all closed, or some may be open.
+fn valid(rng: &mut Rng, palette: Palette, most: usize, may_stay_open: bool) -> Vec<u8> {
+    let most = if rng.once_in(2) { most } else { rng.below(most + 1) };
+    let steps = rng.within(1, 24);
+    let stays_open = may_stay_open && rng.once_in(2);
+    let mut maker = Maker { rng, palette, bytes: Vec::new(), open: Vec::new(), most };
+    for _ in 0..steps {
+        maker.act();
+    }
+    while !stays_open && !maker.open.is_empty() {
+        maker.end();
+    }
+    maker.bytes
+}
+
+/// A document of exactly `size` bytes, `size` at least 200.
+fn sized(rng: &mut Rng, palette: Palette, size: usize) -> Vec<u8> {
+    let mut bytes = valid(rng, palette, 190, false);
+    let filler = rng.pick(&["ab cd\nef ", "word ", "x", "a\n\n    b\n", " ", "<&>'-.\n"]);
+    let body: String = filler.chars().cycle().take(size - bytes.len() - 6).collect();
+    put_record(&mut bytes, 1, body.as_bytes());
+    bytes
+}
+
+/// 31, 32 or 33 blocks open at once around a text, closed or not.
+fn deep(rng: &mut Rng, palette: Palette) -> Vec<u8> {
+    let one = rng.pick(&[11, 11, 8, 2, 5, 0, 7, 6]);
+    let blocks: Vec<usize> =
+        (0..rng.within(31, 33)).map(|_| if rng.once_in(6) { rng.below(9) } else { one }).collect();
+    let mut bytes = Vec::new();
+    for &block in &blocks {
+        put_record(&mut bytes, 0x0100 + block as u16, b"");
+    }
+    let text = body(rng, palette.ascii);
+    put_record(&mut bytes, 1, text.as_bytes());
+    for &block in blocks.iter().rev().skip(if rng.once_in(5) { 1 } else { 0 }) {
+        put_record(&mut bytes, 0x0200 + block as u16, b"");
+    }
+    bytes
+}
+
+const DEEP_BYTES: usize = 33 * 12 + 6 + 300;
+
+/// A document about a limit of 01, where `most` bytes admit one.
+fn boundary(rng: &mut Rng, palette: Palette, most: usize) -> Option<Vec<u8>> {
+    if most > MOST_BYTES && rng.once_in(6) {
+        let size = rng.within(MOST_BYTES - 1, MOST_BYTES + 1);
+        return Some(if rng.once_in(8) { vec![0; size] } else { sized(rng, palette, size) });
+    }
+    (most >= DEEP_BYTES).then(|| deep(rng, palette))
+}
+
+/// Sequences that are not UTF-8, or become so only beside other bytes.
+const NOT_UTF8: &[&[u8]] = &[
+    b"\x80",
+    b"\xBF",
+    b"\xC3",
+    b"\xC0\x80",
+    b"\xE0\x80\x80",
+    b"\xED\xA0\x80",
+    b"\xF4\x90\x80\x80",
+    b"\xF0\x9F\x98",
+    b"\xFF",
+    b"\xE6\xBC",
+    b"\xC1\xBF",
+    b"\xF5\x80\x80\x80",
+];
+
+/// One change: a byte, a byte put in or taken out, the end cut off, a record's fields, a sequence
+/// that is not UTF-8, a record taken out or put in.
+fn damage(rng: &mut Rng, bytes: &mut Vec<u8>) {
+    if bytes.is_empty() {
+        bytes.push(rng.next() as u8);
+        return;
+    }
+    let places: Vec<(usize, usize)> = match rules::check(bytes) {
+        Ok(records) => records.iter().map(|r| (r.place, r.body.len())).collect(),
+        Err(_) => vec![(0, 0)],
+    };
+    let at = rng.below(bytes.len());
+    let (record, size) = if places.is_empty() { (0, 0) } else { rng.pick(&places) };
+    let record_end = bytes.len().min(record + 6 + size);
+    match rng.below(18) {
+        0 => bytes[at] ^= 1 << rng.below(8),
+        1 => bytes[at] = rng.next() as u8,
+        2 => bytes.insert(at, rng.pick(&[0, 1, 2, 0x61, 0xC3])),
+        3 => drop(bytes.remove(at)),
+        4 => bytes.truncate(at),
+        5..=6 if record + 6 <= bytes.len() => {
+            let kinds = [
+                0x0000, 0x0006, 0x0100, 0x010B, 0x010C, 0x0200, 0x020B, 0x020C, 0x0300, 0x0001,
+                0xFFFF,
+            ];
+            let kind: u16 = rng.pick(&kinds);
+            bytes[record + 4..record + 6].copy_from_slice(&kind.to_le_bytes());
+        }
+        7 if record + 6 <= bytes.len() => {
+            let left = (bytes.len() - record - 6) as u32;
+            let size = rng.pick(&[0, 1, left, left.wrapping_add(1), u32::MAX, 0x0100_0000]);
+            bytes[record..record + 4].copy_from_slice(&size.to_le_bytes());
+        }
+        8..=10 if size > 0 && record_end <= bytes.len() => {
+            let bad = rng.pick(NOT_UTF8);
+            let from = record + 6 + rng.below(size);
+            bad.iter().zip(&mut bytes[from..record_end]).for_each(|(b, to)| *to = *b);
+        }
+        11 => bytes.truncate(record),
+        12..=13 => drop(bytes.drain(record..record_end)),
+        14..=16 => {
+            let mut new = Vec::new();
+            let kind = rng.pick(&[0x0100, 0x0200]) + rng.below(12) as u16;
+            put_record(&mut new, kind, if rng.once_in(3) { b"x" } else { b"" });
+            bytes.splice(record..record, new);
+        }
+        _ => bytes.extend_from_slice(rng.pick(NOT_UTF8)),
+    }
+}
+
+/// Any document: mostly valid, also damaged, random and about limits.
+fn document(rng: &mut Rng, subject: Subject, limits: Limits, faulty_once_in: usize) -> Vec<u8> {
+    let palette = Palette::of(subject, rng);
+    if rng.once_in(40) {
+        if let Some(bytes) = boundary(rng, palette, limits.bytes) {
+            return bytes;
+        }
+    }
+    if !rng.once_in(faulty_once_in) {
+        let most = limits.one(rng);
+        return valid(rng, palette, most, false);
+    }
+    if rng.once_in(6) {
+        let common = [0, 0, 0, 0, 0, 1, 1, 2, 3, 5, 6, 9, 11, 12, 0x61, 0xC3, 0xA9, 0x80];
+        return (0..rng.below(40))
+            .map(|_| if rng.once_in(9) { rng.next() as u8 } else { rng.pick(&common) })
+            .collect();
+    }
+    let most = limits.one(rng).saturating_sub(12);
+    let mut bytes = valid(rng, palette, most, true);
+    for _ in 0..rng.pick(&[1, 1, 1, 2, 3]) {
+        damage(rng, &mut bytes);
+    }
+    bytes
+}
+
+// ---------------------------------------------------------------------------------------------
+// Cases
+
+fn width(rng: &mut Rng, limits: Limits) -> u64 {
+    match rng.below(20) {
+        0..=5 => rng.below(13) as u64,
+        6..=9 => rng.within(13, 40) as u64,
+        10..=15 => rng.below(111) as u64,
+        16..=17 => 100,
+        18 => rng.pick(&[9_999, 10_000]),
+        _ if limits.recorded => rng.pick(&[10_000, 10_001, u32::MAX.into()]),
+        _ => rng.pick(&[10_000, 10_001, u64::MAX]),
+    }
+}
+
+/// Lengths of rooms about `need`.
+fn room_length(rng: &mut Rng, need: usize) -> usize {
+    match rng.below(16) {
+        0..=4 => need,
+        5..=7 => need.saturating_sub(1),
+        8 => need + 1,
+        9 => 0,
+        10..=11 => rng.below(need + 1),
+        _ => need + rng.below(60),
+    }
+}
+
+fn rendering(rng: &mut Rng, subject: Subject, limits: Limits) -> Case {
+    let document = document(rng, subject, limits, 10);
+    let (full, css) = (!rng.once_in(3), rng.once_in(6));
+    let renderer = match subject {
+        Subject::Console => Renderer::Console { width: width(rng, limits), full },
+        Subject::Html => Renderer::Html { full, css, strict: false },
+        Subject::HtmlStrict => Renderer::Html { full, css, strict: true },
+        Subject::Markdown => Renderer::Markdown { full },
+        _ => Renderer::Roff,
+    };
+    let need = rules::render(renderer, &document, usize::MAX).most;
+    let room = pattern(0, room_length(rng, need)).collect();
+    Case { call: Call::Render(renderer), document, room, length: 0 }
+}
+
+/// The document so far of a builder call.
+fn so_far(rng: &mut Rng, palette: Palette, limits: Limits) -> Vec<u8> {
+    let most = limits.one(rng);
+    match rng.below(16) {
+        0 => Vec::new(),
+        1 if limits.bytes >= DEEP_BYTES => {
+            let mut bytes = deep(rng, palette);
+            // mostly cut among the ends, so that about 32 blocks stay open
+            if !rng.once_in(4) {
+                bytes.truncate(bytes.len().saturating_sub(6 * rng.within(25, 33)));
+            }
+            bytes
+        }
+        2..=3 => {
+            let mut bytes = valid(rng, palette, most, true);
+            damage(rng, &mut bytes);
+            bytes
+        }
+        _ => valid(rng, palette, most, true),
+    }
+}
+
+/// A document to add: often with a first record in style Text, which `em_doc` takes apart.
+fn added(rng: &mut Rng, palette: Palette, limits: Limits) -> Vec<u8> {
+    let mut bytes = Vec::new();
+    if rng.once_in(2) {
+        let first = rng.pick(&["", "a", "a\nb", "\n", "title\n\nrest of it", "é\n", "a b"]);
+        put_record(&mut bytes, 1, first.as_bytes());
+    }
+    let most = limits.one(rng);
+    bytes.extend(match rng.below(8) {
+        0 if limits.bytes >= DEEP_BYTES => deep(rng, palette),
+        1 => document(rng, Subject::Builder, limits, 1),
+        _ => valid(rng, palette, most, false),
+    });
+    bytes
+}
+
+fn building(rng: &mut Rng, limits: Limits) -> Case {
+    let palette = Palette::of(Subject::Builder, rng);
+    let mut so_far = so_far(rng, palette, limits);
+    // the last record's style, if it is text, and the innermost open block
+    let (mut style, mut block) = (rng.within(1, 5), rng.below(12));
+    let mut open = Vec::new();
+    let mut place = 0;
+    while let Some(head) = so_far.get(place..place + 6) {
+        let size = u32::from_le_bytes([head[0], head[1], head[2], head[3]]) as usize;
+        match (head[5], head[4] as usize) {
+            (0, s @ 1..=5) if !rng.once_in(3) => style = s,
+            (1, b) => open.push(b),
+            (2, _) => drop(open.pop()),
+            _ => {}
+        }
+        place = place.saturating_add(6).saturating_add(size);
+    }
+    if let (Some(&innermost), false) = (open.last(), rng.once_in(4)) {
+        block = innermost;
+    }
+    let out_of_range = !limits.recorded && rng.once_in(40);
+    let outside = |rng: &mut Rng, first: u32| rng.pick(&[first, first + 1, 0x0100, u32::MAX]);
+    let (style, block) = match out_of_range {
+        true => (rng.pick(&[0, 6, 7, 0x0100, u32::MAX]), outside(rng, 12)),
+        false => (style as u32, block as u32),
+    };
+    let operation = match rng.below(10) {
+        0..=3 => Operation::Write { style },
+        4 => Operation::Open { block: if out_of_range { block } else { rng.below(12) as u32 } },
+        5 => Operation::Close { block },
+        6..=7 => Operation::Doc,
+        _ => Operation::EmDoc,
+    };
+    let mut argument = match operation {
+        Operation::Write { .. } => body(rng, palette.ascii).into_bytes(),
+        Operation::Doc | Operation::EmDoc => added(rng, palette, limits),
+        _ => Vec::new(),
+    };
+    if matches!(operation, Operation::Write { .. }) && rng.once_in(8) {
+        let at = rng.below(argument.len() + 1);
+        argument.splice(at..at, rng.pick(NOT_UTF8).iter().copied());
+    }
+    // a result about the limit of 32,768 bytes, in a room that is larger
+    let large = limits.bytes > MOST_BYTES && rng.once_in(150);
+    if large {
+        let grown = rules::result(operation, &sized(rng, palette, 200), &argument)
+            .map_or(0, |r| r.len() - 200);
+        let size = rng.within(MOST_BYTES - 1, MOST_BYTES + 1).saturating_sub(grown.min(20_000));
+        so_far = sized(rng, palette, size);
+    }
+    let need =
+        rules::result(operation, &so_far, &argument).map_or(so_far.len(), |result| result.len());
+    let mut room_len = match rng.below(12) {
+        0..=3 => need,
+        4..=5 => need.saturating_sub(1),
+        6 => so_far.len(),
+        7 => so_far.len().saturating_sub(1),
+        8 => rng.below(need + 1),
+        _ => need + rng.below(40),
+    };
+    if large && !rng.once_in(4) {
+        room_len = need + rng.below(40);
+    }
+    // the length so far may pass the room: then the room holds what it can
+    let mut length = so_far.len() as u64;
+    if rng.once_in(60) {
+        length = if limits.recorded {
+            length + 100_000
+        } else {
+            rng.pick(&[u64::MAX, length + 1, 1 << 32])
+        };
+    }
+    let mut room: Vec<u8> = so_far.into_iter().take(room_len).collect();
+    room.extend(pattern(room.len(), room_len));
+    Case { call: Call::Build(operation), document: argument, room, length }
+}
+
+fn splitting(rng: &mut Rng, limits: Limits) -> Case {
+    let mut bytes: Vec<u8> = Vec::new();
+    for _ in 0..rng.within(1, 5) {
+        bytes.extend(body(rng, false).bytes());
+    }
+    if rng.once_in(4) {
+        for _ in 0..rng.within(1, 3) {
+            let at = rng.below(bytes.len() + 1);
+            bytes.splice(at..at, rng.pick(NOT_UTF8).iter().copied());
+        }
+    }
+    bytes.truncate(limits.bytes);
+    Case { call: Call::Split, document: bytes, room: Vec::new(), length: 0 }
+}
+
+/// The case of a subject with this seed and index.
+pub fn case(subject: Subject, seed: u64, index: u64, limits: Limits) -> Case {
+    let rng = &mut Rng::new(seed, index);
+    match subject {
+        Subject::Check => {
+            let document = document(rng, subject, limits, 2);
+            Case { call: Call::Check, document, room: Vec::new(), length: 0 }
+        }
+        Subject::Builder => building(rng, limits),
+        Subject::Split => splitting(rng, limits),
+        _ => rendering(rng, subject, limits),
+    }
+}
+
+// ---------------------------------------------------------------------------------------------
+// Reach
+
+/// How many console cases tell a misreading of 01 from 01's own reading, and the first of them.
+pub fn told_apart(
+    misread: Misreading,
+    seed: u64,
+    cases: u64,
+    limits: Limits,
+) -> (u64, Option<u64>) {
+    let (mut told, mut first) = (0, None);
+    for index in 0..cases {
+        let case = case(Subject::Console, seed, index, limits);
+        let Call::Render(renderer) = case.call else { unreachable!("console cases render") };
+        let room = case.room.len();
+        let read = rules::render(renderer, &case.document, room).outcome;
+        if read != rules::render_misread(renderer, &case.document, room, misread).outcome {
+            told += 1;
+            first = first.or(Some(index));
+        }
+    }
+    (told, first)
+}
+
+/// How often each number is answered; index 0 is acceptance.
+pub fn numbers(subject: Subject, seed: u64, cases: u64) -> [u64; 14] {
+    let mut counts = [0; 14];
+    for index in 0..cases {
+        counts[answer(&case(subject, seed, index, Limits::COMPARED)).number as usize] += 1;
+    }
+    counts
+}
+
+/// The numbers that a subject can answer.
+pub fn owed(subject: Subject) -> &'static [u32] {
+    match subject {
+        Subject::Check => &[0, 1, 2, 3, 4, 5, 6, 7, 8],
+        Subject::Console => &[0, 1, 2, 3, 4, 5, 6, 7, 8, 9, 10, 13],
+        Subject::Html | Subject::HtmlStrict | Subject::Markdown => {
+            &[0, 1, 2, 3, 4, 5, 6, 7, 8, 11, 13]
+        }
+        Subject::Roff => &[0, 1, 2, 3, 4, 5, 6, 7, 8, 11, 12, 13],
+        Subject::Builder => &[0, 1, 2, 3, 4, 5, 6, 7, 8, 13],
+        Subject::Split => &[0],
+    }
+}
+
+#[cfg(test)]
+mod tests {
+    use super::*;
+    use crate::kept::confirm;
+
+    /// The first numbers of splitmix64 from 0, as published with it.
+    #[test]
+    fn numbers_of_splitmix64() {
+        let mut rng = Rng(0);
+        let first = [rng.next(), rng.next(), rng.next()];
+        assert_eq!(first, [0xE220_A839_7B1D_CDAF, 0x6E78_9E6A_A1B9_65F4, 0x06C4_5D18_8009_454F]);
+    }
+
+    #[test]
+    fn a_case_is_a_function_of_seed_and_index() {
+        for (subject, _) in Subject::ALL {
+            let cases = |seed| (0..50).map(move |i| case(subject, seed, i, Limits::COMPARED));
+            assert!(cases(1).eq(cases(1)));
+            assert!(!cases(1).eq(cases(2)));
+        }
+    }
+
+    /// A short run of `oracle selfcheck`; here the kept console's own assertions are compiled in.
+    #[test]
+    fn rules_and_kept_rust_agree() {
+        for (subject, name) in Subject::ALL {
+            for index in 0..800 {
+                let case = case(subject, 11, index, Limits::COMPARED);
+                if let Err(message) = confirm(&case, &answer(&case)) {
+                    panic!("{name} case {index}: {message}\n{case:?}");
+                }
+            }
+        }
+    }
+
+    /// 01's misreadings are told apart within far fewer than 20,000 cases, in lists too.
+    #[test]
+    fn misreadings_are_told_apart() {
+        for misread in Misreading::ALL {
+            for limits in [Limits::COMPARED, Limits::RECORDED] {
+                assert!(told_apart(misread, 11, 2_000, limits).0 > 0, "{misread:?} {limits:?}");
+            }
+        }
+    }
+
+    #[test]
+    fn recorded_cases_keep_their_limits() {
+        for (subject, name) in Subject::ALL {
+            for index in 0..300 {
+                let case = case(subject, 11, index, Limits { bytes: 100, ..Limits::RECORDED });
+                assert!(case.document.len() <= 140, "{name}: {}", case.document.len());
+            }
+        }
+    }
+}

@@ -1,0 +1,276 @@
+//! The kept Rust run beside `rules`.
+//!
+//! `rules` gives numbers, places and rooms; the kept Rust knows neither rooms nor refusals. What it
+//! can confirm is confirmed for every case: the text, the panics that 01 makes 10 and 11, the place
+//! of 10, the built document, the chunks. A disagreement is a fault of the oracle.
+
+use std::cell::Cell;
+use std::panic::{catch_unwind, set_hook, take_hook, AssertUnwindSafe};
+use std::sync::Once;
+
+use crate::buffer::{plain_chunks, Color, PlainChunk, Token};
+use crate::cases::{Answer, Call, Case};
+use crate::rules::{self, Chunk, Kind, Operation, Record, Refusal, Renderer};
+use crate::stored::{decode, Block, Ending, Style, MOST_BYTES};
+use crate::Doc;
+
+thread_local!(static QUIET: Cell<bool> = const { Cell::new(false) });
+
+/// What `run` gives, or the message of its panic, which is not printed.
+fn caught<T>(run: impl FnOnce() -> T) -> Result<T, String> {
+    static HOOK: Once = Once::new();
+    HOOK.call_once(|| {
+        let before = take_hook();
+        set_hook(Box::new(move |info| {
+            if !QUIET.get() {
+                before(info);
+            }
+        }));
+    });
+    QUIET.set(true);
+    let outcome = catch_unwind(AssertUnwindSafe(run));
+    QUIET.set(false);
+    outcome.map_err(|payload| match payload.downcast::<String>() {
+        Ok(message) => *message,
+        Err(payload) => {
+            payload.downcast::<&str>().map_or("?".into(), |message| message.to_string())
+        }
+    })
+}
+
+/// A kept `Doc` with the records given and bodies of the caller's choice.
+fn rebuilt(records: &[Record], body: impl Fn(usize, &str) -> String) -> Doc {
+    let mut payload = String::new();
+    let mut tokens = Vec::new();
+    for (index, record) in records.iter().enumerate() {
+        tokens.push(match record.kind {
+            Kind::Text(style) => {
+                let text = std::str::from_utf8(record.body).expect("accepted text is UTF-8");
+                let text = body(index, text);
+                payload.push_str(&text);
+                Token::Text { bytes: text.len(), style: Style::ALL[style - 1].kept() }
+            }
+            Kind::Start(block) => Token::BlockStart(Block::ALL[block].kept()),
+            Kind::End(block) => Token::BlockEnd(Block::ALL[block].kept()),
+        });
+    }
+    Doc::from_parts(tokens, payload)
+}
+
+/// Strict HTML has no counterpart in the Rust. Here it is the Rust's HTML of a document whose
+/// bodies were changed before: neither `&amp;` nor what an exception needs holds a space or a line
+/// end, so bodies and chunks have the same exceptions and the same bounds.
+fn strict_body(body: &str) -> String {
+    let mut parts = body.split('&');
+    let mut out = parts.next().unwrap_or_default().to_string();
+    for part in parts {
+        let opens = part.starts_with("amp;") || part.starts_with("lt;") || part.starts_with("gt;");
+        out.push_str(if opens { "&" } else { "&amp;" });
+        out.push_str(part);
+    }
+    out
+}
+
+/// The text of the kept Rust, or its panic.
+fn rendered(renderer: Renderer, doc: &Doc) -> Result<String, String> {
+    caught(|| match renderer {
+        Renderer::Console { width, full } => {
+            doc.render_console(full, Color::Monochrome, width as usize)
+        }
+        Renderer::Html { full, css, .. } => doc.render_html(full, css),
+        Renderer::Markdown { full } => doc.render_markdown(full),
+        Renderer::Roff => doc.roff(),
+    })
+}
+
+/// Slicing `PADDING` past its end: 10.
+fn is_padding_panic(message: &str) -> bool {
+    message.contains("byte index") && message.contains("out of bounds")
+}
+
+/// `todo!()`: 11.
+fn is_todo_panic(message: &str) -> bool {
+    message == "not yet implemented"
+}
+
+/// The place of 10, from the kept Rust alone: with the bodies from the refusing record on emptied
+/// it does not panic, with those after it emptied it does. A term of the right width at the end
+/// keeps the tabstop; where the emptied bodies raise the tabstop nothing can be said.
+fn confirm_margin(renderer: Renderer, records: &[Record], place: usize) -> Result<(), String> {
+    let at = records.iter().position(|r| r.place == place).ok_or("10 at no record")?;
+    let tabstop = rules::tabstop(records);
+    let term = "x".repeat(tabstop - 4);
+    for (kept, panics) in [(at, false), (at + 1, true)] {
+        let mut shortened = records.to_vec();
+        shortened[kept..].iter_mut().for_each(|record| record.body = b"");
+        if rules::tabstop(&shortened) > tabstop {
+            continue;
+        }
+        for (kind, body) in [(Kind::Start(4), ""), (Kind::Text(1), &term), (Kind::End(4), "")] {
+            shortened.push(Record { place: 0, kind, body: body.as_bytes() });
+        }
+        let outcome = rendered(renderer, &rebuilt(&shortened, |_, body| body.to_string()));
+        if outcome.is_err() != panics {
+            return Err(format!(
+                "10 at {place}: bodies before record {kept} kept gives {outcome:?}"
+            ));
+        }
+    }
+    Ok(())
+}
+
+fn confirm_rendering(renderer: Renderer, case: &Case, answer: &Answer) -> Result<(), String> {
+    let free = rules::render(renderer, &case.document, usize::MAX);
+
+    // The room: 13 exactly where the text was longer at some moment, else what no room limits.
+    let expected = if free.most > case.room.len() {
+        Err(Refusal { number: 13, place: 0 })
+    } else {
+        free.outcome.clone()
+    };
+    let (number, at, text) = match &expected {
+        Ok(text) => (0, text.len(), &text[..]),
+        Err(refusal) => (refusal.number, refusal.place, &b""[..]),
+    };
+    let room_holds =
+        answer.room.starts_with(text) && answer.room[text.len()..].iter().all(|&b| b == 0);
+    if (answer.number, answer.at) != (number, at as u64) || !room_holds {
+        return Err(format!("in its room {answer:?}, without limit {free:?}"));
+    }
+
+    let too_wide = matches!(renderer, Renderer::Console { width, .. } if width > 10_000);
+    let Some(doc) = decode(&case.document, Ending::Closed).filter(|_| !too_wide) else {
+        return match free.outcome {
+            Err(refusal) if refusal.number <= 9 => Ok(()),
+            other => Err(format!("should be refused by 1 to 9, is {other:?}")),
+        };
+    };
+    let records = rules::check(&case.document).map_err(|r| format!("read, yet refused: {r:?}"))?;
+    let doc = match renderer {
+        Renderer::Html { strict: true, .. } => rebuilt(&records, |_, body| strict_body(body)),
+        _ => doc,
+    };
+    let outcome = rendered(renderer, &doc);
+    match (&free.outcome, &outcome) {
+        (Ok(text), Ok(kept)) if text == kept.as_bytes() => {}
+        (Err(Refusal { number: 10, place }), Err(message)) if is_padding_panic(message) => {
+            confirm_margin(renderer, &records, *place)?;
+        }
+        (Err(Refusal { number: 11, place }), Err(message)) if is_todo_panic(message) => {
+            let block = if renderer == Renderer::Roff { 9 } else { 10 };
+            let first = records.iter().find(|r| r.kind == Kind::Start(block));
+            if first.map(|r| r.place) != Some(*place) {
+                return Err(format!("11 at {place}, first such block {first:?}"));
+            }
+        }
+        // 12: the Rust upper-cases beyond ASCII, so there is no text to compare
+        (Err(Refusal { number: 12, place }), _) => {
+            let record = records.iter().find(|r| r.place == *place);
+            if !record.is_some_and(|r| matches!(r.kind, Kind::Text(_)) && !r.body.is_ascii()) {
+                return Err(format!("12 at {place}, where {record:?} stands"));
+            }
+        }
+        _ => return Err(format!("rules {:?}, kept Rust {outcome:?}", free.outcome)),
+    }
+
+    let Ok(text) = &free.outcome else { return Ok(()) };
+    match renderer {
+        // 01's demand 3
+        Renderer::Console { full: true, .. }
+            if rules::printing(text) != rules::printing_order(&records) =>
+        {
+            Err("printing characters are not the printing order".into())
+        }
+        Renderer::Console { .. } => Ok(()),
+        // no other renderer trims, so its text only grows
+        _ if free.most != text.len() => Err("longer than its text at some moment".into()),
+        _ => Ok(()),
+    }
+}
+
+fn confirm_build(operation: Operation, case: &Case, answer: &Answer) -> Result<(), String> {
+    // What the kept Rust builds, where all that it is given can be read.
+    let built = || -> Option<Vec<u8>> {
+        let so_far = case.room.get(..usize::try_from(case.length).ok()?)?;
+        let mut doc = decode(so_far, Ending::Open)?;
+        match operation {
+            Operation::Write { style } => {
+                let style = Style::ALL.get((style as usize).checked_sub(1)?)?;
+                doc.write_str(std::str::from_utf8(&case.document).ok()?, style.kept());
+            }
+            Operation::Open { block } => {
+                doc.token(Token::BlockStart(Block::ALL.get(block as usize)?.kept()))
+            }
+            Operation::Close { block } => {
+                doc.token(Token::BlockEnd(Block::ALL.get(block as usize)?.kept()))
+            }
+            Operation::Doc => doc.doc(&decode(&case.document, Ending::Closed)?),
+            Operation::EmDoc => doc.em_doc(&decode(&case.document, Ending::Closed)?),
+        }
+        let result = doc.stored();
+        // the result is refused where it is no document (1, 6, 7) or has no room
+        decode(&result, Ending::Open)?;
+        (result.len() <= case.room.len().min(MOST_BYTES)).then_some(result)
+    };
+    let mut room = case.room.clone();
+    let mut length = case.length;
+    let built = built();
+    if let Some(result) = &built {
+        room[..result.len()].copy_from_slice(result);
+        length = result.len() as u64;
+    }
+    if built.is_some() != (answer.number == 0) || answer.room != room || answer.length != length {
+        return Err(format!("rules {answer:?}, kept Rust {built:?}"));
+    }
+    Ok(())
+}
+
+/// A body that is UTF-8 goes to the kept splitter as it stands. In any other body each byte over
+/// 127 becomes `x`: such bytes are no line end, space or backtick, so every chunk must have the
+/// same bounds, and the width of a word is less by its bytes from 0x80 to 0xBF.
+fn confirm_split(body: &[u8], chunks: &[Chunk]) -> Result<(), String> {
+    let as_given = std::str::from_utf8(body).ok();
+    let stand_in: String = body.iter().map(|&b| if b < 0x80 { b as char } else { 'x' }).collect();
+    let text = as_given.unwrap_or(&stand_in);
+    let kept = plain_chunks(text);
+    let agrees = |(chunk, kept): (&Chunk, &PlainChunk)| match (*chunk, *kept) {
+        (Chunk::Paragraph, PlainChunk::Paragraph) => true,
+        (Chunk::LineBreak, PlainChunk::LineBreak) => true,
+        (Chunk::Raw { start: None, len: 1, width: 1 }, PlainChunk::Raw(" ", 1)) => true,
+        (Chunk::Raw { start: Some(start), len, width }, PlainChunk::Raw(s, w)) => {
+            // the kept splitter hands out words and lines as parts of the body, spaces as constants
+            let offset = (s.as_ptr() as usize).wrapping_sub(text.as_ptr() as usize);
+            let part = text.as_bytes().get(start..start + len) == Some(s.as_bytes());
+            let place = offset == start || s == " ";
+            let uncounted = match as_given {
+                None if w < rules::CODE => len - rules::characters(&body[start..start + len]),
+                _ => 0,
+            };
+            part && place && width + uncounted == w
+        }
+        _ => false,
+    };
+    if chunks.len() != kept.len() || !chunks.iter().zip(&kept).all(agrees) {
+        return Err(format!("rules {chunks:?}, kept Rust {kept:?}"));
+    }
+    Ok(())
+}
+
+/// Confirms an answer of `rules` by the kept Rust, as far as it reaches.
+pub fn confirm(case: &Case, answer: &Answer) -> Result<(), String> {
+    match case.call {
+        Call::Check => {
+            let read = decode(&case.document, Ending::Closed);
+            if read.is_some() != (answer.number == 0) {
+                return Err(format!("rules {answer:?}, read {read:?}"));
+            }
+            if read.is_some_and(|doc| doc.stored() != case.document) {
+                return Err("stored again it is another document".into());
+            }
+            Ok(())
+        }
+        Call::Render(renderer) => confirm_rendering(renderer, case, answer),
+        Call::Build(operation) => confirm_build(operation, case, answer),
+        Call::Split => confirm_split(&case.document, &answer.chunks),
+    }
+}

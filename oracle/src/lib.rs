@@ -1,0 +1,26 @@
+//! The oracle beside which the port of bpaf's document buffer is run.
+//!
+//! - `bpaf`: the crate's files, cut (the *kept Rust*).
+//! - [`stored`]: documents in the stored form of 01, read into and made from the kept `Doc`.
+//! - [`rules`]: 01 read again, independently of the kept Rust, with refusals and rooms.
+//! - [`kept`]: the kept Rust run beside `rules`; every disagreement is reported.
+//! - [`cases`]: one type for a call of any public function, one for its answer, and their list form.
+//! - [`generate`]: seeded documents, settings, rooms and builder calls.
+//! - [`port`]: the C interface of the port, where it is linked.
+//!
+//! "01" in comments is `docs/01-scope.md`.
+
+// Not reformatted: its files stand as published.
+#[rustfmt::skip]
+mod bpaf;
+
+// The kept files name these two from the crate's root.
+use bpaf::buffer;
+use bpaf::buffer::Doc;
+
+pub mod cases;
+pub mod generate;
+pub mod kept;
+pub mod port;
+pub mod rules;
+pub mod stored;

@@ -1,0 +1,298 @@
+//! The oracle's commands; `README.md` says what each is for.
+
+use std::io::{self, Read, Write};
+use std::process::ExitCode;
+
+use oracle::cases::{answer, list, pattern, Answer, Call, Case};
+use oracle::generate::{self, Limits, Subject};
+use oracle::kept::confirm;
+use oracle::port;
+use oracle::rules::{Misreading, Renderer};
+
+const USAGE: &str = "\
+usage: oracle answer console|html|html_strict|markdown|roff
+              [--width N] [--full 0|1] [--css 0|1] [--room N] < document
+       oracle record check|console|html|html_strict|markdown|roff|builder|split
+              --seed S --cases N [--max-bytes B] > list
+       oracle compare --seed S --cases N [--only SUBJECT,..]
+       oracle selfcheck --seed S --cases N [--only SUBJECT,..]
+       oracle reach --seed S --cases N
+";
+
+/// The room and width of 01's program.
+const PROGRAM_ROOM: u64 = 65_536;
+const PROGRAM_WIDTH: u64 = 100;
+/// Mismatches that are printed in full.
+const PRINTED: u64 = 20;
+
+/// What follows a command: its operand, and `--name value` pairs.
+struct Arguments {
+    operand: Option<String>,
+    options: Vec<(String, String)>,
+}
+
+type Parsed<T> = Result<T, String>;
+
+impl Arguments {
+    fn read(mut arguments: impl Iterator<Item = String>, known: &[&str]) -> Parsed<Self> {
+        let mut read = Arguments { operand: None, options: Vec::new() };
+        while let Some(argument) = arguments.next() {
+            if let Some(name) = argument.strip_prefix("--") {
+                let value = arguments.next().ok_or(format!("--{name} needs a value"))?;
+                if !known.contains(&name) || read.options.iter().any(|(n, _)| n == name) {
+                    return Err(format!("--{name} is unknown here or given twice"));
+                }
+                read.options.push((name.to_string(), value));
+            } else if read.operand.replace(argument).is_some() {
+                return Err("more than one operand".into());
+            }
+        }
+        Ok(read)
+    }
+
+    fn value(&self, name: &str) -> Option<&str> {
+        self.options.iter().find(|(n, _)| n == name).map(|(_, value)| value.as_str())
+    }
+
+    fn number(&self, name: &str, otherwise: Option<u64>) -> Parsed<u64> {
+        match self.value(name) {
+            Some(value) => value.parse().map_err(|_| format!("--{name} {value}: not a number")),
+            None => otherwise.ok_or(format!("--{name} is missing")),
+        }
+    }
+
+    fn flag(&self, name: &str, otherwise: bool) -> Parsed<bool> {
+        match self.value(name) {
+            None => Ok(otherwise),
+            Some("0") => Ok(false),
+            Some("1") => Ok(true),
+            Some(value) => Err(format!("--{name} {value}: neither 0 nor 1")),
+        }
+    }
+
+    fn operand(&self) -> Parsed<&str> {
+        self.operand.as_deref().ok_or("an operand is missing".into())
+    }
+
+    fn no_operand(&self) -> Parsed<()> {
+        self.operand.as_ref().map_or(Ok(()), |operand| Err(format!("{operand}: not expected")))
+    }
+
+    /// The subjects named by `--only`, or all.
+    fn subjects(&self) -> Parsed<Vec<Subject>> {
+        match self.value("only") {
+            None => Ok(Subject::ALL.map(|(subject, _)| subject).to_vec()),
+            Some(names) => names
+                .split(',')
+                .map(|name| Subject::named(name).ok_or(format!("--only {name}: no such subject")))
+                .collect(),
+        }
+    }
+}
+
+fn main() -> ExitCode {
+    let mut arguments = std::env::args().skip(1);
+    let command = arguments.next().unwrap_or_default();
+    let outcome =
+        match command.as_str() {
+            "answer" => Arguments::read(arguments, &["width", "full", "css", "room"])
+                .and_then(|a| run_answer(&a)),
+            "record" => Arguments::read(arguments, &["seed", "cases", "max-bytes"])
+                .and_then(|a| run_record(&a)),
+            "compare" => {
+                Arguments::read(arguments, &["seed", "cases", "only"]).and_then(|a| run_compare(&a))
+            }
+            "selfcheck" => Arguments::read(arguments, &["seed", "cases", "only"])
+                .and_then(|a| run_selfcheck(&a)),
+            "reach" => Arguments::read(arguments, &["seed", "cases"]).and_then(|a| run_reach(&a)),
+            _ => Err("a command is missing or unknown".into()),
+        };
+    outcome.unwrap_or_else(|message| {
+        eprint!("oracle: {message}\n{USAGE}");
+        ExitCode::from(2)
+    })
+}
+
+fn write_out(bytes: &[u8]) -> ExitCode {
+    match io::stdout().write_all(bytes).and_then(|()| io::stdout().flush()) {
+        Ok(()) => ExitCode::SUCCESS,
+        Err(error) => {
+            eprintln!("oracle: {error}");
+            ExitCode::FAILURE
+        }
+    }
+}
+
+/// The text of one document, or the refusal line of 01's program.
+fn run_answer(arguments: &Arguments) -> Parsed<ExitCode> {
+    let width = arguments.number("width", Some(PROGRAM_WIDTH))?;
+    let full = arguments.flag("full", true)?;
+    let css = arguments.flag("css", false)?;
+    let room = arguments.number("room", Some(PROGRAM_ROOM))?;
+    let room = usize::try_from(room).ok().filter(|&n| n <= 1 << 30).ok_or("--room: too large")?;
+    let renderer = match arguments.operand()? {
+        "console" => Renderer::Console { width, full },
+        "html" => Renderer::Html { full, css, strict: false },
+        "html_strict" => Renderer::Html { full, css, strict: true },
+        "markdown" => Renderer::Markdown { full },
+        "roff" => Renderer::Roff,
+        other => return Err(format!("{other}: no such renderer")),
+    };
+    let mut document = Vec::new();
+    if let Err(error) = io::stdin().read_to_end(&mut document) {
+        eprintln!("oracle: {error}");
+        return Ok(ExitCode::FAILURE);
+    }
+    let case = Case {
+        call: Call::Render(renderer),
+        document,
+        room: pattern(0, room).collect(),
+        length: 0,
+    };
+    let answer = answer(&case);
+    if let Err(message) = confirm(&case, &answer) {
+        eprintln!("oracle: it disagrees with itself: {message}");
+        return Ok(ExitCode::FAILURE);
+    }
+    Ok(match answer.number {
+        0 => write_out(&answer.room[..answer.at as usize]),
+        number => write_out(format!("refused {number} at {}\n", answer.at).as_bytes()),
+    })
+}
+
+/// A list of cases with their answers, each confirmed by the kept Rust.
+fn run_record(arguments: &Arguments) -> Parsed<ExitCode> {
+    let kind = arguments.operand()?;
+    let subject = Subject::named(kind).ok_or(format!("{kind}: no such kind"))?;
+    let (seed, cases) = (arguments.number("seed", None)?, arguments.number("cases", None)?);
+    let most = arguments.number("max-bytes", Some(Limits::RECORDED.bytes as u64))?;
+    let limits = Limits { bytes: most.min(40_000) as usize, recorded: true };
+    let mut out = Vec::new();
+    for index in 0..cases {
+        let case = generate::case(subject, seed, index, limits);
+        let answer = answer(&case);
+        if let Err(message) = confirm(&case, &answer) {
+            eprintln!("oracle: case {index}: it disagrees with itself: {message}");
+            return Ok(ExitCode::FAILURE);
+        }
+        list(&case, &answer, &mut out);
+    }
+    Ok(write_out(&out))
+}
+
+fn hex(bytes: &[u8]) -> String {
+    bytes.iter().map(|b| format!("{b:02x}")).collect::<Vec<_>>().join(" ")
+}
+
+fn show(case: &Case) -> String {
+    format!(
+        "  call {:?}, room of {} bytes, length so far {}\n  document {}\n{}",
+        case.call,
+        case.room.len(),
+        case.length,
+        hex(&case.document),
+        match case.call {
+            Call::Build(_) => format!("  room before {}\n", hex(&case.room)),
+            _ => String::new(),
+        }
+    )
+}
+
+fn show_answer(name: &str, answer: &Answer) -> String {
+    format!(
+        "  {name} number {} at {} length {} room {}\n",
+        answer.number,
+        answer.at,
+        answer.length,
+        hex(&answer.room)
+    )
+}
+
+/// Runs `cases` cases of the subjects in turn; `fault` says what is wrong with one.
+/// The last line is `cases N WORD M`.
+fn run_cases(
+    subjects: &[Subject],
+    arguments: &Arguments,
+    word: &str,
+    fault: impl Fn(&Case, &Answer) -> Option<String>,
+) -> Parsed<ExitCode> {
+    let (seed, cases) = (arguments.number("seed", None)?, arguments.number("cases", None)?);
+    let mut faults = 0;
+    for index in 0..cases {
+        let subject = subjects[(index % subjects.len() as u64) as usize];
+        let case = generate::case(subject, seed, index, Limits::COMPARED);
+        if let Some(message) = fault(&case, &answer(&case)) {
+            faults += 1;
+            if faults <= PRINTED {
+                println!("case {index}:\n{}{message}", show(&case));
+            }
+        }
+    }
+    println!("cases {cases} {word} {faults}");
+    Ok(if faults == 0 { ExitCode::SUCCESS } else { ExitCode::FAILURE })
+}
+
+/// The port beside the oracle, through the C interface.
+fn run_compare(arguments: &Arguments) -> Parsed<ExitCode> {
+    arguments.no_operand()?;
+    let mut subjects = arguments.subjects()?;
+    if arguments.value("only").is_none() {
+        subjects.retain(|&subject| port::is_linked(subject));
+    }
+    if subjects.is_empty() {
+        println!(
+            "the C interface is not linked: build with a linked feature and SEFGRUNN_LIB_DIR set"
+        );
+        return Ok(ExitCode::from(2));
+    }
+    if let Some(subject) = subjects.iter().find(|&&subject| !port::is_linked(subject)) {
+        println!("the C interface is not linked for {subject:?}");
+        return Ok(ExitCode::from(2));
+    }
+    run_cases(&subjects, arguments, "mismatches", |case, expected| {
+        if let Err(message) = confirm(case, expected) {
+            return Some(format!("  the oracle disagrees with itself: {message}\n"));
+        }
+        match port::call(case) {
+            Ok(got) if got == *expected => None,
+            Ok(got) => Some(show_answer("expected", expected) + &show_answer("got     ", &got)),
+            Err(message) => {
+                Some(format!("{}  got      {message}\n", show_answer("expected", expected)))
+            }
+        }
+    })
+}
+
+/// The oracle's reading of 01 beside the kept Rust.
+fn run_selfcheck(arguments: &Arguments) -> Parsed<ExitCode> {
+    arguments.no_operand()?;
+    run_cases(&arguments.subjects()?, arguments, "disagreements", |case, answer| {
+        confirm(case, answer).err().map(|message| format!("  {message}\n"))
+    })
+}
+
+/// What the generator reaches: each misreading that 01 names must change the console's text, and
+/// each number must be given by each subject that can give it.
+fn run_reach(arguments: &Arguments) -> Parsed<ExitCode> {
+    arguments.no_operand()?;
+    let (seed, cases) = (arguments.number("seed", None)?, arguments.number("cases", None)?);
+    let mut complete = true;
+    for misread in Misreading::ALL {
+        let (told, first) = generate::told_apart(misread, seed, cases, Limits::COMPARED);
+        complete &= told > 0;
+        println!("{misread:?}: told apart by {told} of {cases} cases, first by case {first:?}");
+    }
+    for (subject, name) in Subject::ALL {
+        let counts = generate::numbers(subject, seed, cases);
+        let missing: Vec<u32> =
+            generate::owed(subject).iter().copied().filter(|&n| counts[n as usize] == 0).collect();
+        complete &= missing.is_empty();
+        println!(
+            "{name}: accepted {}, refused 1 to 13 {:?}, missing {missing:?}",
+            counts[0],
+            &counts[1..]
+        );
+    }
+    println!("reach {}", if complete { "complete" } else { "incomplete" });
+    Ok(if complete { ExitCode::SUCCESS } else { ExitCode::FAILURE })
+}

@@ -1,0 +1,523 @@
+//! 01's samples and examples, the chunk lists, and the readings of design.md, one test for each.
+//! Every answer is by `rules` and confirmed by the kept Rust.
+
+use oracle::cases::{answer, pattern, Answer, Call, Case};
+use oracle::kept::confirm;
+use oracle::rules::{self, Chunk, Operation, Renderer};
+use oracle::stored::{put_record, Block, Draft, Style};
+
+const HTML: Renderer = Renderer::Html { full: true, css: false, strict: false };
+const STRICT: Renderer = Renderer::Html { full: true, css: false, strict: true };
+const MARKDOWN: Renderer = Renderer::Markdown { full: true };
+const ROFF: Renderer = Renderer::Roff;
+const PREAMBLE: &str = ".ie \\n(.g .ds Aq \\(aq\n.el .ds Aq '\n";
+const ROOM: usize = 65_536;
+
+fn console(width: u64) -> Renderer {
+    Renderer::Console { width, full: true }
+}
+
+fn run(call: Call, document: &[u8], room: Vec<u8>, length: u64) -> Answer {
+    let case = Case { call, document: document.to_vec(), room, length };
+    let answer = answer(&case);
+    confirm(&case, &answer).unwrap();
+    answer
+}
+
+fn render(renderer: Renderer, document: &[u8], room: usize) -> Answer {
+    run(Call::Render(renderer), document, pattern(0, room).collect(), 0)
+}
+
+fn shown(renderer: Renderer, document: &[u8]) -> String {
+    let answer = render(renderer, document, ROOM);
+    assert_eq!(answer.number, 0, "refused at {}", answer.at);
+    String::from_utf8(answer.room[..answer.at as usize].to_vec()).unwrap()
+}
+
+fn refusal(renderer: Renderer, document: &[u8], room: usize) -> (u32, u64) {
+    let answer = render(renderer, document, room);
+    assert_ne!(answer.number, 0);
+    assert!(answer.room.iter().all(|&b| b == 0));
+    (answer.number, answer.at)
+}
+
+fn check(document: &[u8]) -> (u32, u64) {
+    let answer = run(Call::Check, document, vec![], 0);
+    (answer.number, answer.at)
+}
+
+fn made(write: impl FnOnce(&mut Draft) -> &mut Draft) -> Vec<u8> {
+    write(&mut Draft::new()).stored()
+}
+
+fn text(body: &str) -> Vec<u8> {
+    made(|d| d.text(body))
+}
+
+/// Several blocks around one text, the first outermost.
+fn nested<'d>(draft: &'d mut Draft, blocks: &[Block], text: &str) -> &'d mut Draft {
+    let draft = blocks.iter().fold(draft, |draft, &block| draft.open(block)).text(text);
+    blocks.iter().rev().fold(draft, |draft, &block| draft.close(block))
+}
+
+/// Records given as kind and body.
+fn records(list: &[(u16, &str)]) -> Vec<u8> {
+    let mut out = Vec::new();
+    list.iter().for_each(|(kind, body)| put_record(&mut out, *kind, body.as_bytes()));
+    out
+}
+
+// Samples from the help text
+
+#[test]
+fn sample_empty() {
+    assert_eq!(shown(console(100), b""), "");
+    assert_eq!(shown(HTML, b""), "");
+}
+
+#[test]
+fn sample_a_b() {
+    assert_eq!(text("a b"), [3, 0, 0, 0, 1, 0, b'a', b' ', b'b']);
+    assert_eq!(shown(console(3), &text("a b")), "a b");
+    assert_eq!(shown(console(2), &text("a b")), "a\nb");
+    assert_eq!(shown(console(0), &text("a b")), "a\nb");
+}
+
+#[test]
+fn sample_bytes_fold() {
+    assert_eq!(shown(console(3), &text("é é")), "é\né");
+}
+
+#[test]
+fn sample_white_space_is_trimmed() {
+    assert_eq!(shown(console(3), &text("a\u{A0} b")), "a\nb");
+}
+
+#[test]
+fn sample_paragraph() {
+    assert_eq!(shown(console(100), &text("a\n\nb")), "a\nb");
+    assert_eq!(shown(Renderer::Console { width: 100, full: false }, &text("a\n\nb")), "a\n");
+}
+
+#[test]
+fn sample_definition_list() {
+    let document = made(|d| {
+        d.within(Block::DefinitionList, |d| {
+            d.within(Block::ItemTerm, |d| d.literal("-p"))
+                .within(Block::ItemBody, |d| d.text("port"))
+        })
+    });
+    assert_eq!(shown(console(100), &document), "    -p  port");
+}
+
+#[test]
+fn sample_term_ref() {
+    let document = made(|d| d.text("see ").within(Block::TermRef, |d| d.literal("-p")));
+    assert_eq!(shown(console(100), &document), "see `-p`");
+}
+
+#[test]
+fn sample_backtick_before_line_end() {
+    let document = made(|d| nested(d.text("a"), &[Block::Section2, Block::TermRef], "b"));
+    assert_eq!(shown(console(100), &document), "a`\nb`");
+}
+
+#[test]
+fn sample_margin_of_fifty() {
+    let mut blocks = vec![Block::Section3];
+    blocks.extend([Block::ItemBody; 8]);
+    let document = made(|d| nested(d, &blocks, "x"));
+    assert_eq!(shown(console(100), &document), " ".repeat(50) + "x");
+    blocks.insert(0, Block::Section3);
+    let document = made(|d| nested(d, &blocks, "x"));
+    assert_eq!(refusal(console(100), &document, ROOM), (10, 60));
+}
+
+#[test]
+fn sample_html_literal() {
+    let document = made(|d| d.literal("<p>"));
+    assert_eq!(shown(HTML, &document), "<tt><b>&lt;p&gt;</b></tt>");
+}
+
+#[test]
+fn sample_roff_term() {
+    let document = made(|d| d.within(Block::ItemTerm, |d| d.literal("-p")));
+    assert_eq!(shown(ROFF, &document), PREAMBLE.to_string() + ".TP\n\\fB\\-p\\fP\n");
+}
+
+#[test]
+fn sample_roff_heading_with_line_end() {
+    let document = made(|d| d.within(Block::Header, |d| d.text("A\n")).within(Block::Block, |d| d));
+    assert_eq!(shown(ROFF, &document), PREAMBLE.to_string() + ".SH A\\ .PP\n");
+}
+
+#[test]
+fn sample_tabstop() {
+    for (count, tabstop) in [(24, 28), (25, 4)] {
+        let document = made(|d| {
+            d.within(Block::ItemTerm, |d| d.text(&"é".repeat(count)))
+                .within(Block::ItemBody, |d| d.text("\n y"))
+        });
+        assert_eq!(rules::tabstop(&rules::check(&document).unwrap()), tabstop);
+        let expected = format!("    {}\n{}y", "é".repeat(count), " ".repeat(tabstop + 2));
+        assert_eq!(shown(console(100), &document), expected);
+    }
+}
+
+// The chunk lists of splitter.rs, by `rules`; the kept splitter has them as its own tests
+
+fn raw(start: usize, len: usize, width: usize) -> Chunk {
+    Chunk::Raw { start: Some(start), len, width }
+}
+
+#[test]
+fn chunks_of_spaced_code() {
+    let body = "a\n\n    a\n    b\n\ndf\n\n    c\n    d\n";
+    let line_end = Chunk::Raw { start: None, len: 1, width: 1 };
+    let expected = [
+        raw(0, 1, 1),
+        Chunk::Paragraph,
+        raw(7, 1, rules::CODE),
+        raw(13, 1, rules::CODE),
+        Chunk::Paragraph,
+        raw(16, 2, 2),
+        Chunk::Paragraph,
+        raw(24, 1, rules::CODE),
+        raw(30, 1, rules::CODE),
+        line_end,
+    ];
+    assert_eq!(run(Call::Split, body.as_bytes(), vec![], 0).chunks, expected);
+}
+
+#[test]
+fn chunks_of_ticked_code() {
+    let body = "a\n\n```text\na\nb\n```\n\ndf\n\n```\nc\nd\n```\n";
+    let expected = [
+        raw(0, 1, 1),
+        Chunk::Paragraph,
+        raw(3, 7, rules::TICKED),
+        raw(11, 1, rules::TICKED),
+        raw(13, 1, rules::TICKED),
+        raw(15, 3, rules::TICKED),
+        Chunk::Paragraph,
+        raw(20, 2, 2),
+        Chunk::Paragraph,
+        raw(24, 3, rules::TICKED),
+        raw(28, 1, rules::TICKED),
+        raw(30, 1, rules::TICKED),
+        raw(32, 3, rules::TICKED),
+    ];
+    assert_eq!(run(Call::Split, body.as_bytes(), vec![], 0).chunks, expected);
+}
+
+#[test]
+fn chunks_of_a_body_that_is_not_utf8() {
+    let chunks = run(Call::Split, b"\xC3\x80\x80\xFF \xBF\n\n\x80", vec![], 0).chunks;
+    assert_eq!(chunks, [raw(0, 4, 2), raw(4, 1, 1), raw(5, 1, 0), Chunk::Paragraph, raw(8, 1, 0)]);
+}
+
+/// Every row of up to five of these pieces.
+#[test]
+fn chunks_of_short_bodies() {
+    const PIECES: [&str; 7] = ["a", " ", "\n", "```", "    ", "é", "`"];
+    for count in 0..=5 {
+        for mut row in 0..PIECES.len().pow(count) {
+            let mut body = String::new();
+            for _ in 0..count {
+                body.push_str(PIECES[row % PIECES.len()]);
+                row /= PIECES.len();
+            }
+            run(Call::Split, body.as_bytes(), vec![], 0);
+        }
+    }
+}
+
+#[test]
+fn white_space_is_the_property() {
+    assert!(('\0'..=char::MAX).all(|c| rules::is_white_space(c) == c.is_whitespace()));
+}
+
+// The rows of the refusal table
+
+#[test]
+fn refusals_1_to_8() {
+    let rows: [(&[u8], u32, u64); 8] = [
+        (&[0; 32_769], 1, 0),
+        (&[0x01, 0x00], 2, 0),
+        (&[0, 0, 0, 0, 0x06, 0], 3, 0),
+        (&[1, 0, 0, 0, 0, 1, 0x61], 4, 0),
+        (&[1, 0, 0, 0, 1, 0, 0xC3], 5, 0),
+        (&[0, 0, 0, 0, 0, 2], 6, 0),
+        (&records(&[(0x010B, ""); 33]), 7, 192),
+        (&[0, 0, 0, 0, 0x0B, 1], 8, 6),
+    ];
+    for (document, number, place) in rows {
+        assert_eq!(check(document), (number, place));
+        for renderer in [console(100), HTML, STRICT, MARKDOWN, ROFF] {
+            assert_eq!(refusal(renderer, document, ROOM), (number, place));
+        }
+    }
+}
+
+#[test]
+fn refusal_9_comes_after_1() {
+    assert_eq!(refusal(console(10_001), b"", ROOM), (9, 0));
+    assert_eq!(refusal(console(u64::MAX), &[1, 0], ROOM), (9, 0));
+    assert_eq!(refusal(console(10_001), &[0; 32_769], ROOM), (1, 0));
+    assert_eq!(shown(console(10_000), &text("a b")), "a b");
+}
+
+#[test]
+fn refusals_10_to_13() {
+    let document = made(|d| nested(d, &[Block::ItemBody; 9], "x"));
+    assert_eq!(refusal(console(100), &document, ROOM), (10, 54));
+    let meta = [0, 0, 0, 0, 0x0A, 1, 0, 0, 0, 0, 0x0A, 2];
+    assert_eq!(refusal(HTML, &meta, ROOM), (11, 0));
+    assert_eq!(refusal(STRICT, &meta, ROOM), (11, 0));
+    assert_eq!(refusal(MARKDOWN, &meta, ROOM), (11, 0));
+    assert_eq!(shown(console(100), &meta), "");
+    assert_eq!(shown(ROFF, &meta), PREAMBLE.to_string() + ".nf\n.fi\n");
+    let term_ref = made(|d| d.text("a").within(Block::TermRef, |d| d));
+    assert_eq!(refusal(ROFF, &term_ref, ROOM), (11, 7));
+    let heading = made(|d| d.within(Block::Header, |d| d.text("é")));
+    assert_eq!(refusal(ROFF, &heading, ROOM), (12, 6));
+    assert_eq!(refusal(console(100), &text("a"), 0), (13, 0));
+}
+
+#[test]
+fn order_within_a_record() {
+    // 2 before 3 before 4; 5 before 8; 6 and 7 in their turn
+    assert_eq!(check(&[1, 0, 0, 0, 0x06, 0]), (2, 0));
+    assert_eq!(check(&[1, 0, 0, 0, 0x06, 0, 0x61]), (3, 0));
+    assert_eq!(check(&[1, 0, 0, 0, 0, 2, 0x61]), (4, 0));
+    assert_eq!(check(&[0, 0, 0, 0, 0, 1, 1, 0, 0, 0, 1, 0, 0xFF]), (5, 6));
+    assert_eq!(check(&[0, 0, 0, 0, 0, 1, 0, 0, 0, 0, 1, 2]), (6, 6));
+    assert_eq!(check(&[0xFF, 0xFF, 0xFF, 0xFF, 1, 0]), (2, 0));
+    assert_eq!(check(&records(&[(0x010B, ""); 32])), (8, 192));
+    assert_eq!(check(&text(&"a".repeat(32_762))), (0, 0));
+    assert_eq!(check(&text(&"a".repeat(32_763))), (1, 0));
+}
+
+// Strict HTML
+
+#[test]
+fn strict_html() {
+    assert_eq!(
+        shown(STRICT, &text("& &amp; &lt; &gt; &am; &quot; &<")),
+        "&amp; &amp; &lt; &gt; &amp;am; &amp;quot; &amp;&lt;"
+    );
+    assert_eq!(shown(HTML, &text("& &amp; &<")), "& &amp; &&lt;");
+    // the exception is within the chunk, so not across records
+    assert_eq!(shown(STRICT, &records(&[(1, "&"), (1, "amp;")])), "&amp;amp;");
+    assert_eq!(shown(STRICT, &text("&amp;lt;")), "&amp;lt;");
+}
+
+// The readings of design.md
+
+#[test]
+fn reading_1_line_ends_then_10_then_padding() {
+    let mut blocks = vec![Block::Section2];
+    blocks.extend([Block::ItemBody; 9]);
+    let document = made(|d| nested(d.text("a"), &blocks, "x"));
+    assert_eq!(refusal(console(100), &document, 1), (13, 0));
+    assert_eq!(refusal(console(100), &document, 2), (10, 67));
+    let document =
+        made(|d| nested(d.text("a").within(Block::Block, |d| d), &[Block::ItemBody; 9], "x"));
+    assert_eq!(refusal(console(0), &document, 2), (13, 0));
+    assert_eq!(refusal(console(0), &document, 3), (10, 73));
+}
+
+#[test]
+fn reading_2_which_chunks_give_10() {
+    let deep = |body: &str| made(|d| nested(d, &[Block::Section3; 26], body));
+    assert_eq!(refusal(console(100), &deep("\n    "), ROOM), (10, 156));
+    assert_eq!(shown(console(100), &deep("\n \n\n")), "\n\n\n");
+    // the space is dropped by the fold, so its margin is not asked for
+    let document = made(|d| nested(d.text("a"), &[Block::Section3; 26], " "));
+    assert_eq!(shown(console(0), &document), "a\n\n");
+    assert_eq!(refusal(console(1), &document, ROOM), (10, 163));
+}
+
+#[test]
+fn reading_3_style_and_preamble_before_11() {
+    let document = made(|d| d.literal("a").within(Block::Meta, |d| d));
+    assert_eq!(refusal(HTML, &document, 16), (13, 0));
+    assert_eq!(refusal(HTML, &document, 17), (11, 7));
+    assert_eq!(refusal(MARKDOWN, &document, 6), (13, 0));
+    assert_eq!(refusal(MARKDOWN, &document, 7), (11, 7));
+    let document = made(|d| d.within(Block::TermRef, |d| d));
+    assert_eq!(refusal(ROFF, &document, 34), (13, 0));
+    assert_eq!(refusal(ROFF, &document, 35), (11, 0));
+}
+
+#[test]
+fn reading_4_zeros_after_a_trim() {
+    let document = text("a\u{A0} ");
+    let answer = render(console(2), &document, 5);
+    assert_eq!((answer.number, answer.at, &answer.room[..]), (0, 2, &b"a\n\0\0\0"[..]));
+    assert_eq!(render(console(2), &document, 3).room, b"a\n\0");
+    assert_eq!(refusal(console(2), &document, 2), (13, 0));
+}
+
+#[test]
+fn reading_5_what_is_written_and_due() {
+    assert_eq!(shown(console(100), &records(&[(1, "\n    "), (1, "x y")])), "x\ny");
+    // a blank line that is due leaves the column far out, so `b` folds and the blank line is trimmed
+    let far_out =
+        |after: &str| made(|d| d.text("a\n \n    ").within(Block::Block, |d| d).text(after));
+    assert_eq!(shown(console(100), &far_out("b")), "a\nb");
+    // the fold drops the space and its trim takes the blank line, which is still due for `b`
+    assert_eq!(shown(console(100), &far_out(" b")), "a\n\nb");
+    let document = made(|d| d.text("a").within(Block::Block, |d| d).text(" "));
+    assert_eq!(shown(console(0), &document), "a\n\n");
+    let document = made(|d| d.within(Block::Section2, |d| d));
+    assert_eq!(shown(console(100), &document), "\n");
+    assert_eq!(refusal(console(100), &document, 0), (13, 0));
+}
+
+#[test]
+fn reading_6_a_gap_serves_both_sections() {
+    let document = made(|d| {
+        d.within(Block::Section4, |d| {
+            d.text("a").within(Block::Section4, |d| d.text("b")).within(Block::Block, |d| d)
+        })
+    });
+    assert_eq!(shown(console(100), &document), "    a\n        b");
+}
+
+#[test]
+fn reading_7_two_columns_before_a_body() {
+    let document = made(|d| {
+        d.within(Block::ItemTerm, |d| d.text(&"t".repeat(26)))
+            .within(Block::ItemBody, |d| d.text("y"))
+    });
+    assert_eq!(shown(console(100), &document), format!("    {}  y", "t".repeat(26)));
+    // up to column 27 none are added
+    let document = made(|d| {
+        d.text("a")
+            .within(Block::ItemTerm, |d| d.text(&"t".repeat(25)))
+            .text("\n ")
+            .text(&"u".repeat(27))
+            .within(Block::ItemBody, |d| d.text("y"))
+    });
+    assert_eq!(
+        shown(console(100), &document),
+        format!("a\n    {}\n{}y", "t".repeat(25), "u".repeat(27))
+    );
+}
+
+#[test]
+fn reading_8_heading_in_a_heading() {
+    let document = made(|d| {
+        d.within(Block::Header, |d| d.text("a").within(Block::Section2, |d| d.text("b")).text("c"))
+    });
+    assert_eq!(shown(ROFF, &document), PREAMBLE.to_string() + ".SS AB\n\\fRc\\fP\n.SH \"\"\n");
+}
+
+// The builder
+
+fn build(operation: Operation, so_far: &[u8], argument: &[u8], room: usize) -> Answer {
+    let before: Vec<u8> =
+        so_far.iter().copied().chain(pattern(so_far.len(), room)).take(room).collect();
+    let answer = run(Call::Build(operation), argument, before.clone(), so_far.len() as u64);
+    match answer.number {
+        0 => assert_eq!(answer.room[answer.length as usize..], before[answer.length as usize..]),
+        _ => assert_eq!((&answer.room, answer.length), (&before, so_far.len() as u64)),
+    }
+    answer
+}
+
+fn built(operation: Operation, so_far: &[u8], argument: &[u8]) -> Vec<u8> {
+    let answer = build(operation, so_far, argument, 40_000);
+    assert_eq!(answer.number, 0, "refused at {}", answer.at);
+    answer.room[..answer.length as usize].to_vec()
+}
+
+fn not_built(operation: Operation, so_far: &[u8], argument: &[u8], room: usize) -> (u32, u64) {
+    let answer = build(operation, so_far, argument, room);
+    (answer.number, answer.at)
+}
+
+const WRITE: Operation = Operation::Write { style: 1 };
+
+#[test]
+fn builder_writes() {
+    assert_eq!(built(WRITE, b"", b""), records(&[(1, "")]));
+    assert_eq!(built(WRITE, &text("a"), b"b"), records(&[(1, "ab")]));
+    assert_eq!(built(WRITE, &records(&[(3, "a")]), b""), records(&[(3, "a"), (1, "")]));
+    assert_eq!(built(Operation::Open { block: 10 }, b"", b""), records(&[(0x010A, "")]));
+    let open = records(&[(0x010A, "")]);
+    assert_eq!(
+        built(Operation::Close { block: 10 }, &open, b""),
+        records(&[(0x010A, ""), (0x020A, "")])
+    );
+    let added = records(&[(1, "a\nb\nc"), (1, "d"), (2, "e")]);
+    let bracket =
+        |inner: &[(u16, &str)]| records(&[&[(0x0108, "")], inner, &[(0x0208, "")]].concat());
+    assert_eq!(built(Operation::Doc, b"", &added), bracket(&[(1, "a\nb\nc"), (1, "d"), (2, "e")]));
+    let expected = [(2, "a"), (0x0102, ""), (1, "b\nc"), (1, "d"), (2, "e"), (0x0202, "")];
+    assert_eq!(built(Operation::EmDoc, b"", &added), bracket(&expected));
+    assert_eq!(built(Operation::EmDoc, b"", &records(&[(1, ""), (2, "x")])), bracket(&[(2, "")]));
+    assert_eq!(built(Operation::EmDoc, b"", &records(&[(3, "x\ny")])), bracket(&[(3, "x\ny")]));
+    assert_eq!(built(Operation::EmDoc, b"", b""), bracket(&[]));
+}
+
+#[test]
+fn builder_refuses_in_order() {
+    let bad = b"\xC3";
+    // the length so far passes the room: before all faults of the document
+    let case = |length, room: usize, argument: &[u8]| {
+        let answer = run(Call::Build(WRITE), argument, pattern(0, room).collect(), length);
+        (answer.number, answer.at)
+    };
+    assert_eq!(case(7, 6, bad), (13, 0));
+    assert_eq!(case(u64::MAX, 40_000, bad), (13, 0));
+    assert_eq!(case(32_769, 40_000, bad), (1, 0));
+    assert_eq!(not_built(WRITE, &[1, 0], bad, 40), (2, 0));
+    assert_eq!(not_built(WRITE, &text("a"), bad, 40), (5, 0));
+    assert_eq!(not_built(WRITE, &text("a"), b"bc", 8), (13, 0));
+    assert_eq!(build(WRITE, &text("a"), b"bc", 9).number, 0);
+    // an added document: 1 to 8 in its own places, before 7 of the result
+    let full = records(&[(0x010B, ""); 32]);
+    assert_eq!(not_built(Operation::Doc, &full, &records(&[(1, "a"), (0x010B, "")]), 400), (8, 13));
+    assert_eq!(not_built(Operation::Doc, &full, &[0; 32_769], 400), (1, 0));
+    assert_eq!(not_built(Operation::Doc, &full, &text("a"), 400), (7, 192));
+    assert_eq!(not_built(Operation::Open { block: 0 }, &full, b"", 192), (7, 192));
+    assert_eq!(not_built(Operation::Close { block: 0 }, &full, b"", 192), (6, 192));
+    assert_eq!(not_built(Operation::Close { block: 11 }, &full, b"", 192), (13, 0));
+    // 13 for a result over 32,768 bytes in a room that is larger
+    let large = text(&"a".repeat(32_761));
+    assert_eq!(large.len(), 32_767);
+    assert_eq!(built(WRITE, &large, b"b").len(), 32_768);
+    assert_eq!(not_built(WRITE, &large, b"bc", 40_000), (13, 0));
+    // numbers outside their range, before anything else
+    assert_eq!(not_built(Operation::Write { style: 0 }, &[1, 0], bad, 40), (3, 0));
+    assert_eq!(not_built(Operation::Write { style: 6 }, b"", bad, 40), (3, 0));
+    assert_eq!(not_built(Operation::Open { block: 12 }, &[1, 0], b"", 40), (3, 0));
+}
+
+#[test]
+fn reading_9_7_of_a_result() {
+    let thirty_one = records(&[(0x010B, ""); 31]);
+    // the bracket is the 32nd, so a block of the added document is one too many
+    let added = records(&[(1, "a"), (0x010B, ""), (0x020B, "")]);
+    assert_eq!(not_built(Operation::Doc, &thirty_one, &added, 400), (7, 186 + 6 + 7));
+    // dropped records don't count
+    assert_eq!(build(Operation::EmDoc, &thirty_one, &added, 400).number, 0);
+    // Section3 does
+    let added = records(&[(1, "a\nb")]);
+    assert_eq!(not_built(Operation::EmDoc, &thirty_one, &added, 400), (7, 186 + 6 + 7));
+    let thirty = records(&[(0x010B, ""); 30]);
+    assert_eq!(build(Operation::EmDoc, &thirty, &added, 400).number, 0);
+    let added = records(&[(1, "a\nb"), (0x010B, ""), (0x020B, "")]);
+    assert_eq!(not_built(Operation::EmDoc, &thirty, &added, 400), (7, 180 + 6 + 7 + 6 + 7));
+}
+
+#[test]
+fn draft_is_what_the_builder_builds() {
+    let added = made(|d| d.text("a\nb").literal("c"));
+    let mut draft = Draft::new();
+    draft.write("x", Style::Metavar).em_doc(Draft::new().text("a\nb").literal("c"));
+    let metavar = built(Operation::Write { style: 4 }, b"", b"x");
+    assert_eq!(built(Operation::EmDoc, &metavar, &added), draft.stored());
+}
