@@ -29,6 +29,7 @@ use Rattle.splitter.specs.declared.Step.the-variants.{Take, Done}
 use Rattle.splitter.proofs.Before.{before-part, before-within, before-after}
 use Rattle.splitter.proofs.Steps.{first-none, first-some, from-moves, next-is, chunks-take, chunks-done}
 
+-- at most one character a byte
 adds-most : (b : ℕ) → (if continues b then 0 else 1) ≤ 1
 adds-most b = pick (λ (n : ℕ). n ≤ 1) (continues b) (λ _. omega arith) (λ _. omega arith)
 
@@ -36,6 +37,7 @@ count-short : (s : List ℕ) → characters s ≤ length s
 count-short [] = omega arith
 count-short (b ∷ s) = let h = count-short s in let k = adds-most b in omega arith
 
+-- an answer is a step of the rules where its parts are, and so is what equals it
 module _ (body : List ℕ) (at : ℕ) where
   gives : (s : Step) (p : Piece) (to : ℕ) (d : Code) → chunkOf body p ≡ s .chunk → to ≡ at + s .used → d ≡ s .code → PieceWithin (length body) p
       → Gives body at s (Take p (cursor to d))
@@ -202,6 +204,6 @@ module _ (prefix text : List ℕ) where
   unfolding stripped if_then_else_
   stripped-not e = rw e
 
--- A piece
+-- The text of a piece
 pub text-raw : (body : List ℕ) (from to width : ℕ) (p : Piece) → p ≡ Raw from to width → take (to - from) (drop from body) ≡ textOf body p
 text-raw body from to width p e = rw e

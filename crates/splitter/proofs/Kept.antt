@@ -33,7 +33,7 @@ pub data Holds : List ℕ → Chunk → Type 0 where
 
 -- nothing, or a space or a line end first
 pub data Stops : List ℕ → Type 0 where
-  nothing : Stops []
+  atEnd : Stops []
   stop : (b : ℕ) (s : List ℕ) → isLineEndOrSpace b ≡ true → Stops (b ∷ s)
 
 -- What a step takes up of some bytes: spaces and line ends, what its chunk holds, and spaces and line ends. What it holds goes on to the
@@ -74,7 +74,7 @@ Ends test = (b : ℕ) → test b ≡ true → isLineEndOrSpace b ≡ true
 module _ (test : ℕ → Bool) (t : Ends test) where
   before-stops : (s : List ℕ) → Stops (drop (length (before test s)) s)
   unfolding before
-  before-stops [] = nothing
+  before-stops [] = atEnd
   before-stops (b ∷ s) = pick (λ (w : List ℕ). Stops (drop (length w) (b ∷ s))) (test b) (λ e. stop b s (t b e)) (λ _. before-stops s)
 
   before-step : (s : List ℕ) (width : ℕ) (d : Code) → Accounted s (record { chunk = raw (before test s) width; used = length (before test s); code = d })

@@ -32,7 +32,7 @@ Sound lineBreak = Unit {0}
 
 -- some chunks are UTF-8 and print some characters
 pub data Say : List Chunk → List ℕ → Type 0 where
-  none : Say [] []
+  nothing : Say [] []
   more : {c : Chunk} {cs : List Chunk} {x : List ℕ} → Sound c → Say cs x → Say (c ∷ cs) (said c ++ x)
 
 -- Spaces and line ends are blank
@@ -112,8 +112,8 @@ step-right c b s v = accounted-right (b ∷ s) (step c (b ∷ s)) (step-accounte
 
 chunks-say : (s : List ℕ) (c : Code) (pass : ℕ) → Valid (drop pass s) → Say (chunks c pass s) (printing (drop pass s))
 unfolding chunks printing
-chunks-say [] c zero v = none
-chunks-say [] c (suc pass) v = none
+chunks-say [] c zero v = nothing
+chunks-say [] c (suc pass) v = nothing
 chunks-say (b ∷ s) c (suc pass) v = chunks-say s c pass v
 chunks-say (b ∷ s) c zero v =
     let r = step c (b ∷ s) in

@@ -11,7 +11,7 @@ use Rattle.document.specs.declared.Kind.{Kind}
 use Rattle.base.proofs.Results.{All, given, all-bind}
 use Rattle.document.proofs.Walks.{Sane, Sanes, also}
 use Rattle.splitter.specs.Split.{Chunk, raw, paragraph, lineBreak}
-use Rattle.splitter.proofs.Say.{said, Sound, Say, none, more}
+use Rattle.splitter.proofs.Say.{said, Sound, Say, nothing, more}
 use Rattle.walk.specs.Walk.{Turn, last, walk, body}
 
 -- a property of the state and of what the records so far add to the printing order
@@ -41,7 +41,7 @@ module _ {S : Type 0} (P : List ℕ → S → Type 0) (full : Bool) (on : full �
     (keeps : (c : Chunk) (x : List ℕ) (s : S) → Sound c → P x s → All (P (x ++ said c)) (chunk c s)) where
   pub body-says : (cs : List Chunk) (y x : List ℕ) (s : S) → Say cs y → P x s → All (P (x ++ y)) (body full chunk cs s)
   unfolding body
-  body-says [] y x s none h = given {a = s} (rw (append-nil x) h)
+  body-says [] y x s nothing h = given {a = s} (rw (append-nil x) h)
   body-says (c ∷ cs) y x s (more {x = u} v k) h =
       rw (← append-assoc x (said c) u)
       (all-bind (P (x ++ said c)) (P (x ++ said c ++ u)) _ _ (keeps c x s v h) λ s₁ h₁.
@@ -52,6 +52,6 @@ module _ {S : Type 0} (P : S → Type 0) (full : Bool) (chunk : Chunk → S → 
     (keeps : (c : Chunk) (s : S) → Sound c → P s → All P (chunk c s)) where
   pub body-keeps : (cs : List Chunk) (y : List ℕ) (s : S) → Say cs y → P s → All P (body full chunk cs s)
   unfolding body
-  body-keeps [] y s none h = given h
+  body-keeps [] y s nothing h = given h
   body-keeps (c ∷ cs) y s (more {x = u} v k) h =
       all-bind P P _ _ (keeps c s v h) λ s₁ h₁. pick (All P) (last full c) (λ _. given h₁) (λ _. body-keeps cs u s₁ k h₁)

@@ -2,3 +2,4 @@ pub mod Counter
 pub mod Shown
 pub mod Leads
 pub mod Keeps
+pub mod Clearing

@@ -1,10 +1,29 @@
-// The skip counter (src/buffer.rs), by value.
+// What the renderers share: their answer, and the skip counter (src/buffer.rs), by value.
 ghost use mathlib.Core.Path.{_≡_};
 ghost use mathlib.Core.Bool.{Bool, false};
 ghost use Prim.Native.Nat.{ℕ};
+ghost use lib.ListN.{length};
 ghost use Rattle.document.specs.declared.Block.the-variants as block;
 ghost use Rattle.walk.specs.Walk.{hides, skipParagraph, skipStart, skipEnd};
 ghost use Rattle.walk.specs.Answers.{held};
+ghost use Rattle.walk.specs.Rendered.{standing, filled};
+use document::Refusal;
+
+// The length of the text that stands in the room, or the refusal.
+pub enum Rendered {
+    Text(usize),
+    Refused(Refusal),
+}
+
+// Zeros beyond the text, or everywhere after a refusal.
+pub fn clear_after(room: &mut [u8], answer: Rendered)
+    ensures { λ _. ⌜ now (room .exit) ≡ filled (length (now (room .entry))) (standing (now (room .entry)) answer) ⌝ }
+{
+    match answer {
+        Rendered::Text(n) => room::clear_from(room, n),
+        Rendered::Refused(_) => room::clear_from(room, 0),
+    }
+}
 
 pub struct Skip(pub usize);
 

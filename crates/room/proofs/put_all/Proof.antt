@@ -1,6 +1,5 @@
 use mathlib.Core.Path.{refl}
 use mathlib.Core.Logic.{⊎-elim}
-use Prim.Native.Nat.{_-_}
 use native.Mathlib.Omega.{arith}
 use borrow.Author.Needs.{needs}
 use denote.Ref.{now}

@@ -1,5 +1,4 @@
 use mathlib.Core.Path.{sym}
-use Prim.Native.Nat.{_-_}
 use borrow.Author.Needs.{needs}
 use Rattle.room.proofs.trim_end.Statement.{statement}
 use Rattle.room.proofs.trim_end.Tie as tie

@@ -36,7 +36,7 @@ loop-again : tie.Need-loop-again Inv-loop μ-loop
 loop-again c =
     let r = read (c .before) in
     let e = printing-one (c .before .before .before .before .before .before .before .before .before .args .s .now) (c .before .before .before .before .before .before .before .loop .i) (c .before .before .before .c .given .0 .0) (c .before .before .before .c .given .0 .1 .0) r (sym (c .before .is-white .ensures) ∙ not-true _ (c .if1 .taken)) in
-    (r .room, omega arith, c .before .before .before .before .before .before .before .loop .inv .2 ∙ r .text, omega arith)
+    (omega arith, omega arith, c .before .before .before .before .before .before .before .loop .inv .2 ∙ r .text, omega arith)
 
 loop-less-2 : tie.Need-loop-less-2 Inv-loop μ-loop
 loop-less-2 c = omega (arith, read (c .before))
@@ -45,7 +45,7 @@ loop-again-2 : tie.Need-loop-again-2 Inv-loop μ-loop
 loop-again-2 c =
     let r = read (c .before) in
     let e = printing-not (c .before .before .before .before .before .before .before .before .before .args .s .now) (c .before .before .before .before .before .before .before .loop .i) (c .before .before .before .c .given .0 .0) (c .before .before .before .c .given .0 .1 .0) r (sym (c .before .is-white .ensures) ∙ not-false _ (c .if1 .left)) in
-    (r .room, omega arith, c .before .before .before .before .before .before .before .loop .inv .2 ∙ r .text, omega arith)
+    (omega arith, omega arith, c .before .before .before .before .before .before .before .loop .inv .2 ∙ r .text, omega arith)
 
 returns-2 : tie.Need-returns-2 Inv-loop μ-loop
 returns-2 c = counted-all (c .before .before .before .args .s .now) (c .before .loop .i) (c .before .loop .n) (c .loop-test .left) (c .before .loop .inv .2) (c .before .loop .inv .3)

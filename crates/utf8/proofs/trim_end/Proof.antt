@@ -23,7 +23,7 @@ returns : tie.Need-returns Inv-loop μ-loop
 returns c = left-stop (now (c .before .before .before .before .before .args .s)) (c .before .before .before .loop .e) (c .before .before .before .loop .inv .0) (c .before .white-size .ensures) (c .if1 .taken) (c .before .before .before .loop .inv .1)
 
 sub-e : tie.Need-sub-e Inv-loop μ-loop
-sub-e c = left-fits (now (c .before .before .before .before .before .args .s)) (c .before .before .before .loop .e) (c .before .before .before .loop .inv .0) (c .before .white-size .ensures) (c .if1 .left) .1
+sub-e c = omega (arith, left-fits (now (c .before .before .before .before .before .args .s)) (c .before .before .before .loop .e) (c .before .before .before .loop .inv .0) (c .before .white-size .ensures) (c .if1 .left))
 
 loop-less : tie.Need-loop-less Inv-loop μ-loop
 loop-less c = omega (arith, left-fits (now (c .before .before .before .before .before .args .s)) (c .before .before .before .loop .e) (c .before .before .before .loop .inv .0) (c .before .white-size .ensures) (c .if1 .left))

@@ -1,4 +1,3 @@
-use Prim.Native.Nat.{_-_}
 use borrow.Author.Needs.{needs}
 use Rattle.walk.proofs.Skip.pushed.Statement.{statement}
 use Rattle.walk.proofs.Skip.pushed.Tie as tie

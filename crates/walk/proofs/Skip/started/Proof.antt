@@ -1,5 +1,4 @@
 use mathlib.Core.Path.{refl, sym}
-use Prim.Native.Nat.{_-_}
 use Rattle.walk.proofs.Skip.started.Statement.{statement}
 use Rattle.walk.proofs.Skip.started.Tie as tie
 use Rattle.base.proofs.Choice.{if-false}

@@ -1,0 +1,252 @@
+-- The console (01, 'Port order', src/buffer/console.rs): the text of a document for a width, in a room of some bytes.
+use Prim.Native.Nat.{ℕ, _+_, _-_, max}
+use mathlib.Core.Bool.{Bool, true, false, not, _&&_, _||_}
+use mathlib.Core.List.{List, [], _∷_, _++_}
+use lib.Dec.{leb, ltb, eqb}
+use lib.ListN.{length, replicate}
+use Rattle.base.specs.Choice.{if_then_else_}
+use Rattle.base.specs.Bytes.{endsWith}
+use Rattle.base.specs.Result.{Result, gives, refused, _>>=_}
+use Rattle.base.specs.Stack.{top, pushed, popped}
+use Rattle.utf8.specs.Utf8.{characters}
+use Rattle.utf8.specs.White.{trim}
+use Rattle.document.specs.Document.{Token, index, tokens, check, short}
+use Rattle.document.specs.declared.Block.{Block}
+use Rattle.document.specs.declared.Block.the-variants as block
+use Rattle.document.specs.declared.Kind.{Kind}
+use Rattle.document.specs.declared.Kind.the-variants as kind
+use Rattle.splitter.specs.Split.{Chunk, raw, paragraph, lineBreak, split}
+use Rattle.walk.specs.Walk.{Page, withOut, withKept, withLay, write, empty, skipStart, skipEnd, isStart, isEnd, Turn, walk, body}
+use Rattle.console_rules.specs.declared.Settings.{Settings}
+use Rattle.console_rules.specs.declared.Columns.{Columns}
+use Rattle.console_rules.specs.declared.Bytes.{Bytes}
+use Rattle.console_rules.specs.declared.Lay.{Lay}
+
+-- The tabstop.
+
+-- The widest term so far, whether a term is being counted, and its characters so far.
+pub record Terms : Type 0 where
+  pub widest : ℕ
+  pub counting : Bool
+  pub counted : ℕ
+
+-- 'a nested term's start sets the count back to 0'
+unfoldable pub termStart : Block → Terms → Terms
+termStart b t = if eqb (index b) 4 then record { widest = t .widest; counting = true; counted = 0 } else t
+
+-- 'its end stops the count, and the outer end tests that same count': 'the widest ItemTerm of at most 24 characters'
+unfoldable pub termEnd : Block → Terms → Terms
+termEnd b t =
+    if eqb (index b) 4
+    then record { widest = if ltb (t .widest) (t .counted) && leb (t .counted) 24 then t .counted else t .widest; counting = false; counted = t .counted }
+    else t
+
+unfoldable pub term : Kind → List ℕ → Terms → Terms
+term (kind.Text s) x t = record { widest = t .widest; counting = t .counting; counted = if t .counting then t .counted + characters x else t .counted }
+term (kind.Start b) x t = termStart b t
+term (kind.End b) x t = termEnd b t
+term kind.Unknown x t = t
+
+unfoldable pub terms : List Token → Terms → Terms
+terms [] t = t
+terms (x ∷ ts) t = terms ts (term (x .kind) (x .body) t)
+
+-- '(0 if none), plus 4'
+unfoldable pub tabstop : List Token → ℕ
+tabstop ts = (terms ts (record { widest = 0; counting = false; counted = 0 })) .widest + 4
+
+-- The adjacent gap.
+
+-- a Block start and a Block end come first
+unfoldable pub emptyBlock : List Token → Bool
+emptyBlock [] = false
+emptyBlock (t ∷ []) = false
+emptyBlock (t ∷ u ∷ ts) = isStart 7 (t .kind) && isEnd 7 (u .kind)
+
+-- 'the next Section4 end is followed at once by a Block start and a Block end'
+unfoldable pub gapAhead : List Token → Bool
+gapAhead [] = false
+gapAhead (t ∷ ts) = if isEnd 3 (t .kind) then emptyBlock ts else gapAhead ts
+
+-- The state: the margins are what is kept.
+
+abbrev pub State : Type 0
+State = Page Lay
+
+abbrev pub blankLay : Lay
+blankLay = record { column = record { 0 = 0 }; newline = false; blank = false; gutter = false; skip = 0; gap = false; passing = false }
+
+abbrev pub initial : State
+initial = record { out = []; kept = []; lay = blankLay }
+
+abbrev pub column : ℕ → Lay → Lay
+column x l = record { column = record { 0 = x }; newline = l .newline; blank = l .blank; gutter = l .gutter; skip = l .skip; gap = l .gap; passing = l .passing }
+
+abbrev pub newline : Lay → Lay
+newline l = record { column = l .column; newline = true; blank = l .blank; gutter = l .gutter; skip = l .skip; gap = l .gap; passing = l .passing }
+
+abbrev pub blankLine : Lay → Lay
+blankLine l = record { column = l .column; newline = l .newline; blank = true; gutter = l .gutter; skip = l .skip; gap = l .gap; passing = l .passing }
+
+abbrev pub gutter : Bool → Lay → Lay
+gutter x l = record { column = l .column; newline = l .newline; blank = l .blank; gutter = x; skip = l .skip; gap = l .gap; passing = l .passing }
+
+-- nothing is due any more
+abbrev pub settled : Lay → Lay
+settled l = record { column = l .column; newline = false; blank = false; gutter = false; skip = l .skip; gap = l .gap; passing = l .passing }
+
+abbrev pub skip : ℕ → Lay → Lay
+skip x l = record { column = l .column; newline = l .newline; blank = l .blank; gutter = l .gutter; skip = x; gap = l .gap; passing = l .passing }
+
+abbrev pub gap : Bool → Bool → Lay → Lay
+gap x y l = record { column = l .column; newline = l .newline; blank = l .blank; gutter = l .gutter; skip = l .skip; gap = x; passing = y }
+
+-- Tests.
+
+-- 'a chunk that is just one space'
+unfoldable pub isSpace : List ℕ → Bool
+isSpace [] = false
+isSpace (b ∷ []) = eqb b 0x20
+isSpace (b ∷ c ∷ s) = false
+
+-- 'The fold test .. adds columns so far to the chunk's bytes'
+abbrev pub folds : ℕ → Columns → Bytes → Bool
+folds width c n = ltb width (c .0 + n .0)
+
+module _ (room : ℕ) where
+  -- Chunks.
+
+  unfoldable pub lineEnd : State → Result State
+  lineEnd s = write room (0x0A ∷ []) (withLay (column 0) s)
+
+  -- a line end that is due, unless the text ends with one, and then a blank line that is due, unless it ends with two
+  unfoldable pub dueLine : State → Result State
+  dueLine s = if (s .lay .newline || s .lay .blank) && not (endsWith (0x0A ∷ []) (s .out)) then lineEnd s else gives s
+
+  unfoldable pub dueBlank : State → Result State
+  dueBlank s = if s .lay .blank && not (endsWith (0x0A ∷ 0x0A ∷ []) (s .out)) then write room (0x0A ∷ []) s else gives s
+
+  -- at least two columns before an item's body that starts past the widest tabstop, of which some are written
+  unfoldable pub gap2 : ℕ → State → Result State
+  gap2 written s =
+      if s .lay .gutter && leb 28 (s .lay .column .0) && ltb written 2
+      then write room (replicate (2 - written) 0x20) (withLay (column (s .lay .column .0 + (2 - written))) s)
+      else gives s
+
+  -- the chunk; 'the column then advances by the chunk's width'
+  unfoldable pub place : List ℕ → ℕ → State → Result State
+  place x w s = write room x (withLay (λ l. column (l .column .0 + w) (settled l)) s)
+
+  -- at a margin
+  module _ (margin : ℕ) where
+    -- the columns that are missing to it
+    abbrev pub missing : State → ℕ
+    missing s = margin - s .lay .column .0
+
+    unfoldable pub reach : State → Result State
+    reach s = write room (replicate (missing s) 0x20) (withLay (λ l. column (max (l .column .0) margin) l) s)
+
+    -- refusal 10: 'a chunk to be printed misses more than 50 columns to its margin'; p is the place of its record
+    unfoldable pub pad : ℕ → State → Result State
+    pad p s = if ltb 50 (missing s) then refused 10 p else reach s
+
+    unfoldable pub put : ℕ → List ℕ → ℕ → State → Result State
+    put p x w s = pad p s >>= λ s₁. gap2 (missing s) s₁ >>= λ s₂. place x w s₂
+
+    -- 'A fold trims trailing White_Space first, line ends too'; 'a chunk that is just one space and folds .. is dropped'
+    unfoldable pub fold : ℕ → List ℕ → ℕ → State → Result State
+    fold p x w s = lineEnd (withOut (trim (s .out)) s) >>= λ s₁. if isSpace x then gives s₁ else put p x w s₁
+
+  -- Blocks.
+
+  -- 'Backticks go out at once, before a pending line end, and also while text is skipped.'
+  unfoldable pub tick : State → Result State
+  tick s = write room (0x60 ∷ []) (withLay (λ l. column (l .column .0 + 1) l) s)
+
+  -- a margin so far inside the current one; none is 0
+  abbrev pub indent : ℕ → State → State
+  indent more s = withKept (pushed (top (s .kept) + more) (s .kept)) s
+
+  -- 'every end pops one if there is one'
+  abbrev pub outdent : State → State
+  outdent s = withKept (popped (s .kept)) s
+
+  -- 'Header, Section2, Block push the current one; Section3 plus 2; Section4 plus 2, or 4 with an adjacent gap ..;
+  -- ItemTerm plus 4; ItemBody plus tabstop plus 2. The other five push nothing': g says whether an adjacent gap lies ahead
+  unfoldable pub started : ℕ → Block → Bool → State → Result State
+  started tab block.Header g s = gives (indent 0 (withLay newline s))
+  started tab block.Section2 g s = gives (indent 0 (withLay newline s))
+  started tab block.Section3 g s = gives (indent 2 (withLay newline s))
+  started tab block.Section4 g s =
+      if g then gives (indent 4 (withLay (λ l. gap true (l .passing) (newline l)) s)) else gives (indent 2 (withLay newline s))
+  started tab block.ItemTerm g s = gives (indent 4 (withLay newline s))
+  started tab block.ItemBody g s = gives (indent (tab + 2) (withLay (gutter true) s))
+  started tab block.DefinitionList g s = gives s
+  started tab block.Block g s = gives (indent 0 s)
+  started tab block.InlineBlock g s = gives (withLay (λ l. skip (skipStart block.InlineBlock (l .skip)) l) s)
+  started tab block.TermRef g s = tick s
+  started tab block.Meta g s = gives s
+  started tab block.Mono g s = gives s
+
+  -- an adjacent gap's 'two records are passed over': its Block's margin is pushed and popped again, and no blank line is due
+  unfoldable pub ended : Block → State → Result State
+  ended block.Header s = gives (outdent s)
+  ended block.Section2 s = gives (outdent s)
+  ended block.Section3 s = gives (outdent s)
+  ended block.Section4 s = gives (outdent (withLay (λ l. gap false (l .gap) l) s))
+  ended block.ItemTerm s = gives (outdent s)
+  ended block.ItemBody s = gives (outdent (withLay (gutter false) s))
+  ended block.DefinitionList s = gives (outdent s)
+  ended block.Block s = gives (outdent (if s .lay .passing then withLay (gap false false) s else withLay blankLine s))
+  ended block.InlineBlock s = gives (outdent (withLay (λ l. skip (skipEnd block.InlineBlock (l .skip)) l) s))
+  ended block.TermRef s = tick (outdent s)
+  ended block.Meta s = gives (outdent s)
+  ended block.Mono s = gives (outdent s)
+
+-- Records. What a chunk counts for in the fold test is left open.
+
+module _ (measure : List ℕ → ℕ) (set : Settings) (room : ℕ) where
+  -- a text chunk, of the text record at place p; 'The fold test, made only once something has been written'
+  unfoldable pub rawChunk : ℕ → ℕ → List ℕ → ℕ → State → Result State
+  rawChunk margin p x w s =
+      if empty (s .out) then put room margin p x w s else
+      (dueLine room s >>= λ s₁.
+      dueBlank room s₁ >>= λ s₂.
+      if folds (set .width) (s₂ .lay .column) (record { 0 = measure x }) then fold room margin p x w s₂ else put room margin p x w s₂)
+
+  -- a chunk of the text record at place p; 'a paragraph with `full` off sets it to 1'
+  unfoldable pub chunk : ℕ → ℕ → Chunk → State → Result State
+  chunk margin p (raw x w) s = rawChunk margin p x w s
+  chunk margin p lineBreak s = lineEnd room s
+  chunk margin p paragraph s = lineEnd room s >>= λ s₁. gives (if set .full then s₁ else withLay (skip 1) s₁)
+
+  -- a record, with the tabstop; text is passed over while the skip counter is over 0
+  unfoldable pub turn : ℕ → Turn State
+  turn tab p (kind.Text st) x ts s = if ltb 0 (s .lay .skip) then gives s else body (set .full) (chunk (top (s .kept)) p) (split x) s
+  turn tab p (kind.Start b) x ts s = started room tab b (gapAhead ts) s
+  turn tab p (kind.End b) x ts s = ended room b s
+  turn tab p kind.Unknown x ts s = gives s
+
+  -- a line end or a blank line that is still due is one line end
+  unfoldable pub finish : State → Result State
+  finish s = if s .lay .newline || s .lay .blank then write room (0x0A ∷ []) s else gives s
+
+  -- refusal 9: 'width over 10,000 (console)'
+  unfoldable pub narrow : Result ℕ
+  narrow = if ltb 10_000 (set .width) then refused 9 0 else gives (set .width)
+
+  -- the text, or the refusal: 'Order: 1, 9, then record by record 2 to 7, then 8; then the first of 10 to 13 that the walk meets'
+  unfoldable pub consoleBy : List ℕ → Result (List ℕ)
+  consoleBy s =
+      short s >>= λ _.
+      narrow >>= λ _.
+      check s >>= λ _.
+      walk (turn (tabstop (tokens 0 0 s))) (tokens 0 0 s) initial >>= finish >>= λ st.
+      gives (st .out)
+
+-- the crate's own measure: bytes
+unfoldable pub console : Settings → ℕ → List ℕ → Result (List ℕ)
+console set room s = consoleBy length set room s
+
+-- 'the whole of demand 3': with `full` on, where the rules refuse nothing, the room's bytes up to the length are the text that the
+-- console rules write, and its printing characters are the document's printing order

@@ -1,0 +1,26 @@
+// The types that the console's rules share with its code.
+
+// What the console is asked for: '`full`' and the width, as one record.
+pub struct Settings {
+    pub width: usize,
+    pub full: bool,
+}
+
+// Columns used, and bytes used.
+pub struct Columns(pub usize);
+
+pub struct Bytes(pub usize);
+
+// What the console keeps from one chunk to the next, beside the text and the margins.
+pub struct Lay {
+    pub column: Columns,
+    // a line end, a blank line, a gap of two columns before an item's body is due
+    pub newline: bool,
+    pub blank: bool,
+    pub gutter: bool,
+    // text is skipped while this is over 0
+    pub skip: usize,
+    // the next end of a Section4 has an adjacent gap; the Block after it is being passed over
+    pub gap: bool,
+    pub passing: bool,
+}
