@@ -1,0 +1,26 @@
+use Prim.Native.Nat.{_-_}
+use borrow.Author.Needs.{needs}
+use denote.Ref.{now}
+use lib.ListN.{length, set}
+use Rattle.console.proofs.render_console.Statement.{statement}
+use Rattle.console.proofs.render_console.Tie as tie
+use Rattle.walk.proofs.Clearing.{standing-measured}
+use Rattle.console_rules.specs.Console.{console}
+use Rattle.console.proofs.Order.{cleared-room, demand3}
+
+returns : tie.Need-returns
+returns c =
+    let a = c .before .before .before .before .before .before .before .before .before .before .args in
+    let s = c .before .before .before .before .before .before .rendered in
+    let answer = standing-measured (s .last .1 .1 .0) (s .result) (console (a .set) (length (now (a .room))) (now (a .document))) (s .ensures .same) (s .ensures .fits) in
+    let room = cleared-room (now (a .room)) (s .last .1 .1 .0) (c .before .before .clear-after .last .0) (s .result) (console (a .set) (length (now (a .room))) (now (a .document))) (s .ensures) (s .kept .1 .1 .0) (c .before .before .clear-after .ensures) in
+    (answer, (room, demand3 (a .set) (now (a .document)) (now (a .room)) (c .before .before .clear-after .last .0) (s .result) answer room))
+
+pub render-console-spec : {M : Type 1} → statement M
+render-console-spec =
+    tie.close
+    (tie.spec
+    (λ c κs. search needs)
+    (λ c κs. search needs)
+    (λ c. search needs)
+    returns)

@@ -1,0 +1,229 @@
+use mathlib.Core.Path.{refl, sym, _∙_}
+use Prim.Native.Nat.{_+_, _-_}
+use native.Mathlib.Omega.{arith}
+use borrow.Author.Needs.{needs}
+use borrow.Author.Tests.{ltb-true, ltb-false}
+use denote.Ref.{now}
+use lib.ListN.{length, take, set}
+use Rattle.console.proofs.text_of.Statement.{statement}
+use Rattle.console.proofs.text_of.Tie as tie
+use Rattle.document.specs.declared.Refusal.the-variants as refusal
+use Rattle.splitter.proofs.Answers.{took, ended}
+use Rattle.console.proofs.Standing.{Standing, Writing, stand-first, zeros-shallow, stand-over, stand-known, stand-slot, stand-less, stand-count, stand-column, stand-started, stand-ended, stand-hidden, stands-refused, stands-done, margin-low, body-few, body-first, column-low, body-done, body-stop, body-on, body-deep, placed-deep, placed-at, nearby-at}
+
+abbrev Inv-chunks : tie.InvT-chunks
+Inv-chunks document set tab room₀ margins count m₀ at place start next margin body cursor₀ room m cursor = Writing document set tab (length room₀) body margin place next (take count margins) room m cursor
+
+abbrev μ-chunks : tie.MeasureT-chunks
+μ-chunks document set tab room₀ margins count m₀ at place start next margin body cursor₀ room m cursor = length body + 1 - cursor .at
+
+abbrev Inv-records : tie.InvT-records
+Inv-records document set tab room₀ margins₀ count₀ m₀ at₀ room margins count m at = Standing document set tab (length room₀) room margins count m at
+
+abbrev μ-records : tie.MeasureT-records
+μ-records document set tab room₀ margins₀ count₀ m₀ at₀ room margins count m at = length document - at
+
+records-holds : tie.Need-records-holds Inv-chunks μ-chunks Inv-records μ-records
+records-holds c = stand-first (now (c .before .before .before .args .document)) (c .before .before .before .args .set) (c .before .before .before .args .tab) (now (c .before .before .before .args .room)) _ (c .first-mark .result) (c .before .before .before .pre .2) refl (zeros-shallow 32) (c .first-mark .ensures .0) (c .first-mark .ensures .1)
+
+same-length : tie.Need-same-length Inv-chunks μ-chunks Inv-records μ-records
+same-length c = c .before .before .before .records .inv .size
+
+returns : tie.Need-returns Inv-chunks μ-chunks Inv-records μ-records
+returns c =
+    let s = c .before .before .before .records in
+    stands-refused _ _ _ _ (s .room) refusal.NoRoom (stand-over _ _ _ _ (s .room) (s .margins) (s .count) (s .m) (s .at) (s .inv) (c .if1 .taken))
+
+records-less : tie.Need-records-less Inv-chunks μ-chunks Inv-records μ-records
+records-less c =
+    let s = c .before .before .before .before .before .before .records in
+    absurd (stand-known _ _ _ _ (s .room) (s .margins) (s .count) (s .m) (s .at) (s .inv) (c .before .before .record-at .result) (c .before .before .record-at .ensures) (c .before .before .before .before .before .records-test .taken) (c .enum-told .given .1))
+
+records-again : tie.Need-records-again Inv-chunks μ-chunks Inv-records μ-records
+records-again c =
+    let s = c .before .before .before .before .before .before .records in
+    absurd (stand-known _ _ _ _ (s .room) (s .margins) (s .count) (s .m) (s .at) (s .inv) (c .before .before .record-at .result) (c .before .before .record-at .ensures) (c .before .before .before .before .before .records-test .taken) (c .enum-told .given .1))
+
+started-requires : tie.Need-started-requires Inv-chunks μ-chunks Inv-records μ-records
+started-requires c κs =
+    let s = c .before .before .before .before .before .before .before .before .before .records in
+    let f = stand-slot _ _ _ _ (s .room) (s .margins) (s .count) (s .m) (s .at) (s .inv) (c .before .before .before .before .before .record-at .result) (c .before .before .before .before .before .record-at .ensures) (c .before .before .before .before .before .before .before .before .records-test .taken) _ (c .before .before .before .k .given .1) (c .before .before .before .before .before .before .before .before .before .before .before .before .before .pre .0) in
+    (f .0, f .1, f .2, c .before .before .before .before .before .before .before .before .before .before .before .before .before .pre .1, f .3)
+
+records-less-2 : tie.Need-records-less-2 Inv-chunks μ-chunks Inv-records μ-records
+records-less-2 c =
+    let s = c .before .before .before .before .before .before .before .before .before .before .before .before .before .before .records in
+    stand-less _ _ _ _ (s .room) (s .margins) (s .count) (s .m) (s .at) (s .inv) (c .before .before .before .before .before .before .before .before .before .before .record-at .result) (c .before .before .before .before .before .before .before .before .before .before .record-at .ensures) (c .before .before .before .before .before .before .before .before .before .before .before .before .before .records-test .taken)
+
+records-again-2 : tie.Need-records-again-2 Inv-chunks μ-chunks Inv-records μ-records
+records-again-2 c =
+    let s = c .before .before .before .before .before .before .before .before .before .before .before .before .before .before .records in
+    let g = c .before .before .before .before .started in
+    stand-started _ _ _ _ (s .room) (s .margins) (s .count) (s .m) (s .at) (s .inv) (c .before .before .before .before .before .before .before .before .before .before .record-at .result) (c .before .before .before .before .before .before .before .before .before .before .record-at .ensures) (c .before .before .before .before .before .before .before .before .before .before .before .before .before .records-test .taken) _ (g .last .0) (g .last .1 .0) (g .result .count) (g .result .mark) (c .before .before .before .before .before .before .before .before .k .given .1) (g .kept .0) (g .kept .1 .0) (g .ensures .0) (g .ensures .1 .0) (g .ensures .1 .1)
+
+ended-requires : tie.Need-ended-requires Inv-chunks μ-chunks Inv-records μ-records
+ended-requires c κs =
+    let s = c .before .before .before .before .before .before .before .before .records in
+    stand-column _ _ _ _ (s .room) (s .margins) (s .count) (s .m) (s .at) (s .inv) (c .before .before .before .before .before .before .before .before .before .before .before .before .pre .0)
+
+records-less-3 : tie.Need-records-less-3 Inv-chunks μ-chunks Inv-records μ-records
+records-less-3 c =
+    let s = c .before .before .before .before .before .before .before .before .before .before .before .before .records in
+    stand-less _ _ _ _ (s .room) (s .margins) (s .count) (s .m) (s .at) (s .inv) (c .before .before .before .before .before .before .before .before .record-at .result) (c .before .before .before .before .before .before .before .before .record-at .ensures) (c .before .before .before .before .before .before .before .before .before .before .before .records-test .taken)
+
+records-again-3 : tie.Need-records-again-3 Inv-chunks μ-chunks Inv-records μ-records
+records-again-3 c =
+    let s = c .before .before .before .before .before .before .before .before .before .before .before .before .records in
+    let g = c .before .before .before .ended in
+    stand-ended _ _ _ _ (s .room) (s .margins) (s .count) (s .m) (s .at) (s .inv) (c .before .before .before .before .before .before .before .before .record-at .result) (c .before .before .before .before .before .before .before .before .record-at .ensures) (c .before .before .before .before .before .before .before .before .before .before .before .records-test .taken) _ (g .last .0) (g .result .count) (g .result .mark) (c .before .before .before .before .before .before .k2 .given .1) (g .kept .0) (g .ensures .0 (s .margins) (stand-count _ _ _ _ (s .room) (s .margins) (s .count) (s .m) (s .at) (s .inv))) (g .ensures .1 .0) (g .ensures .1 .1 (s .margins))
+
+records-less-4 : tie.Need-records-less-4 Inv-chunks μ-chunks Inv-records μ-records
+records-less-4 c =
+    let s = c .before .before .before .before .before .before .before .before .before .records in
+    stand-less _ _ _ _ (s .room) (s .margins) (s .count) (s .m) (s .at) (s .inv) (c .before .before .before .before .before .record-at .result) (c .before .before .before .before .before .record-at .ensures) (c .before .before .before .before .before .before .before .before .records-test .taken)
+
+records-again-4 : tie.Need-records-again-4 Inv-chunks μ-chunks Inv-records μ-records
+records-again-4 c =
+    let s = c .before .before .before .before .before .before .before .before .before .records in
+    stand-hidden _ _ _ _ (s .room) (s .margins) (s .count) (s .m) (s .at) (s .inv) (c .before .before .before .before .before .record-at .result) (c .before .before .before .before .before .record-at .ensures) (c .before .before .before .before .before .before .before .before .records-test .taken) _ (c .before .before .before .enum-told2 .given .1) (ltb-true 0 (s .m .lay .skip) (sym (c .before .enabled .ensures) ∙ c .if2 .taken))
+
+sub-body : tie.Need-sub-body Inv-chunks μ-chunks Inv-records μ-records
+sub-body c = c .before .before .before .before .before .before .before .record-at .ensures .order
+
+part-body-start : tie.Need-part-body-start Inv-chunks μ-chunks Inv-records μ-records
+part-body-start c = c .before .before .before .before .before .before .before .record-at .ensures .order
+
+part-body-end : tie.Need-part-body-end Inv-chunks μ-chunks Inv-records μ-records
+part-body-end c = c .before .before .before .before .before .before .before .record-at .ensures .high
+
+chunks-holds : tie.Need-chunks-holds Inv-chunks μ-chunks Inv-records μ-records
+chunks-holds c =
+    let s = c .before .before .before .before .before .before .before .before .before .before .before .before .records in
+    body-first _ _ _ _ (s .room) (s .margins) (s .count) (s .m) (s .at) (s .inv) (c .before .before .before .before .before .before .before .before .record-at .result) (c .before .before .before .before .before .before .before .before .record-at .ensures) (c .before .before .before .before .before .before .before .before .before .before .before .records-test .taken) (c .before .before .before .before .before .before .before .before .before .before .before .before .before .before .before .before .pre .0) _ (c .before .before .before .before .before .before .enum-told2 .given .1) (c .before .top-margin .result) (c .before .top-margin .ensures) (ltb-false 0 (s .m .lay .skip) (sym (c .before .before .before .before .enabled .ensures) ∙ c .before .before .before .if2 .left))
+
+records-less-5 : tie.Need-records-less-5 Inv-chunks μ-chunks Inv-records μ-records
+records-less-5 c =
+    let s = c .before .before .before .before .before .before .before .before .before .before .before .before .before .before .before .before .records in
+    stand-less _ _ _ _ (s .room) (s .margins) (s .count) (s .m) (s .at) (s .inv) (c .before .before .before .before .before .before .before .before .before .before .before .before .record-at .result) (c .before .before .before .before .before .before .before .before .before .before .before .before .record-at .ensures) (c .before .before .before .before .before .before .before .before .before .before .before .before .before .before .before .records-test .taken)
+
+records-again-5 : tie.Need-records-again-5 Inv-chunks μ-chunks Inv-records μ-records
+records-again-5 c =
+    let s = c .before .before .before .before .before .before .before .before .before .before .before .before .before .before .before .before .records in
+    let v = c .before .before .before .chunks in
+    body-done _ _ _ _ (s .room) (s .margins) (s .count) (s .m) (s .at) (s .inv) (c .before .before .before .before .before .before .before .before .before .before .before .before .record-at .result) (c .before .before .before .before .before .before .before .before .before .before .before .before .record-at .ensures) (c .before .before .before .before .before .before .before .before .before .before .before .before .before .before .before .records-test .taken) (c .before .before .before .before .before .before .before .before .before .before .before .before .before .before .before .before .before .before .before .before .pre .0) _ (c .before .before .before .before .before .before .before .before .before .before .enum-told2 .given .1) (c .before .before .before .before .before .top-margin .result) (c .before .before .before .before .before .top-margin .ensures) (v .room) (v .m) (v .cursor) (v .inv) (ended _ (v .cursor) (c .before .before .step-at .result) (c .enum-told3 .given .1) (c .before .before .step-at .ensures))
+
+put-piece-requires : tie.Need-put-piece-requires Inv-chunks μ-chunks Inv-records μ-records
+put-piece-requires c κs =
+    let s = c .before .before .before .before .before .before .before .before .before .before .before .before .before .before .before .before .before .before .records in
+    let v = c .before .before .before .before .before .chunks in
+    let t = took _ (v .cursor) (c .before .before .before .before .step-at .result) _ _ (c .before .before .piece .given .1) (c .before .before .before .before .step-at .ensures) in
+    let low = margin-low _ _ _ _ (s .room) (s .margins) (s .count) (s .m) (s .at) (s .inv) (c .before .before .before .before .before .before .before .before .before .before .before .before .before .before .record-at .result) (c .before .before .before .before .before .before .before .before .before .before .before .before .before .before .record-at .ensures) (c .before .before .before .before .before .before .before .before .before .before .before .before .before .before .before .before .before .records-test .taken) (c .before .before .before .before .before .before .before .before .before .before .before .before .before .before .before .before .before .before .before .before .before .before .pre .0) _ (c .before .before .before .before .before .before .before .before .before .before .before .before .enum-told2 .given .1) (c .before .before .before .before .before .before .before .top-margin .result) (c .before .before .before .before .before .before .before .top-margin .ensures) in (
+      column-low _ _ _ _ (s .room) (s .margins) (s .count) (s .m) (s .at) (s .inv) (c .before .before .before .before .before .before .before .before .before .before .before .before .before .before .record-at .result) (c .before .before .before .before .before .before .before .before .before .before .before .before .before .before .record-at .ensures) (c .before .before .before .before .before .before .before .before .before .before .before .before .before .before .before .before .before .records-test .taken) (c .before .before .before .before .before .before .before .before .before .before .before .before .before .before .before .before .before .before .before .before .before .before .pre .0) _ (c .before .before .before .before .before .before .before .before .before .before .before .before .enum-told2 .given .1) (c .before .before .before .before .before .before .before .top-margin .result) (c .before .before .before .before .before .before .before .top-margin .ensures) (v .room) (v .m) (v .cursor) (v .inv),
+      omega (arith, low),
+      body-few _ _ _ _ (s .room) (s .margins) (s .count) (s .m) (s .at) (s .inv) (c .before .before .before .before .before .before .before .before .before .before .before .before .before .before .record-at .result) (c .before .before .before .before .before .before .before .before .before .before .before .before .before .before .record-at .ensures) (c .before .before .before .before .before .before .before .before .before .before .before .before .before .before .before .before .before .records-test .taken) (c .before .before .before .before .before .before .before .before .before .before .before .before .before .before .before .before .before .before .before .before .before .before .pre .0) _ (c .before .before .before .before .before .before .before .before .before .before .before .before .enum-told2 .given .1) (c .before .before .before .before .before .before .before .top-margin .result) (c .before .before .before .before .before .before .before .top-margin .ensures),
+      t .piece,
+    )
+
+same-length-2 : tie.Need-same-length-2 Inv-chunks μ-chunks Inv-records μ-records
+same-length-2 c = c .before .before .before .before .before .put-piece .kept .0 ∙ c .before .before .before .before .before .before .before .before .before .before .before .chunks .inv .size ∙ c .before .before .before .before .before .before .before .before .before .before .before .before .before .before .before .before .before .before .before .before .before .before .before .before .records .inv .size
+
+returns-2 : tie.Need-returns-2 Inv-chunks μ-chunks Inv-records μ-records
+returns-2 c =
+    let s = c .before .before .before .before .before .before .before .before .before .before .before .before .before .before .before .before .before .before .before .before .before .before .before .before .records in
+    let v = c .before .before .before .before .before .before .before .before .before .before .before .chunks in
+    let g = c .before .before .before .before .before .put-piece in
+    stands-refused _ _ _ _ (g .last .0) (refusal.BeyondMargin _)
+    (body-deep _ _ _ _ (s .room) (s .margins) (s .count) (s .m) (s .at) (s .inv) (c .before .before .before .before .before .before .before .before .before .before .before .before .before .before .before .before .before .before .before .before .record-at .result) (c .before .before .before .before .before .before .before .before .before .before .before .before .before .before .before .before .before .before .before .before .record-at .ensures) (c .before .before .before .before .before .before .before .before .before .before .before .before .before .before .before .before .before .before .before .before .before .before .before .records-test .taken) (c .before .before .before .before .before .before .before .before .before .before .before .before .before .before .before .before .before .before .before .before .before .before .before .before .before .before .before .before .pre .0) _ (c .before .before .before .before .before .before .before .before .before .before .before .before .before .before .before .before .before .before .enum-told2 .given .1) (c .before .before .before .before .before .before .before .before .before .before .before .before .before .top-margin .result) (c .before .before .before .before .before .before .before .before .before .before .before .before .before .top-margin .ensures) (v .room) (v .m) (v .cursor) (v .inv) _ _
+    (took _ (v .cursor) (c .before .before .before .before .before .before .before .before .before .before .step-at .result) _ _ (c .before .before .before .before .before .before .before .before .piece .given .1) (c .before .before .before .before .before .before .before .before .before .before .step-at .ensures)) _ (placed-deep (g .last .0) (take (s .count) (s .margins)) (g .result) _ _ (c .before .placed .given .1) (g .ensures .0 (take (s .count) (s .margins)))))
+
+records-less-6 : tie.Need-records-less-6 Inv-chunks μ-chunks Inv-records μ-records
+records-less-6 c =
+    let s = c .before .before .before .before .before .before .before .before .before .before .before .before .before .before .before .before .before .before .before .before .before .before .before .before .before .before .records in
+    stand-less _ _ _ _ (s .room) (s .margins) (s .count) (s .m) (s .at) (s .inv) (c .before .before .before .before .before .before .before .before .before .before .before .before .before .before .before .before .before .before .before .before .before .before .record-at .result) (c .before .before .before .before .before .before .before .before .before .before .before .before .before .before .before .before .before .before .before .before .before .before .record-at .ensures) (c .before .before .before .before .before .before .before .before .before .before .before .before .before .before .before .before .before .before .before .before .before .before .before .before .before .records-test .taken)
+
+records-again-6 : tie.Need-records-again-6 Inv-chunks μ-chunks Inv-records μ-records
+records-again-6 c =
+    let s = c .before .before .before .before .before .before .before .before .before .before .before .before .before .before .before .before .before .before .before .before .before .before .before .before .before .before .records in
+    let v = c .before .before .before .before .before .before .before .before .before .before .before .before .before .chunks in
+    let g = c .before .before .before .before .before .before .before .put-piece in
+    body-stop _ _ _ _ (s .room) (s .margins) (s .count) (s .m) (s .at) (s .inv) (c .before .before .before .before .before .before .before .before .before .before .before .before .before .before .before .before .before .before .before .before .before .before .record-at .result) (c .before .before .before .before .before .before .before .before .before .before .before .before .before .before .before .before .before .before .before .before .before .before .record-at .ensures) (c .before .before .before .before .before .before .before .before .before .before .before .before .before .before .before .before .before .before .before .before .before .before .before .before .before .records-test .taken) (c .before .before .before .before .before .before .before .before .before .before .before .before .before .before .before .before .before .before .before .before .before .before .before .before .before .before .before .before .before .before .pre .0) _ (c .before .before .before .before .before .before .before .before .before .before .before .before .before .before .before .before .before .before .before .before .enum-told2 .given .1) (c .before .before .before .before .before .before .before .before .before .before .before .before .before .before .before .top-margin .result) (c .before .before .before .before .before .before .before .before .before .before .before .before .before .before .before .top-margin .ensures) (v .room) (v .m) (v .cursor) (v .inv) _ _
+    (took _ (v .cursor) (c .before .before .before .before .before .before .before .before .before .before .before .before .step-at .result) _ _ (c .before .before .before .before .before .before .before .before .before .before .piece .given .1) (c .before .before .before .before .before .before .before .before .before .before .before .before .step-at .ensures)) (g .last .0) _ (g .kept .0)
+    (placed-at (g .last .0) (take (s .count) (s .margins)) (g .result) _ _ (c .before .before .before .placed2 .given .1) (g .ensures .0 (take (s .count) (s .margins)))) (nearby-at _ _ (g .result) _ (c .before .before .before .placed2 .given .1) (g .ensures .1))
+    (sym (c .before .stops-at .ensures _) ∙ c .if3 .taken)
+
+chunks-less : tie.Need-chunks-less Inv-chunks μ-chunks Inv-records μ-records
+chunks-less c =
+    let t = took _ (c .before .before .before .before .before .before .before .before .before .before .before .before .before .chunks .cursor) (c .before .before .before .before .before .before .before .before .before .before .before .before .step-at .result) _ _ (c .before .before .before .before .before .before .before .before .before .before .piece .given .1) (c .before .before .before .before .before .before .before .before .before .before .before .before .step-at .ensures) in
+    omega (arith, t .further, t .short)
+
+chunks-again : tie.Need-chunks-again Inv-chunks μ-chunks Inv-records μ-records
+chunks-again c =
+    let s = c .before .before .before .before .before .before .before .before .before .before .before .before .before .before .before .before .before .before .before .before .before .before .before .before .before .before .records in
+    let v = c .before .before .before .before .before .before .before .before .before .before .before .before .before .chunks in
+    let g = c .before .before .before .before .before .before .before .put-piece in
+    body-on _ _ _ _ (s .room) (s .margins) (s .count) (s .m) (s .at) (s .inv) (c .before .before .before .before .before .before .before .before .before .before .before .before .before .before .before .before .before .before .before .before .before .before .record-at .result) (c .before .before .before .before .before .before .before .before .before .before .before .before .before .before .before .before .before .before .before .before .before .before .record-at .ensures) (c .before .before .before .before .before .before .before .before .before .before .before .before .before .before .before .before .before .before .before .before .before .before .before .before .before .records-test .taken) (c .before .before .before .before .before .before .before .before .before .before .before .before .before .before .before .before .before .before .before .before .before .before .before .before .before .before .before .before .before .before .pre .0) _ (c .before .before .before .before .before .before .before .before .before .before .before .before .before .before .before .before .before .before .before .before .enum-told2 .given .1) (c .before .before .before .before .before .before .before .before .before .before .before .before .before .before .before .top-margin .result) (c .before .before .before .before .before .before .before .before .before .before .before .before .before .before .before .top-margin .ensures) (v .room) (v .m) (v .cursor) (v .inv) _ _
+    (took _ (v .cursor) (c .before .before .before .before .before .before .before .before .before .before .before .before .step-at .result) _ _ (c .before .before .before .before .before .before .before .before .before .before .piece .given .1) (c .before .before .before .before .before .before .before .before .before .before .before .before .step-at .ensures)) (g .last .0) _ (g .kept .0)
+    (placed-at (g .last .0) (take (s .count) (s .margins)) (g .result) _ _ (c .before .before .before .placed2 .given .1) (g .ensures .0 (take (s .count) (s .margins)))) (nearby-at _ _ (g .result) _ (c .before .before .before .placed2 .given .1) (g .ensures .1))
+    (sym (c .before .stops-at .ensures _) ∙ c .if3 .left)
+
+same-length-3 : tie.Need-same-length-3 Inv-chunks μ-chunks Inv-records μ-records
+same-length-3 c = c .before .before .finish .kept .0 ∙ c .before .before .before .before .before .records .inv .size
+
+returns-3 : tie.Need-returns-3 Inv-chunks μ-chunks Inv-records μ-records
+returns-3 c =
+    let s = c .before .before .before .before .before .records in
+    stands-done _ _ _ _ (s .room) (c .before .before .finish .last .0) (s .margins) (s .count) (s .m) (s .at) (c .before .before .finish .result) (s .inv) (c .before .before .before .before .records-test .left) (c .before .before .finish .ensures (take (s .count) (s .margins)))
+
+pub text-of-spec : {M : Type 1} → statement M
+text-of-spec =
+    tie.close
+    (tie.spec
+    Inv-chunks
+    μ-chunks
+    Inv-records
+    μ-records
+    (λ c κs. search needs)
+    records-holds
+    same-length
+    returns
+    (λ c κs. search needs)
+    (λ c. search needs)
+    records-less
+    records-again
+    (λ c. search needs)
+    (λ c. search needs)
+    started-requires
+    records-less-2
+    records-again-2
+    (λ c. search needs)
+    ended-requires
+    records-less-3
+    records-again-3
+    (λ c. search needs)
+    (λ c κs. search needs)
+    records-less-4
+    records-again-4
+    (λ c. search needs)
+    (λ c κs. search needs)
+    sub-body
+    part-body-start
+    part-body-end
+    chunks-holds
+    (λ c κs. search needs)
+    (λ c. search needs)
+    (λ c. search needs)
+    records-less-5
+    records-again-5
+    put-piece-requires
+    (λ c. search needs)
+    same-length-2
+    returns-2
+    (λ c. search needs)
+    (λ c κs. search needs)
+    records-less-6
+    records-again-6
+    chunks-less
+    chunks-again
+    (λ c κs. search needs)
+    same-length-3
+    returns-3)

@@ -1,0 +1,167 @@
+// The console renderer (src/buffer/console.rs).
+ghost use mathlib.Core.Path.{_≡_};
+ghost use mathlib.Core.List.{List, []};
+ghost use Prim.Native.Nat.{ℕ, _≤_};
+ghost use lib.ListN.{length};
+ghost use Rattle.base.specs.Result.{gives};
+ghost use Rattle.document.specs.Document.{check};
+ghost use Rattle.walk.specs.Rendered.{answered, measured, filled};
+ghost use Rattle.console_rules.specs.Console.{blankLay, console};
+ghost use Rattle.console.specs.Answers.{textBy, textAfter, Stands, Demand3, wide};
+use console_parts::Mark;
+use console_parts::Placed;
+use console_rules::Columns;
+use console_rules::Lay;
+use console_rules::Settings;
+use document::Checked;
+use document::Kind;
+use document::Refusal;
+use splitter::Code;
+use splitter::Cursor;
+use splitter::Step;
+use walk::Rendered;
+use walk::Skip;
+
+// `Doc::monochrome`: the width is 100.
+pub fn monochrome(document: &[u8], full: bool, room: &mut [u8]) -> Rendered
+    ensures answer { λ r. ⌜ answered r ≡ measured (console (wide full) (length (now (room .entry))) (now (document .entry))) ⌝ }
+    ensures room { λ _. ⌜ now (room .exit) ≡ filled (length (now (room .entry))) (console (wide full) (length (now (room .entry))) (now (document .entry))) ⌝ }
+    ensures demand3 { λ r. ⌜ Demand3 (wide full) (now (document .entry)) (now (room .entry)) (now (room .exit)) r ⌝ }
+{
+    render_console(document, Settings { width: 100, full }, room)
+}
+
+// The text of a document in a room, or its refusal. The room is 0 beyond the text, and all 0 after a refusal.
+pub fn render_console(document: &[u8], set: Settings, room: &mut [u8]) -> Rendered
+    ensures answer { λ r. ⌜ answered r ≡ measured (console set (length (now (room .entry))) (now (document .entry))) ⌝ }
+    ensures room { λ _. ⌜ now (room .exit) ≡ filled (length (now (room .entry))) (console set (length (now (room .entry))) (now (document .entry))) ⌝ }
+    ensures demand3 { λ r. ⌜ Demand3 set (now (document .entry)) (now (room .entry)) (now (room .exit)) r ⌝ }
+{
+    let answer = rendered(document, set, room);
+    walk::clear_after(room, answer);
+    answer
+}
+
+// Refusals 1, 9, then 2 to 8; then the walk.
+fn rendered(document: &[u8], set: Settings, room: &mut [u8]) -> Rendered
+    ensures { λ r. ⌜ Stands (now (room .exit)) r (console set (length (now (room .entry))) (now (document .entry))) ⌝ }
+{
+    if 32_768 < document.len() {
+        return Rendered::Refused(Refusal::TooLong);
+    }
+    if 10_000 < set.width {
+        return Rendered::Refused(Refusal::TooWide);
+    }
+    let verdict = document::check(document);
+    match verdict {
+        Checked::Refused(a) => Rendered::Refused(a),
+        Checked::Accepted => {
+            let tab = console_parts::tabstop_of(document);
+            text_of(document, set, tab, room)
+        }
+    }
+}
+
+// A mark before anything is written.
+fn first_mark() -> Mark
+    ensures { λ r. ⌜ (r .len ≡ 0) × (r .lay ≡ blankLay) ⌝ }
+{
+    Mark {
+        len: 0,
+        lay: Lay {
+            column: Columns(0),
+            newline: false,
+            blank: false,
+            gutter: false,
+            skip: 0,
+            gap: false,
+            passing: false,
+        },
+    }
+}
+
+// What is due at the end.
+fn finish(room: &mut [u8], m: Mark, set: Settings) -> Rendered
+    ensures { λ r. ⌜ ((kept : List ℕ) → Stands (now (room .exit)) r (textAfter set (now (room .entry)) kept m)) ⌝ }
+{
+    let a = console_parts::last_line(room, m);
+    if room.len() < a.len {
+        return Rendered::Refused(Refusal::NoRoom);
+    }
+    Rendered::Text(a.len)
+}
+
+// The walk over the records of an accepted document.
+fn text_of(document: &[u8], set: Settings, tab: usize, room: &mut [u8]) -> Rendered
+    requires { ⌜ (length (now document) ≤ 32_768) × (tab ≤ 28) × (check (now document) ≡ gives []) ⌝ }
+    ensures { λ r. ⌜ Stands (now (room .exit)) r (textBy set (length (now (room .entry))) tab (now (document .entry))) ⌝ }
+{
+    let mut margins: [usize; 32] = [0; 32];
+    let mut count: usize = 0;
+    let mut m = first_mark();
+    let mut at: usize = 0;
+    'records: while at < document.len() {
+        if room.len() < m.len {
+            return Rendered::Refused(Refusal::NoRoom);
+        }
+        let h = document::record_at(document, at);
+        let place = at;
+        let start = h.start;
+        let next = h.next;
+        let k = h.kind;
+        at = next;
+        match k {
+            Kind::Unknown => {}
+            Kind::Start(b) => {
+                let s = console_parts::started(
+                    room,
+                    &mut margins,
+                    m,
+                    count,
+                    b,
+                    tab,
+                    document,
+                    next,
+                );
+                m = s.mark;
+                count = s.count;
+            }
+            Kind::End(b) => {
+                let s = console_parts::ended(room, m, count, b);
+                m = s.mark;
+                count = s.count;
+            }
+            Kind::Text(_) => {
+                let lay = m.lay;
+                if Skip(lay.skip).enabled() {
+                    continue 'records;
+                }
+                let margin = console_parts::top_margin(&margins, count);
+                let body = &document[start..next];
+                let mut cursor = Cursor {
+                    at: 0,
+                    code: Code::No,
+                };
+                'chunks: loop {
+                    let Step::Take(piece, after) = splitter::step_at(body, cursor) else {
+                        break 'chunks;
+                    };
+                    let placed = console_parts::put_piece(room, m, margin, place, body, piece, set);
+                    match placed {
+                        Placed::Deep(p) => {
+                            return Rendered::Refused(Refusal::BeyondMargin(p));
+                        }
+                        Placed::At(p) => {
+                            m = p;
+                        }
+                    }
+                    if console_parts::stops_at(piece, set.full) {
+                        continue 'records;
+                    }
+                    cursor = after;
+                }
+            }
+        }
+    }
+    finish(room, m, set)
+}

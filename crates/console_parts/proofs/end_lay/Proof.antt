@@ -1,0 +1,57 @@
+use mathlib.Core.Path.{_≡_, refl, sym, ap, _∙_, subst}
+use mathlib.Core.List.{List, [], _∷_, _++_}
+use mathlib.Core.Bool.{Bool, true, false, not, _&&_, _||_}
+use mathlib.Core.Logic.{⊎-elim}
+use Prim.Native.Nat.{ℕ, suc, _+_, _-_, _*_, _≤_, _<_, max}
+use native.Mathlib.Omega.{arith}
+use native.Mathlib.Numerals.{add-one}
+use borrow.Author.Needs.{needs}
+use borrow.Author.Tests.{ltb-true, ltb-false, leb-true, leb-false, eqb-true, not-true, not-false, lt-ltb, le-ltb, le-leb, lt-leb, eq-eqb, ne-eqb}
+use denote.Ref.{now}
+use lib.Dec.{leb, ltb, eqb}
+use lib.ListN.{length, take, drop, getD, set, replicate, length-set}
+use Rattle.console_parts.proofs.end_lay.Statement.{statement}
+use Rattle.console_parts.proofs.end_lay.Tie as tie
+use Rattle.base.specs.Choice.{if_then_else_}
+use Rattle.document.specs.declared.Block.the-variants as block
+use Rattle.walk.proofs.Counter.{skip-end-most}
+use Rattle.console_parts.specs.Blocks.{endLay}
+
+returns : tie.Need-returns
+unfolding endLay if_then_else_
+returns c = (rw (eq-eqb _ _ (c .if1 .taken)), refl, omega arith)
+
+returns-2 : tie.Need-returns-2
+unfolding endLay if_then_else_
+returns-2 c = (rw (ne-eqb _ _ (c .before .if1 .left), eq-eqb _ _ (c .if2 .taken)), refl, omega arith)
+
+returns-3 : tie.Need-returns-3
+unfolding endLay if_then_else_
+returns-3 c = (rw (ne-eqb _ _ (c .before .before .before .if1 .left), ne-eqb _ _ (c .before .before .if2 .left), eq-eqb _ _ (c .before .if3 .taken), c .if4 .taken), refl, omega arith)
+
+returns-4 : tie.Need-returns-4
+unfolding endLay if_then_else_
+returns-4 c = (rw (ne-eqb _ _ (c .before .before .before .if1 .left), ne-eqb _ _ (c .before .before .if2 .left), eq-eqb _ _ (c .before .if3 .taken), c .if4 .left), refl, omega arith)
+
+returns-5 : tie.Need-returns-5
+unfolding endLay if_then_else_
+returns-5 c =
+    let l = c .before .before .before .before .before .args .l in
+    let e = c .popped .ensures in
+    (rw (ne-eqb _ _ (c .before .before .before .before .if1 .left), ne-eqb _ _ (c .before .before .before .if2 .left), ne-eqb _ _ (c .before .before .if3 .left), eq-eqb _ _ (c .before .if5 .taken), e), refl, omega (arith, e, skip-end-most block.InlineBlock (l .skip)))
+
+returns-6 : tie.Need-returns-6
+unfolding endLay if_then_else_
+returns-6 c = (rw (ne-eqb _ _ (c .before .before .before .if1 .left), ne-eqb _ _ (c .before .before .if2 .left), ne-eqb _ _ (c .before .if3 .left), ne-eqb _ _ (c .if5 .left)), refl, omega arith)
+
+pub end-lay-spec : {M : Type 1} → statement M
+end-lay-spec =
+    tie.close
+    (tie.spec
+    returns
+    returns-2
+    returns-3
+    returns-4
+    (λ c κs. search needs)
+    returns-5
+    returns-6)

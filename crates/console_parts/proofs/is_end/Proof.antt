@@ -1,0 +1,32 @@
+use mathlib.Core.Path.{_≡_, refl, sym, ap, _∙_, subst}
+use mathlib.Core.List.{List, [], _∷_, _++_}
+use mathlib.Core.Bool.{Bool, true, false, not, _&&_, _||_}
+use mathlib.Core.Logic.{⊎-elim}
+use Prim.Native.Nat.{ℕ, suc, _+_, _-_, _*_, _≤_, _<_, max}
+use native.Mathlib.Omega.{arith}
+use native.Mathlib.Numerals.{add-one}
+use borrow.Author.Needs.{needs}
+use borrow.Author.Tests.{ltb-true, ltb-false, leb-true, leb-false, eqb-true, not-true, not-false, lt-ltb, le-ltb, le-leb, lt-leb, eq-eqb, ne-eqb}
+use denote.Ref.{now}
+use lib.Dec.{leb, ltb, eqb}
+use lib.ListN.{length, take, drop, getD, set, replicate, length-set}
+use Rattle.console_parts.proofs.is_end.Statement.{statement}
+use Rattle.console_parts.proofs.is_end.Tie as tie
+use Rattle.walk.specs.Walk.{isEnd}
+
+returns-3 : tie.Need-returns-3
+returns-3 c = ap (λ (n : ℕ). eqb n (c .before .before .before .before .args .i)) (c .index-of .ensures) ∙ sym (ap (isEnd (c .before .before .before .before .args .i)) (c .before .before .k .given .1))
+
+pub is-end-spec : {M : Type 1} → statement M
+is-end-spec =
+    tie.close
+    (tie.spec
+    (λ c. search needs)
+    (λ c. search needs)
+    (λ c. search needs)
+    (λ c κs. search needs)
+    (λ c. search needs)
+    (λ c. search needs)
+    (λ c. search needs)
+    returns-3
+    (λ c. search needs))

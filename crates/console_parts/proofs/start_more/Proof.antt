@@ -1,0 +1,52 @@
+use mathlib.Core.Path.{_≡_, refl, sym, ap, _∙_, subst}
+use mathlib.Core.List.{List, [], _∷_, _++_}
+use mathlib.Core.Bool.{Bool, true, false, not, _&&_, _||_}
+use mathlib.Core.Logic.{⊎-elim}
+use Prim.Native.Nat.{ℕ, suc, _+_, _-_, _*_, _≤_, _<_, max}
+use native.Mathlib.Omega.{arith}
+use native.Mathlib.Numerals.{add-one}
+use borrow.Author.Needs.{needs}
+use borrow.Author.Tests.{ltb-true, ltb-false, leb-true, leb-false, eqb-true, not-true, not-false, lt-ltb, le-ltb, le-leb, lt-leb, eq-eqb, ne-eqb}
+use denote.Ref.{now}
+use lib.Dec.{leb, ltb, eqb}
+use lib.ListN.{length, take, drop, getD, set, replicate, length-set}
+use Rattle.console_parts.proofs.start_more.Statement.{statement}
+use Rattle.console_parts.proofs.start_more.Tie as tie
+use Rattle.base.specs.Choice.{if_then_else_}
+use Rattle.console_parts.specs.Blocks.{startMore}
+
+returns : tie.Need-returns
+unfolding startMore if_then_else_
+returns c = (rw (eq-eqb _ _ (c .if1 .taken)), omega arith)
+
+returns-2 : tie.Need-returns-2
+unfolding startMore if_then_else_
+returns-2 c = (rw (ne-eqb _ _ (c .before .before .if1 .left), eq-eqb _ _ (c .before .if2 .taken), c .if3 .taken), omega arith)
+
+returns-3 : tie.Need-returns-3
+unfolding startMore if_then_else_
+returns-3 c = (rw (ne-eqb _ _ (c .before .before .if1 .left), eq-eqb _ _ (c .before .if2 .taken), c .if3 .left), omega arith)
+
+returns-4 : tie.Need-returns-4
+unfolding startMore if_then_else_
+returns-4 c = (rw (ne-eqb _ _ (c .before .before .if1 .left), ne-eqb _ _ (c .before .if2 .left), eq-eqb _ _ (c .if4 .taken)), omega arith)
+
+returns-5 : tie.Need-returns-5
+unfolding startMore if_then_else_
+returns-5 c = (rw (ne-eqb _ _ (c .before .before .before .if1 .left), ne-eqb _ _ (c .before .before .if2 .left), ne-eqb _ _ (c .before .if4 .left), eq-eqb _ _ (c .if5 .taken)), omega arith)
+
+returns-6 : tie.Need-returns-6
+unfolding startMore if_then_else_
+returns-6 c = (rw (ne-eqb _ _ (c .before .before .before .if1 .left), ne-eqb _ _ (c .before .before .if2 .left), ne-eqb _ _ (c .before .if4 .left), ne-eqb _ _ (c .if5 .left)), omega arith)
+
+pub start-more-spec : {M : Type 1} → statement M
+start-more-spec =
+    tie.close
+    (tie.spec
+    returns
+    returns-2
+    returns-3
+    returns-4
+    (λ c. search needs)
+    returns-5
+    returns-6)

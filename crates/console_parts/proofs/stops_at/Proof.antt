@@ -1,0 +1,41 @@
+use mathlib.Core.Path.{_≡_, refl, sym, ap, _∙_, subst}
+use mathlib.Core.List.{List, [], _∷_, _++_}
+use mathlib.Core.Bool.{Bool, true, false, not, _&&_, _||_}
+use mathlib.Core.Logic.{⊎-elim}
+use Prim.Native.Nat.{ℕ, suc, _+_, _-_, _*_, _≤_, _<_, max}
+use native.Mathlib.Omega.{arith}
+use native.Mathlib.Numerals.{add-one}
+use borrow.Author.Needs.{needs}
+use borrow.Author.Tests.{ltb-true, ltb-false, leb-true, leb-false, eqb-true, not-true, not-false, lt-ltb, le-ltb, le-leb, lt-leb, eq-eqb, ne-eqb}
+use denote.Ref.{now}
+use lib.Dec.{leb, ltb, eqb}
+use lib.ListN.{length, take, drop, getD, set, replicate, length-set}
+use Rattle.console_parts.proofs.stops_at.Statement.{statement}
+use Rattle.console_parts.proofs.stops_at.Tie as tie
+use Rattle.splitter.specs.Answers.{chunkOf}
+use Rattle.walk.specs.Walk.{last}
+
+returns : tie.Need-returns
+returns c = λ body. sym (ap (λ p. last (c .before .before .args .full) (chunkOf body p)) (c .enum-told .given .1))
+
+returns-2 : tie.Need-returns-2
+returns-2 c = λ body. sym (ap (λ p. last (c .before .before .args .full) (chunkOf body p)) (c .enum-told2 .given .1))
+
+returns-3 : tie.Need-returns-3
+returns-3 c = λ body. sym (ap (λ p. last (c .before .before .args .full) (chunkOf body p)) (c .enum-told3 .given .1))
+
+returns-4 : tie.Need-returns-4
+returns-4 c = λ body. sym (ap (λ p. last (c .before .before .args .full) (chunkOf body p)) (c .enum-told4 .given .1))
+
+pub stops-at-spec : {M : Type 1} → statement M
+stops-at-spec =
+    tie.close
+    (tie.spec
+    (λ c. search needs)
+    (λ c. search needs)
+    (λ c. search needs)
+    (λ c. search needs)
+    returns
+    returns-2
+    returns-3
+    returns-4)

@@ -1,0 +1,38 @@
+use mathlib.Core.Path.{_≡_, refl, sym, ap, _∙_, subst}
+use mathlib.Core.List.{List, [], _∷_, _++_}
+use mathlib.Core.Bool.{Bool, true, false, not, _&&_, _||_}
+use mathlib.Core.Logic.{⊎-elim}
+use Prim.Native.Nat.{ℕ, suc, _+_, _-_, _*_, _≤_, _<_, max}
+use native.Mathlib.Omega.{arith}
+use native.Mathlib.Numerals.{add-one}
+use borrow.Author.Needs.{needs}
+use borrow.Author.Tests.{ltb-true, ltb-false, leb-true, leb-false, eqb-true, not-true, not-false, lt-ltb, le-ltb, le-leb, lt-leb, eq-eqb, ne-eqb}
+use denote.Ref.{now}
+use lib.Dec.{leb, ltb, eqb}
+use lib.ListN.{length, take, drop, getD, set, replicate, length-set}
+use Rattle.console_parts.proofs.term_end.Statement.{statement}
+use Rattle.console_parts.proofs.term_end.Tie as tie
+use Rattle.console_parts.specs.Counted.{termsOf}
+use Rattle.console_parts.proofs.Scans.{end-term, end-other, wider, not-wider, too-wide}
+
+returns : tie.Need-returns
+returns c = end-term (c .before .before .before .before .before .before .args .b) (termsOf (c .before .before .before .before .before .before .args .t)) _ (c .before .before .before .before .before .index-of .ensures) _ (c .before .before .before .before .if1 .taken) (wider _ _ (c .before .before .if2 .taken) (c .if3 .taken))
+
+returns-2 : tie.Need-returns-2
+returns-2 c = end-term (c .before .before .before .before .before .before .args .b) (termsOf (c .before .before .before .before .before .before .args .t)) _ (c .before .before .before .before .before .index-of .ensures) _ (c .before .before .before .before .if1 .taken) (too-wide _ _ (c .before .before .if2 .taken) (c .if3 .left))
+
+returns-3 : tie.Need-returns-3
+returns-3 c = end-term (c .before .before .before .before .args .b) (termsOf (c .before .before .before .before .args .t)) _ (c .before .before .before .index-of .ensures) _ (c .before .before .if1 .taken) (not-wider _ _ (c .if2 .left))
+
+returns-4 : tie.Need-returns-4
+returns-4 c = end-other (c .before .before .args .b) (termsOf (c .before .before .args .t)) _ (c .before .index-of .ensures) (c .if1 .left)
+
+pub term-end-spec : {M : Type 1} → statement M
+term-end-spec =
+    tie.close
+    (tie.spec
+    (λ c κs. search needs)
+    returns
+    returns-2
+    returns-3
+    returns-4)

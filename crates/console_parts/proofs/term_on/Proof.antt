@@ -1,0 +1,66 @@
+use mathlib.Core.Path.{_≡_, refl, sym, ap, _∙_, subst}
+use mathlib.Core.List.{List, [], _∷_, _++_}
+use mathlib.Core.Bool.{Bool, true, false, not, _&&_, _||_}
+use mathlib.Core.Logic.{⊎-elim}
+use Prim.Native.Nat.{ℕ, suc, _+_, _-_, _*_, _≤_, _<_, max}
+use native.Mathlib.Omega.{arith}
+use native.Mathlib.Numerals.{add-one}
+use borrow.Author.Needs.{needs}
+use borrow.Author.Tests.{ltb-true, ltb-false, leb-true, leb-false, eqb-true, not-true, not-false, lt-ltb, le-ltb, le-leb, lt-leb, eq-eqb, ne-eqb}
+use denote.Ref.{now}
+use lib.Dec.{leb, ltb, eqb}
+use lib.ListN.{length, take, drop, getD, set, replicate, length-set}
+use Rattle.console_parts.proofs.term_on.Statement.{statement}
+use Rattle.console_parts.proofs.term_on.Tie as tie
+use Rattle.console_rules.specs.Console.{term}
+use Rattle.console_parts.specs.Counted.{termsOf}
+use Rattle.console_parts.proofs.Scans.{text-counted, text-passed, characters-short}
+
+add-r : tie.Need-add-r
+add-r c = omega (arith, c .before .count .ensures, characters-short (now (c .before .before .before .before .before .before .args .body)), c .before .before .before .before .before .before .pre)
+
+returns : tie.Need-returns
+returns c =
+    let a = c .before .before .before .before .before .before .args in
+    text-counted _ (now (a .body)) (termsOf (a .t)) _ (c .before .before .if1 .taken) (c .before .count .ensures) ∙ ap (λ k. term k (now (a .body)) (termsOf (a .t))) (sym (c .before .before .before .enum-told .given .1))
+
+returns-2 : tie.Need-returns-2
+returns-2 c =
+    let a = c .before .before .before .before .args in
+    text-passed _ (now (a .body)) (termsOf (a .t)) (c .if1 .left) ∙ ap (λ k. term k (now (a .body)) (termsOf (a .t))) (sym (c .before .enum-told .given .1))
+
+returns-3 : tie.Need-returns-3
+unfolding term
+returns-3 c =
+    let a = c .before .before .before .before .before .args in
+    c .term-start .ensures ∙ ap (λ k. term k (now (a .body)) (termsOf (a .t))) (sym (c .before .before .k .given .1))
+
+returns-4 : tie.Need-returns-4
+unfolding term
+returns-4 c =
+    let a = c .before .before .before .before .before .args in
+    c .term-end .ensures ∙ ap (λ k. term k (now (a .body)) (termsOf (a .t))) (sym (c .before .before .k2 .given .1))
+
+returns-5 : tie.Need-returns-5
+unfolding term
+returns-5 c =
+    let a = c .before .before .before .args in
+    ap (λ k. term k (now (a .body)) (termsOf (a .t))) (sym (c .enum-told2 .given .1))
+
+pub term-on-spec : {M : Type 1} → statement M
+term-on-spec =
+    tie.close
+    (tie.spec
+    (λ c. search needs)
+    (λ c κs. search needs)
+    add-r
+    (λ c. search needs)
+    (λ c κs. search needs)
+    (λ c. search needs)
+    (λ c κs. search needs)
+    (λ c. search needs)
+    returns
+    returns-2
+    returns-3
+    returns-4
+    returns-5)

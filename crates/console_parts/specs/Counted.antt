@@ -1,0 +1,6 @@
+-- The running count of the tabstop, seen as the rules' count.
+use Rattle.console_rules.specs.Console as rules
+use Rattle.console_parts.specs.declared.Terms.{Terms}
+
+abbrev pub termsOf : Terms → rules.Terms
+termsOf t = record { widest = t .widest; counting = t .counting; counted = t .counted }

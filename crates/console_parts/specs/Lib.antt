@@ -1,0 +1,3 @@
+pub mod Shown
+pub mod Blocks
+pub mod Counted
