@@ -1,5 +1,9 @@
-# Targets: test (everything that a change must pass), run (the console program on a sample page), oracle (build the oracle).
-.PHONY: test run oracle samples clean
+# Targets: test (everything that a change must pass), run (the console program on a sample page), compare (N cases beside the
+# oracle), bench (times beside the Rust), samples and record (make samples/ and the replayed list anew).
+.PHONY: test run compare bench samples record clean
+
+N ?= 1000000
+SEED ?= 1
 
 test:
 	@tools/test
@@ -7,11 +11,17 @@ test:
 run:
 	@tools/run
 
-oracle:
-	@cd oracle && cargo build --release --offline
+compare:
+	@set -e; linked=$$(tools/link); set -- $$linked; "$$1" compare --seed $(SEED) --cases $(N) --only "$$2"
+
+bench:
+	@set -e; linked=$$(tools/link); set -- $$linked; "$$1" bench samples/options-2k.doc samples/options-8k.doc samples/options-30k.doc samples/prose.doc samples/nonascii.doc
 
 samples:
 	@cd oracle && cargo run --release --offline --quiet --example samples -- ../samples
+
+record:
+	@tools/record
 
 clean:
 	rm -rf target oracle/target

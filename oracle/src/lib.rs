@@ -6,6 +6,7 @@
 //! - [`kept`]: the kept Rust run beside `rules`; every disagreement is reported.
 //! - [`cases`]: one type for a call of any public function, one for its answer, and their list form.
 //! - [`generate`]: seeded documents, settings, rooms and builder calls.
+//! - [`bench`]: port and kept Rust timed side by side.
 //! - [`port`]: the C interface of the port, where it is linked.
 //!
 //! "01" in comments is `docs/01-scope.md`.
@@ -18,6 +19,7 @@ mod bpaf;
 use bpaf::buffer;
 use bpaf::buffer::Doc;
 
+pub mod bench;
 pub mod cases;
 pub mod generate;
 pub mod kept;

@@ -3,6 +3,7 @@
 use std::io::{self, Read, Write};
 use std::process::ExitCode;
 
+use oracle::bench;
 use oracle::cases::{answer, list, pattern, Answer, Call, Case};
 use oracle::generate::{self, Limits, Subject};
 use oracle::kept::confirm;
@@ -17,6 +18,7 @@ usage: oracle answer console|html|html_strict|markdown|roff
        oracle compare --seed S --cases N [--only SUBJECT,..]
        oracle selfcheck --seed S --cases N [--only SUBJECT,..]
        oracle reach --seed S --cases N
+       oracle bench DOCUMENT..
 ";
 
 /// The room and width of 01's program.
@@ -104,6 +106,7 @@ fn main() -> ExitCode {
             }
             "selfcheck" => Arguments::read(arguments, &["seed", "cases", "only"])
                 .and_then(|a| run_selfcheck(&a)),
+            "bench" => Ok(run_bench(arguments)),
             "reach" => Arguments::read(arguments, &["seed", "cases"]).and_then(|a| run_reach(&a)),
             _ => Err("a command is missing or unknown".into()),
         };
@@ -121,6 +124,27 @@ fn write_out(bytes: &[u8]) -> ExitCode {
             ExitCode::FAILURE
         }
     }
+}
+
+/// Times of the port and of the Rust on stored documents.
+fn run_bench(documents: impl Iterator<Item = String>) -> ExitCode {
+    bench::head();
+    let mut status = ExitCode::SUCCESS;
+    for path in documents {
+        let name = path.rsplit('/').next().unwrap_or(&path);
+        match std::fs::read(&path) {
+            Ok(document) if bench::page(name, &document).is_some() => {}
+            Ok(_) => {
+                eprintln!("oracle: {path}: refused");
+                status = ExitCode::FAILURE;
+            }
+            Err(error) => {
+                eprintln!("oracle: {path}: {error}");
+                status = ExitCode::FAILURE;
+            }
+        }
+    }
+    status
 }
 
 /// The text of one document, or the refusal line of 01's program.

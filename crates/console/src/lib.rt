@@ -138,12 +138,13 @@ fn text_of(document: &[u8], set: Settings, tab: usize, room: &mut [u8]) -> Rende
                 }
                 let margin = console_parts::top_margin(&margins, count);
                 let body = &document[start..next];
-                let mut cursor = Cursor {
-                    at: 0,
-                    code: Code::No,
-                };
+                let mut from: usize = 0;
+                let mut code = Code::No;
                 'chunks: loop {
-                    let Step::Take(piece, after) = splitter::step_at(body, cursor) else {
+                    let Step::Take(piece, after) = splitter::step_at(
+                        body,
+                        Cursor { at: from, code },
+                    ) else {
                         break 'chunks;
                     };
                     let placed = console_parts::put_piece(room, m, margin, place, body, piece, set);
@@ -158,7 +159,8 @@ fn text_of(document: &[u8], set: Settings, tab: usize, room: &mut [u8]) -> Rende
                     if console_parts::stops_at(piece, set.full) {
                         continue 'records;
                     }
-                    cursor = after;
+                    from = after.at;
+                    code = after.code;
                 }
             }
         }

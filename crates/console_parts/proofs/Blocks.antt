@@ -2,30 +2,30 @@
 use mathlib.Core.Path.{_≡_, refl, sym, ap, _∙_}
 use mathlib.Core.Bool.{Bool, true, false}
 use mathlib.Core.List.{List, [], _∷_}
-use mathlib.Core.Logic.{⊎-elim}
-use Prim.Native.Nat.{ℕ, _+_, _≤_, _<_, _^_}
+use Prim.Native.Nat.{ℕ, _+_, _-_, _≤_, _<_, _^_}
 use native.Mathlib.Omega.{arith}
-use lib.Dec.{leb, eqb}
-use lib.ListN.{length}
+use lib.Dec.{eqb}
+use lib.ListN.{length, take}
 use borrow.Author.Tests.{eq-eqb, ne-eqb, le-leb, lt-leb}
 use Rattle.base.specs.Choice.{if_then_else_}
 use Rattle.base.specs.Result.{Result, gives, refused, _>>=_}
 use Rattle.base.specs.Stack.{top, pushed, popped}
 use Rattle.base.proofs.Choice.{if-true, if-false}
+use Rattle.base.proofs.Stack.{pop-take}
 use Rattle.room.specs.Room.{extended}
 use Rattle.document.specs.Document.{index}
 use Rattle.document.specs.declared.Block.{Block}
 use Rattle.document.specs.declared.Block.the-variants as block
-use Rattle.walk.specs.Walk.{withOut, withKept, withLay, page, write, shown, skipStart}
+use Rattle.walk.specs.Walk.{withOut, withKept, withLay, write, shown, skipStart}
 use Rattle.walk.specs.Answers as walk
 use Rattle.base.proofs.Results.{bind-end, bind-same}
 use Rattle.walk.proofs.Counter.{held-fits, skip-start-most}
 use Rattle.walk.proofs.Shown.{shown-changed}
-use Rattle.console_rules.specs.Console.{State, column, blankLine, gap, tick, indent, outdent, started, ended}
+use Rattle.console_rules.specs.Console.{State, column, blankLine, gap, tick, outdent, started, ended}
 use Rattle.console_rules.specs.declared.Lay.{Lay}
 use Rattle.console_parts.specs.declared.Mark.{Mark}
 use Rattle.console_parts.specs.Shown.{held}
-use Rattle.console_parts.specs.Blocks.{tickIf, startLay, endLay, pushes, startMore, startMargins}
+use Rattle.console_parts.specs.Blocks.{tickIf, startLay, endLay, pushes, startMore, startMargins, endMargins}
 use Rattle.console_parts.proofs.Pages.{bind-two}
 
 -- flags and margins change, each by itself
@@ -62,8 +62,8 @@ module _ (limit : ℕ) where
   started-by tab block.Meta g s = refl
   started-by tab block.Mono g s = refl
 
-  pub ended-by : (b : Block) (s : State) → ended limit b s ≡ (tickIf limit (index b) s >>= λ t. gives (beside (endLay (index b)) popped t))
-  unfolding ended tickIf endLay if_then_else_ _>>=_
+  pub ended-by : (b : Block) (s : State) → ended limit b s ≡ (tickIf limit (index b) s >>= λ t. gives (beside (endLay (index b)) (endMargins (index b)) t))
+  unfolding ended tickIf endLay endMargins pushes if_then_else_ _>>=_
   ended-by block.Header s = refl
   ended-by block.Section2 s = refl
   ended-by block.Section3 s = refl
@@ -116,8 +116,8 @@ module _ (room room′ kept kept′ : List ℕ) (m a : Mark) (lay′ : Lay) (b :
       block-done room room′ kept kept′ m a lay′ i limit (startLay i g) (startMargins tab i g) (started limit tab b h)
       (λ s. gap-asked limit tab b h g s (λ z. sym (e (at ∙ z))) ∙ rw at (started-by limit tab b g s)) ticked l n
 
-  pub end-done : lay′ ≡ endLay i (a .lay) → kept′ ≡ popped kept → shown room′ (a .len) kept′ lay′ ≡ (held room kept m >>= ended limit b)
-  end-done l n = block-done room room′ kept kept′ m a lay′ i limit (endLay i) popped (ended limit b) (λ s. rw at (ended-by limit b s)) ticked l n
+  pub end-done : lay′ ≡ endLay i (a .lay) → kept′ ≡ endMargins i kept → shown room′ (a .len) kept′ lay′ ≡ (held room kept m >>= ended limit b)
+  end-done l n = block-done room room′ kept kept′ m a lay′ i limit (endLay i) (endMargins i) (ended limit b) (λ s. rw at (ended-by limit b s)) ticked l n
 
 -- The parts by the tests that the code makes
 
@@ -139,13 +139,17 @@ unfolding pushes
 pushes-high i h = rw (lt-leb i 5 h)
 
 module _ (tab i : ℕ) (g : Bool) (ms : List ℕ) where
-  pub push-yes : (k : ℕ) → pushes i ≡ true → k ≡ startMore tab i g → pushed (top ms + k) ms ≡ startMargins tab i g ms
+  pub push-yes : (k : ℕ) (ks : List ℕ) → pushes i ≡ true → k ≡ startMore tab i g → ks ≡ pushed (top ms + k) ms → ks ≡ startMargins tab i g ms
   unfolding startMargins
-  push-yes k e f = rw f (sym (if-true _ _ e))
+  push-yes k ks e f h = h ∙ rw f (sym (if-true _ _ e))
 
   pub push-no : pushes i ≡ false → ms ≡ startMargins tab i g ms
   unfolding startMargins
   push-no e = sym (if-false _ _ e)
+
+pub pop-one : (i count n : ℕ) (margins : List ℕ) → count ≤ length margins → n ≡ count - 1 → take n margins ≡ endMargins i (take count margins)
+unfolding endMargins
+pop-one i count n margins h e = rw e (pop-take margins count h)
 
 -- the skip counter fits
 pub skip-fits : (n k : ℕ) → n ≤ 2 ^ 60 → k ≡ walk.held n (skipStart block.InlineBlock n) → k ≡ skipStart block.InlineBlock n

@@ -1,19 +1,17 @@
 -- Paragraphs, the pieces of a body, and the last line end. Assumes nothing.
 use mathlib.Core.Path.{_≡_, refl, sym, ap, _∙_}
-use mathlib.Core.Bool.{Bool, true, false, _||_}
+use mathlib.Core.Bool.{true, false, _||_}
 use mathlib.Core.List.{List, [], _∷_}
 use Prim.Native.Nat.{ℕ}
 use lib.ListN.{length}
-use Rattle.base.specs.Choice.{if_then_else_}
 use Rattle.base.specs.Result.{Result, gives, _>>=_}
 use Rattle.base.proofs.Choice.{if-true, if-false}
-use Rattle.walk.specs.Walk.{withLay, write, page, shown}
+use Rattle.walk.specs.Walk.{withLay, write}
 use Rattle.base.proofs.Results.{bind-end, bind-same}
 use Rattle.walk.proofs.Shown.{shown-then, shown-changed}
 use Rattle.splitter.specs.Split.{Chunk, raw, paragraph, lineBreak}
 use Rattle.console_rules.specs.Console.{State, skip, lineEnd, rawChunk, chunk, finish}
 use Rattle.console_rules.specs.declared.Settings.{Settings}
-use Rattle.console_rules.specs.declared.Lay.{Lay}
 use Rattle.console_parts.specs.declared.Mark.{Mark}
 use Rattle.console_parts.specs.Shown.{held}
 use Rattle.console_parts.proofs.Pages.{bind-two}

@@ -1,11 +1,11 @@
 -- The steps of a chunk, by the tests that the code makes. Assumes nothing.
-use mathlib.Core.Path.{_≡_, refl, sym, ap, _∙_}
+use mathlib.Core.Path.{_≡_, refl, sym, _∙_}
 use mathlib.Core.List.{List, [], _∷_}
-use mathlib.Core.Bool.{Bool, true, false, not, _&&_, _||_}
+use mathlib.Core.Bool.{true, false, _||_, and-false}
 use Prim.Native.Nat.{ℕ, zero, suc, _+_, _-_, _≤_, _<_}
 use native.Mathlib.Omega.{arith}
 use lib.ListN.{length, take, getD, replicate}
-use lib.Dec.{leb, ltb, eqb}
+use lib.Dec.{eqb}
 use borrow.Author.Tests.{le-leb, lt-leb, le-ltb, lt-ltb}
 use Rattle.base.specs.Result.{Result, gives, refused, _>>=_}
 use Rattle.base.specs.Choice.{if_then_else_}
@@ -22,12 +22,8 @@ use Rattle.console_rules.specs.declared.Settings.{Settings}
 use Rattle.console_parts.specs.declared.Mark.{Mark}
 use Rattle.console_parts.specs.declared.Placed.{Placed}
 use Rattle.console_parts.specs.declared.Placed.the-variants.{At, Deep}
-use Rattle.console_parts.specs.Shown.{held, told, Near, Nearby}
+use Rattle.console_parts.specs.Shown.{held, Near, Nearby}
 use Rattle.console_parts.proofs.Pages.{bind-two, bind-three, agree}
-
-and-none : (a : Bool) → a && false ≡ false
-and-none true = refl
-and-none false = refl
 
 -- the two columns of a gutter, of which n are written
 abbrev two : ℕ → ℕ → State → Result State
@@ -40,7 +36,7 @@ module _ (limit : ℕ) (s : State) where
 
   pub line-there : endsWith (0x0A ∷ []) (s .out) ≡ true → dueLine limit s ≡ gives s
   unfolding dueLine
-  line-there e = if-false _ _ (rw (e, and-none))
+  line-there e = if-false _ _ (rw (e, and-false))
 
   pub line-due : (s .lay .newline || s .lay .blank) ≡ true → endsWith (0x0A ∷ []) (s .out) ≡ false → dueLine limit s ≡ lineEnd limit s
   unfolding dueLine
@@ -52,7 +48,7 @@ module _ (limit : ℕ) (s : State) where
 
   pub blank-there : endsWith (0x0A ∷ 0x0A ∷ []) (s .out) ≡ true → dueBlank limit s ≡ gives s
   unfolding dueBlank
-  blank-there e = if-false _ _ (rw (e, and-none))
+  blank-there e = if-false _ _ (rw (e, and-false))
 
   pub blank-due : s .lay .blank ≡ true → endsWith (0x0A ∷ 0x0A ∷ []) (s .out) ≡ false → dueBlank limit s ≡ write limit (0x0A ∷ []) s
   unfolding dueBlank
@@ -65,11 +61,11 @@ module _ (limit : ℕ) (s : State) where
 
     pub gap-near : s .lay .column .0 < 28 → gap2 limit n s ≡ gives s
     unfolding gap2
-    gap-near h = if-false _ _ (rw (lt-leb 28 (s .lay .column .0) h, and-none))
+    gap-near h = if-false _ _ (rw (lt-leb 28 (s .lay .column .0) h, and-false))
 
     pub gap-wide : 2 ≤ n → gap2 limit n s ≡ gives s
     unfolding gap2
-    gap-wide h = if-false _ _ (simp (le-ltb n 2 h, and-none))
+    gap-wide h = if-false _ _ (simp (le-ltb n 2 h, and-false))
 
     pub gap-due : s .lay .gutter ≡ true → 28 ≤ s .lay .column .0 → n < 2 → gap2 limit n s ≡ two limit n s
     unfolding gap2
@@ -117,8 +113,8 @@ module _ (room kept : List ℕ) (m : Mark) where
   abbrev here : State
   here = page kept (m .lay) (take (m .len) room)
 
-  pub fold-done : (n c : ℕ) (r : Result State) → c ≡ length room → seen room n ≡ (seen room (m .len) >>= λ x. gives (trim x)) → r ≡ (shown room n kept (m .lay) >>= lineEnd c)
-      → r ≡ (held room kept m >>= folded (length room))
+  pub fold-done : (n c : ℕ) (r : Result State) → c ≡ length room → seen room n ≡ (seen room (m .len) >>= λ x. gives (trim x))
+      → r ≡ (shown room n kept (m .lay) >>= lineEnd c) → r ≡ (held room kept m >>= folded (length room))
   unfolding _>>=_
   fold-done n c r k e f =
       bind-two (held room kept m) (shown room n kept (m .lay)) r (λ s. gives (withOut (trim (s .out)) s)) (lineEnd (length room))
@@ -146,9 +142,10 @@ module _ (room kept : List ℕ) (m : Mark) where
       abbrev rest : ℕ → State → Result State
       rest limit s = if folds (set .width) (s .lay .column) (record { 0 = length x }) then fold limit margin at x w s else put limit margin at x w s
 
-      pub raw-first : m .len ≡ 0 → (held room kept m >>= put (length room) margin at x w) ≡ (held room kept m >>= rawChunk length set (length room) margin at x w)
+      pub raw-first : (r : Result State) → m .len ≡ 0 → r ≡ (held room kept m >>= put (length room) margin at x w)
+          → r ≡ (held room kept m >>= rawChunk length set (length room) margin at x w)
       unfolding rawChunk
-      raw-first e = agree room (m .len) kept (m .lay) _ _ (λ h. sym (if-true _ _ (empty-none room (m .len) e)))
+      raw-first r e f = f ∙ agree room (m .len) kept (m .lay) _ _ (λ h. sym (if-true _ _ (empty-none room (m .len) e)))
 
       pub raw-next : (c₁ c₂ : ℕ) (r₁ r₂ r₃ : Result State) → (m .len ≡ 0 → ⊥) → c₁ ≡ length room → c₂ ≡ c₁
           → r₁ ≡ (held room kept m >>= dueLine (length room)) → r₂ ≡ (r₁ >>= dueBlank c₁) → r₃ ≡ (r₂ >>= rest c₂)

@@ -1,6 +1,6 @@
 -- The records ahead, and the count of the tabstop. Assumes nothing.
-use mathlib.Core.Path.{_≡_, refl, sym, ap, _∙_}
-use mathlib.Core.Bool.{Bool, true, false, _&&_}
+use mathlib.Core.Path.{_≡_, sym, ap, _∙_}
+use mathlib.Core.Bool.{true, false, _&&_}
 use mathlib.Core.List.{List, [], _∷_}
 use Prim.Native.Nat.{ℕ, _+_, _≤_, _<_}
 use native.Mathlib.Omega.{arith}
@@ -10,7 +10,7 @@ use borrow.Author.Tests.{leb-true, eq-eqb, ne-eqb, lt-ltb, le-ltb, le-leb, lt-le
 use Rattle.base.specs.Choice.{if_then_else_}
 use Rattle.base.proofs.Choice.{pick, if-true, if-false, and-right}
 use Rattle.utf8.specs.Utf8.{characters}
-use Rattle.document.specs.Document.{Token, index, tokensFrom}
+use Rattle.document.specs.Document.{index, tokensFrom}
 use Rattle.document.specs.Answers.{Read, part, tokenOf}
 use Rattle.document.specs.declared.Head.{Head}
 use Rattle.document.specs.declared.Style.{Style}

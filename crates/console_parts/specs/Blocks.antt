@@ -5,15 +5,17 @@ use mathlib.Core.List.{List}
 use lib.Dec.{leb, ltb, eqb}
 use Rattle.base.specs.Choice.{if_then_else_}
 use Rattle.base.specs.Result.{Result, gives}
-use Rattle.base.specs.Stack.{top, pushed}
+use Rattle.base.specs.Stack.{top, pushed, popped}
 use Rattle.document.specs.declared.Block.the-variants as block
 use Rattle.walk.specs.Walk.{skipStart, skipEnd}
 use Rattle.console_rules.specs.Console.{State, tick, newline, blankLine, gutter, skip, gap}
 use Rattle.console_rules.specs.declared.Lay.{Lay}
 
+-- 'Backticks go out at once' at a TermRef
 unfoldable pub tickIf : ℕ → ℕ → State → Result State
 tickIf room i s = if eqb i 9 then tick room s else gives s
 
+-- what a start changes, with g saying whether an adjacent gap lies ahead, and what an end changes
 unfoldable pub startLay : ℕ → Bool → Lay → Lay
 startLay i g l =
     if eqb i 3 then if g then gap true (l .passing) (newline l) else newline l else
@@ -32,6 +34,7 @@ endLay i l =
 unfoldable pub pushes : ℕ → Bool
 pushes i = leb i 5 || eqb i 7
 
+-- 'Section3 plus 2; Section4 plus 2, or 4 with an adjacent gap ..; ItemTerm plus 4; ItemBody plus tabstop plus 2'
 unfoldable pub startMore : ℕ → ℕ → Bool → ℕ
 startMore tab i g =
     if eqb i 2 then 2 else
@@ -41,3 +44,7 @@ startMore tab i g =
 
 unfoldable pub startMargins : ℕ → ℕ → Bool → List ℕ → List ℕ
 startMargins tab i g ms = if pushes i then pushed (top ms + startMore tab i g) ms else ms
+
+-- 'every end pops one if there is one': the index does not matter
+unfoldable pub endMargins : ℕ → List ℕ → List ℕ
+endMargins i ms = popped ms

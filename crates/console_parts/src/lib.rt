@@ -1,7 +1,7 @@
 // The parts of the console renderer (src/buffer/console.rs): chunks, blocks, and what is looked up in the records.
 ghost use mathlib.Core.Path.{_≡_};
 ghost use mathlib.Core.Bool.{_||_};
-ghost use mathlib.Core.List.{List, [], _∷_};
+ghost use mathlib.Core.List.{List};
 ghost use Prim.Native.Nat.{ℕ, _+_, _-_, _≤_, _<_, _^_, min, max};
 ghost use lib.ListN.{length, take};
 ghost use Rattle.base.specs.Result.{_>>=_ as bind};
@@ -47,6 +47,7 @@ fn either(a: bool, b: bool) -> bool
     b
 }
 
+// A difference, down to 0.
 fn less(a: usize, b: usize) -> usize
     ensures { λ r. ⌜ r ≡ a - b ⌝ }
 {
@@ -81,6 +82,7 @@ fn at_column(lay: Lay, n: usize) -> Lay
 
 // Chunks. Each function does what a rule does, whatever margins are kept beside the text.
 
+// A line end, at once.
 fn line_end(room: &mut [u8], m: Mark) -> Mark
     ensures { λ r. ⌜ ((kept : List ℕ) → held (now (room .exit)) kept r ≡ bind (held (now (room .entry)) kept m) (lineEnd (length (now (room .entry))))) ⌝ }
     ensures near { λ r. ⌜ Near 0 (m .lay) (r .lay) ⌝ }
@@ -221,6 +223,13 @@ fn is_space(text: &[u8]) -> bool
     false
 }
 
+// How many bytes a chunk has.
+fn bytes_of(text: &[u8]) -> Bytes
+    ensures { λ r. ⌜ r .0 ≡ length (now (text .entry)) ⌝ }
+{
+    Bytes(text.len())
+}
+
 // The fold test, the one place where columns and bytes are added.
 fn folds_at(width: usize, column: Columns, bytes: Bytes) -> bool
     requires { ⌜ column .0 + bytes .0 ≤ 2 ^ 63 ⌝ }
@@ -249,7 +258,7 @@ fn place_chunk(
     let a = due_line(room, m);
     let b = due_blank(room, a);
     let lay = b.lay;
-    if folds_at(set.width, lay.column, Bytes(text.len())) {
+    if folds_at(set.width, lay.column, bytes_of(text)) {
         let f = fold_line(room, b);
         if is_space(text) {
             return Placed::At(f);
@@ -404,6 +413,7 @@ fn start_more(tab: usize, i: usize, g: bool) -> usize
     0
 }
 
+// Whether the start of the block with an index pushes a margin.
 fn pushes_one(i: usize) -> bool
     ensures { λ r. ⌜ r ≡ pushes i ⌝ }
 {
@@ -423,8 +433,8 @@ fn gap_at(document: &[u8], next: usize, i: usize) -> bool
     false
 }
 
-// The start of a block, where the record after it is at `next`. The numbers of the rules have no end; those of the code stay far below
-// theirs in every document that is accepted.
+// The start of a block, where the record after it is at `next`. The rules' numbers have no bound: column, skip counter and margins are
+// asked to be so small that what is added to them fits; in a document that is accepted they are.
 pub fn started(
     room: &mut [u8],
     margins: &mut [usize],
@@ -453,7 +463,7 @@ pub fn started(
     Stand { mark, count }
 }
 
-// The end of a block: 'every end pops one if there is one', so the margins themselves stay.
+// The end of a block: 'every end pops one if there is one', so the margins themselves stay and only their number falls.
 pub fn ended(room: &mut [u8], m: Mark, count: usize, b: Block) -> Stand
     requires { ⌜ m .lay .column .0 ≤ 2 ^ 50 ⌝ }
     ensures { λ r. ⌜ ((margins : List ℕ) → count ≤ length margins → held (now (room .exit)) (take (r .count) margins) (r .mark) ≡ bind (held (now (room .entry)) (take count margins) m) (endedBy (length (now (room .entry))) b)) ⌝ }
@@ -495,7 +505,9 @@ fn put_paragraph(room: &mut [u8], m: Mark, set: Settings) -> Mark
     skipping(a)
 }
 
-// A chunk of the body of the text record at `at`, at a margin.
+// A chunk of the body of the text record at `at`, at a margin. The column and the margin are asked to be as small as at the start of a
+// block, and the piece is what the splitter gave; a body is part of a document of at most 32,768 bytes, so a chunk's width is at most
+// 1,032,769.
 pub fn put_piece(
     room: &mut [u8],
     m: Mark,
@@ -551,6 +563,7 @@ pub fn last_line(room: &mut [u8], m: Mark) -> Mark
 
 // Records.
 
+// Whether a record is the start of the block with an index.
 fn is_start(k: Kind, i: usize) -> bool
     ensures { λ r. ⌜ r ≡ isStart i k ⌝ }
 {
@@ -562,6 +575,7 @@ fn is_start(k: Kind, i: usize) -> bool
     }
 }
 
+// Whether it is its end.
 fn is_end(k: Kind, i: usize) -> bool
     ensures { λ r. ⌜ r ≡ isEnd i k ⌝ }
 {
@@ -619,6 +633,7 @@ struct Terms {
     counted: usize,
 }
 
+// 'a nested term's start sets the count back to 0'
 fn term_start(t: Terms, b: Block) -> Terms
     ensures { λ r. ⌜ termsOf r ≡ termStart b (termsOf t) ⌝ }
 {
@@ -632,6 +647,7 @@ fn term_start(t: Terms, b: Block) -> Terms
     t
 }
 
+// 'its end stops the count', and the widest of at most 24 characters is kept.
 fn term_end(t: Terms, b: Block) -> Terms
     ensures { λ r. ⌜ termsOf r ≡ termEnd b (termsOf t) ⌝ }
 {

@@ -2,11 +2,13 @@
 // compares, and prints one line with the counts.
 ghost use Prim.Native.Nat.{_<_, _≤_};
 ghost use lib.ListN.{length};
+use console_rules::Settings;
 use document::Checked;
 use splitter::Code;
 use splitter::Cursor;
 use splitter::Piece;
 use splitter::Step;
+use walk::Rendered;
 
 fn wide(b: u8) -> usize
     ensures { λ r. ⌜ r < 256 ⌝ }
@@ -139,6 +141,73 @@ fn splits(body: &[u8], case: &[u8], from: usize, count: usize) -> bool
     false
 }
 
+// A room before a call: no byte is 0.
+fn fill(room: &mut [u8]) {
+    let mut i: usize = 0;
+    while i < room.len() {
+        room[i] = 0xA5;
+        i += 1;
+    }
+}
+
+// Whether a room holds a text and then zeros.
+fn holds(room: &[u8], text: &[u8]) -> bool {
+    let mut i: usize = 0;
+    while i < room.len() {
+        if room[i] != byte_at(text, i) {
+            return false;
+        }
+        i += 1;
+    }
+    text.len() <= room.len()
+}
+
+// Whether an answer has this number, 0 for accepted, and this length or place, and the room holds the text.
+fn is_answer(answer: Rendered, room: &[u8], number: usize, at: usize, text: &[u8]) -> bool {
+    match answer {
+        Rendered::Text(n) => {
+            if number != 0 {
+                return false;
+            }
+            if n != at {
+                return false;
+            }
+            holds(room, text)
+        }
+        Rendered::Refused(a) => {
+            if document::refusal_number(a) as usize != number {
+                return false;
+            }
+            if document::refusal_place(a) != at {
+                return false;
+            }
+            holds(room, part(text, 0, 0))
+        }
+    }
+}
+
+// Whether the console answers as a case says, in a room of its size.
+fn renders(
+    case: &[u8],
+    document: &[u8],
+    size: usize,
+    number: usize,
+    at: usize,
+    text: &[u8],
+) -> bool {
+    let mut space = io::large_buffer();
+    if space.len() < size {
+        return false;
+    }
+    let from: usize = 0;
+    let room: &mut [u8] = &mut space[from..size];
+    fill(room);
+    let width = number_at(case, 1);
+    let full = byte_at(case, 5) == 1;
+    let answer = console::render_console(document, Settings { width, full }, room);
+    is_answer(answer, room, number, at, text)
+}
+
 // Whether a call answers as its case says.
 fn agrees(case: &[u8]) -> bool {
     let call = byte_at(case, 0);
@@ -149,6 +218,10 @@ fn agrees(case: &[u8]) -> bool {
     let place = number_at(case, answer + 4);
     if call == 0 {
         return checks(document, number, place);
+    }
+    if call == 1 {
+        let text = part(case, answer + 8, place);
+        return renders(case, document, number_at(case, 7), number, place, text);
     }
     if call == 11 {
         return splits(document, case, answer + 8, place);

@@ -8,14 +8,15 @@ use lib.ListN.{length, take, set}
 use Rattle.console.proofs.text_of.Statement.{statement}
 use Rattle.console.proofs.text_of.Tie as tie
 use Rattle.document.specs.declared.Refusal.the-variants as refusal
+use Rattle.splitter.specs.Answers.{cursor}
 use Rattle.splitter.proofs.Answers.{took, ended}
 use Rattle.console.proofs.Standing.{Standing, Writing, stand-first, zeros-shallow, stand-over, stand-known, stand-slot, stand-less, stand-count, stand-column, stand-started, stand-ended, stand-hidden, stands-refused, stands-done, margin-low, body-few, body-first, column-low, body-done, body-stop, body-on, body-deep, placed-deep, placed-at, nearby-at}
 
 abbrev Inv-chunks : tie.InvT-chunks
-Inv-chunks document set tab room₀ margins count m₀ at place start next margin body cursor₀ room m cursor = Writing document set tab (length room₀) body margin place next (take count margins) room m cursor
+Inv-chunks document set tab room₀ margins count m₀ at place start next margin body from₀ code₀ room m from code = Writing document set tab (length room₀) body margin place next (take count margins) room m (cursor from code)
 
 abbrev μ-chunks : tie.MeasureT-chunks
-μ-chunks document set tab room₀ margins count m₀ at place start next margin body cursor₀ room m cursor = length body + 1 - cursor .at
+μ-chunks document set tab room₀ margins count m₀ at place start next margin body from₀ code₀ room m from code = length body + 1 - from
 
 abbrev Inv-records : tie.InvT-records
 Inv-records document set tab room₀ margins₀ count₀ m₀ at₀ room margins count m at = Standing document set tab (length room₀) room margins count m at
@@ -110,15 +111,15 @@ records-again-5 : tie.Need-records-again-5 Inv-chunks μ-chunks Inv-records μ-r
 records-again-5 c =
     let s = c .before .before .before .before .before .before .before .before .before .before .before .before .before .before .before .before .records in
     let v = c .before .before .before .chunks in
-    body-done _ _ _ _ (s .room) (s .margins) (s .count) (s .m) (s .at) (s .inv) (c .before .before .before .before .before .before .before .before .before .before .before .before .record-at .result) (c .before .before .before .before .before .before .before .before .before .before .before .before .record-at .ensures) (c .before .before .before .before .before .before .before .before .before .before .before .before .before .before .before .records-test .taken) (c .before .before .before .before .before .before .before .before .before .before .before .before .before .before .before .before .before .before .before .before .pre .0) _ (c .before .before .before .before .before .before .before .before .before .before .enum-told2 .given .1) (c .before .before .before .before .before .top-margin .result) (c .before .before .before .before .before .top-margin .ensures) (v .room) (v .m) (v .cursor) (v .inv) (ended _ (v .cursor) (c .before .before .step-at .result) (c .enum-told3 .given .1) (c .before .before .step-at .ensures))
+    body-done _ _ _ _ (s .room) (s .margins) (s .count) (s .m) (s .at) (s .inv) (c .before .before .before .before .before .before .before .before .before .before .before .before .record-at .result) (c .before .before .before .before .before .before .before .before .before .before .before .before .record-at .ensures) (c .before .before .before .before .before .before .before .before .before .before .before .before .before .before .before .records-test .taken) (c .before .before .before .before .before .before .before .before .before .before .before .before .before .before .before .before .before .before .before .before .pre .0) _ (c .before .before .before .before .before .before .before .before .before .before .enum-told2 .given .1) (c .before .before .before .before .before .top-margin .result) (c .before .before .before .before .before .top-margin .ensures) (v .room) (v .m) (cursor (v .from) (v .code)) (v .inv) (ended _ (cursor (v .from) (v .code)) (c .before .before .step-at .result) (c .enum-told3 .given .1) (c .before .before .step-at .ensures))
 
 put-piece-requires : tie.Need-put-piece-requires Inv-chunks μ-chunks Inv-records μ-records
 put-piece-requires c κs =
     let s = c .before .before .before .before .before .before .before .before .before .before .before .before .before .before .before .before .before .before .records in
     let v = c .before .before .before .before .before .chunks in
-    let t = took _ (v .cursor) (c .before .before .before .before .step-at .result) _ _ (c .before .before .piece .given .1) (c .before .before .before .before .step-at .ensures) in
+    let t = took _ (cursor (v .from) (v .code)) (c .before .before .before .before .step-at .result) _ _ (c .before .before .piece .given .1) (c .before .before .before .before .step-at .ensures) in
     let low = margin-low _ _ _ _ (s .room) (s .margins) (s .count) (s .m) (s .at) (s .inv) (c .before .before .before .before .before .before .before .before .before .before .before .before .before .before .record-at .result) (c .before .before .before .before .before .before .before .before .before .before .before .before .before .before .record-at .ensures) (c .before .before .before .before .before .before .before .before .before .before .before .before .before .before .before .before .before .records-test .taken) (c .before .before .before .before .before .before .before .before .before .before .before .before .before .before .before .before .before .before .before .before .before .before .pre .0) _ (c .before .before .before .before .before .before .before .before .before .before .before .before .enum-told2 .given .1) (c .before .before .before .before .before .before .before .top-margin .result) (c .before .before .before .before .before .before .before .top-margin .ensures) in (
-      column-low _ _ _ _ (s .room) (s .margins) (s .count) (s .m) (s .at) (s .inv) (c .before .before .before .before .before .before .before .before .before .before .before .before .before .before .record-at .result) (c .before .before .before .before .before .before .before .before .before .before .before .before .before .before .record-at .ensures) (c .before .before .before .before .before .before .before .before .before .before .before .before .before .before .before .before .before .records-test .taken) (c .before .before .before .before .before .before .before .before .before .before .before .before .before .before .before .before .before .before .before .before .before .before .pre .0) _ (c .before .before .before .before .before .before .before .before .before .before .before .before .enum-told2 .given .1) (c .before .before .before .before .before .before .before .top-margin .result) (c .before .before .before .before .before .before .before .top-margin .ensures) (v .room) (v .m) (v .cursor) (v .inv),
+      column-low _ _ _ _ (s .room) (s .margins) (s .count) (s .m) (s .at) (s .inv) (c .before .before .before .before .before .before .before .before .before .before .before .before .before .before .record-at .result) (c .before .before .before .before .before .before .before .before .before .before .before .before .before .before .record-at .ensures) (c .before .before .before .before .before .before .before .before .before .before .before .before .before .before .before .before .before .records-test .taken) (c .before .before .before .before .before .before .before .before .before .before .before .before .before .before .before .before .before .before .before .before .before .before .pre .0) _ (c .before .before .before .before .before .before .before .before .before .before .before .before .enum-told2 .given .1) (c .before .before .before .before .before .before .before .top-margin .result) (c .before .before .before .before .before .before .before .top-margin .ensures) (v .room) (v .m) (cursor (v .from) (v .code)) (v .inv),
       omega (arith, low),
       body-few _ _ _ _ (s .room) (s .margins) (s .count) (s .m) (s .at) (s .inv) (c .before .before .before .before .before .before .before .before .before .before .before .before .before .before .record-at .result) (c .before .before .before .before .before .before .before .before .before .before .before .before .before .before .record-at .ensures) (c .before .before .before .before .before .before .before .before .before .before .before .before .before .before .before .before .before .records-test .taken) (c .before .before .before .before .before .before .before .before .before .before .before .before .before .before .before .before .before .before .before .before .before .before .pre .0) _ (c .before .before .before .before .before .before .before .before .before .before .before .before .enum-told2 .given .1) (c .before .before .before .before .before .before .before .top-margin .result) (c .before .before .before .before .before .before .before .top-margin .ensures),
       t .piece,
@@ -133,8 +134,8 @@ returns-2 c =
     let v = c .before .before .before .before .before .before .before .before .before .before .before .chunks in
     let g = c .before .before .before .before .before .put-piece in
     stands-refused _ _ _ _ (g .last .0) (refusal.BeyondMargin _)
-    (body-deep _ _ _ _ (s .room) (s .margins) (s .count) (s .m) (s .at) (s .inv) (c .before .before .before .before .before .before .before .before .before .before .before .before .before .before .before .before .before .before .before .before .record-at .result) (c .before .before .before .before .before .before .before .before .before .before .before .before .before .before .before .before .before .before .before .before .record-at .ensures) (c .before .before .before .before .before .before .before .before .before .before .before .before .before .before .before .before .before .before .before .before .before .before .before .records-test .taken) (c .before .before .before .before .before .before .before .before .before .before .before .before .before .before .before .before .before .before .before .before .before .before .before .before .before .before .before .before .pre .0) _ (c .before .before .before .before .before .before .before .before .before .before .before .before .before .before .before .before .before .before .enum-told2 .given .1) (c .before .before .before .before .before .before .before .before .before .before .before .before .before .top-margin .result) (c .before .before .before .before .before .before .before .before .before .before .before .before .before .top-margin .ensures) (v .room) (v .m) (v .cursor) (v .inv) _ _
-    (took _ (v .cursor) (c .before .before .before .before .before .before .before .before .before .before .step-at .result) _ _ (c .before .before .before .before .before .before .before .before .piece .given .1) (c .before .before .before .before .before .before .before .before .before .before .step-at .ensures)) _ (placed-deep (g .last .0) (take (s .count) (s .margins)) (g .result) _ _ (c .before .placed .given .1) (g .ensures .0 (take (s .count) (s .margins)))))
+    (body-deep _ _ _ _ (s .room) (s .margins) (s .count) (s .m) (s .at) (s .inv) (c .before .before .before .before .before .before .before .before .before .before .before .before .before .before .before .before .before .before .before .before .record-at .result) (c .before .before .before .before .before .before .before .before .before .before .before .before .before .before .before .before .before .before .before .before .record-at .ensures) (c .before .before .before .before .before .before .before .before .before .before .before .before .before .before .before .before .before .before .before .before .before .before .before .records-test .taken) (c .before .before .before .before .before .before .before .before .before .before .before .before .before .before .before .before .before .before .before .before .before .before .before .before .before .before .before .before .pre .0) _ (c .before .before .before .before .before .before .before .before .before .before .before .before .before .before .before .before .before .before .enum-told2 .given .1) (c .before .before .before .before .before .before .before .before .before .before .before .before .before .top-margin .result) (c .before .before .before .before .before .before .before .before .before .before .before .before .before .top-margin .ensures) (v .room) (v .m) (cursor (v .from) (v .code)) (v .inv) _ _
+    (took _ (cursor (v .from) (v .code)) (c .before .before .before .before .before .before .before .before .before .before .step-at .result) _ _ (c .before .before .before .before .before .before .before .before .piece .given .1) (c .before .before .before .before .before .before .before .before .before .before .step-at .ensures)) _ (placed-deep (g .last .0) (take (s .count) (s .margins)) (g .result) _ _ (c .before .placed .given .1) (g .ensures .0 (take (s .count) (s .margins)))))
 
 records-less-6 : tie.Need-records-less-6 Inv-chunks μ-chunks Inv-records μ-records
 records-less-6 c =
@@ -146,14 +147,14 @@ records-again-6 c =
     let s = c .before .before .before .before .before .before .before .before .before .before .before .before .before .before .before .before .before .before .before .before .before .before .before .before .before .before .records in
     let v = c .before .before .before .before .before .before .before .before .before .before .before .before .before .chunks in
     let g = c .before .before .before .before .before .before .before .put-piece in
-    body-stop _ _ _ _ (s .room) (s .margins) (s .count) (s .m) (s .at) (s .inv) (c .before .before .before .before .before .before .before .before .before .before .before .before .before .before .before .before .before .before .before .before .before .before .record-at .result) (c .before .before .before .before .before .before .before .before .before .before .before .before .before .before .before .before .before .before .before .before .before .before .record-at .ensures) (c .before .before .before .before .before .before .before .before .before .before .before .before .before .before .before .before .before .before .before .before .before .before .before .before .before .records-test .taken) (c .before .before .before .before .before .before .before .before .before .before .before .before .before .before .before .before .before .before .before .before .before .before .before .before .before .before .before .before .before .before .pre .0) _ (c .before .before .before .before .before .before .before .before .before .before .before .before .before .before .before .before .before .before .before .before .enum-told2 .given .1) (c .before .before .before .before .before .before .before .before .before .before .before .before .before .before .before .top-margin .result) (c .before .before .before .before .before .before .before .before .before .before .before .before .before .before .before .top-margin .ensures) (v .room) (v .m) (v .cursor) (v .inv) _ _
-    (took _ (v .cursor) (c .before .before .before .before .before .before .before .before .before .before .before .before .step-at .result) _ _ (c .before .before .before .before .before .before .before .before .before .before .piece .given .1) (c .before .before .before .before .before .before .before .before .before .before .before .before .step-at .ensures)) (g .last .0) _ (g .kept .0)
+    body-stop _ _ _ _ (s .room) (s .margins) (s .count) (s .m) (s .at) (s .inv) (c .before .before .before .before .before .before .before .before .before .before .before .before .before .before .before .before .before .before .before .before .before .before .record-at .result) (c .before .before .before .before .before .before .before .before .before .before .before .before .before .before .before .before .before .before .before .before .before .before .record-at .ensures) (c .before .before .before .before .before .before .before .before .before .before .before .before .before .before .before .before .before .before .before .before .before .before .before .before .before .records-test .taken) (c .before .before .before .before .before .before .before .before .before .before .before .before .before .before .before .before .before .before .before .before .before .before .before .before .before .before .before .before .before .before .pre .0) _ (c .before .before .before .before .before .before .before .before .before .before .before .before .before .before .before .before .before .before .before .before .enum-told2 .given .1) (c .before .before .before .before .before .before .before .before .before .before .before .before .before .before .before .top-margin .result) (c .before .before .before .before .before .before .before .before .before .before .before .before .before .before .before .top-margin .ensures) (v .room) (v .m) (cursor (v .from) (v .code)) (v .inv) _ _
+    (took _ (cursor (v .from) (v .code)) (c .before .before .before .before .before .before .before .before .before .before .before .before .step-at .result) _ _ (c .before .before .before .before .before .before .before .before .before .before .piece .given .1) (c .before .before .before .before .before .before .before .before .before .before .before .before .step-at .ensures)) (g .last .0) _ (g .kept .0)
     (placed-at (g .last .0) (take (s .count) (s .margins)) (g .result) _ _ (c .before .before .before .placed2 .given .1) (g .ensures .0 (take (s .count) (s .margins)))) (nearby-at _ _ (g .result) _ (c .before .before .before .placed2 .given .1) (g .ensures .1))
     (sym (c .before .stops-at .ensures _) ∙ c .if3 .taken)
 
 chunks-less : tie.Need-chunks-less Inv-chunks μ-chunks Inv-records μ-records
 chunks-less c =
-    let t = took _ (c .before .before .before .before .before .before .before .before .before .before .before .before .before .chunks .cursor) (c .before .before .before .before .before .before .before .before .before .before .before .before .step-at .result) _ _ (c .before .before .before .before .before .before .before .before .before .before .piece .given .1) (c .before .before .before .before .before .before .before .before .before .before .before .before .step-at .ensures) in
+    let t = took _ (cursor (c .before .before .before .before .before .before .before .before .before .before .before .before .before .chunks .from) (c .before .before .before .before .before .before .before .before .before .before .before .before .before .chunks .code)) (c .before .before .before .before .before .before .before .before .before .before .before .before .step-at .result) _ _ (c .before .before .before .before .before .before .before .before .before .before .piece .given .1) (c .before .before .before .before .before .before .before .before .before .before .before .before .step-at .ensures) in
     omega (arith, t .further, t .short)
 
 chunks-again : tie.Need-chunks-again Inv-chunks μ-chunks Inv-records μ-records
@@ -161,8 +162,8 @@ chunks-again c =
     let s = c .before .before .before .before .before .before .before .before .before .before .before .before .before .before .before .before .before .before .before .before .before .before .before .before .before .before .records in
     let v = c .before .before .before .before .before .before .before .before .before .before .before .before .before .chunks in
     let g = c .before .before .before .before .before .before .before .put-piece in
-    body-on _ _ _ _ (s .room) (s .margins) (s .count) (s .m) (s .at) (s .inv) (c .before .before .before .before .before .before .before .before .before .before .before .before .before .before .before .before .before .before .before .before .before .before .record-at .result) (c .before .before .before .before .before .before .before .before .before .before .before .before .before .before .before .before .before .before .before .before .before .before .record-at .ensures) (c .before .before .before .before .before .before .before .before .before .before .before .before .before .before .before .before .before .before .before .before .before .before .before .before .before .records-test .taken) (c .before .before .before .before .before .before .before .before .before .before .before .before .before .before .before .before .before .before .before .before .before .before .before .before .before .before .before .before .before .before .pre .0) _ (c .before .before .before .before .before .before .before .before .before .before .before .before .before .before .before .before .before .before .before .before .enum-told2 .given .1) (c .before .before .before .before .before .before .before .before .before .before .before .before .before .before .before .top-margin .result) (c .before .before .before .before .before .before .before .before .before .before .before .before .before .before .before .top-margin .ensures) (v .room) (v .m) (v .cursor) (v .inv) _ _
-    (took _ (v .cursor) (c .before .before .before .before .before .before .before .before .before .before .before .before .step-at .result) _ _ (c .before .before .before .before .before .before .before .before .before .before .piece .given .1) (c .before .before .before .before .before .before .before .before .before .before .before .before .step-at .ensures)) (g .last .0) _ (g .kept .0)
+    body-on _ _ _ _ (s .room) (s .margins) (s .count) (s .m) (s .at) (s .inv) (c .before .before .before .before .before .before .before .before .before .before .before .before .before .before .before .before .before .before .before .before .before .before .record-at .result) (c .before .before .before .before .before .before .before .before .before .before .before .before .before .before .before .before .before .before .before .before .before .before .record-at .ensures) (c .before .before .before .before .before .before .before .before .before .before .before .before .before .before .before .before .before .before .before .before .before .before .before .before .before .records-test .taken) (c .before .before .before .before .before .before .before .before .before .before .before .before .before .before .before .before .before .before .before .before .before .before .before .before .before .before .before .before .before .before .pre .0) _ (c .before .before .before .before .before .before .before .before .before .before .before .before .before .before .before .before .before .before .before .before .enum-told2 .given .1) (c .before .before .before .before .before .before .before .before .before .before .before .before .before .before .before .top-margin .result) (c .before .before .before .before .before .before .before .before .before .before .before .before .before .before .before .top-margin .ensures) (v .room) (v .m) (cursor (v .from) (v .code)) (v .inv) _ _
+    (took _ (cursor (v .from) (v .code)) (c .before .before .before .before .before .before .before .before .before .before .before .before .step-at .result) _ _ (c .before .before .before .before .before .before .before .before .before .before .piece .given .1) (c .before .before .before .before .before .before .before .before .before .before .before .before .step-at .ensures)) (g .last .0) _ (g .kept .0)
     (placed-at (g .last .0) (take (s .count) (s .margins)) (g .result) _ _ (c .before .before .before .placed2 .given .1) (g .ensures .0 (take (s .count) (s .margins)))) (nearby-at _ _ (g .result) _ (c .before .before .before .placed2 .given .1) (g .ensures .1))
     (sym (c .before .stops-at .ensures _) ∙ c .if3 .left)
 

@@ -1,15 +1,10 @@
-use mathlib.Core.Path.{_≡_, refl, sym, ap, _∙_, subst}
-use mathlib.Core.List.{List, [], _∷_, _++_}
-use mathlib.Core.Bool.{Bool, true, false, not, _&&_, _||_}
-use mathlib.Core.Logic.{⊎-elim}
-use Prim.Native.Nat.{ℕ, suc, _+_, _-_, _*_, _≤_, _<_, max}
-use native.Mathlib.Omega.{arith}
-use native.Mathlib.Numerals.{add-one}
+use mathlib.Core.Path.{refl, sym, _∙_}
+use mathlib.Core.List.{[], _∷_}
+use Prim.Native.Nat.{_-_}
 use borrow.Author.Needs.{needs}
-use borrow.Author.Tests.{ltb-true, ltb-false, leb-true, leb-false, eqb-true, not-true, not-false, lt-ltb, le-ltb, le-leb, lt-leb, eq-eqb, ne-eqb}
+use borrow.Author.Tests.{not-true, not-false}
 use denote.Ref.{now}
-use lib.Dec.{leb, ltb, eqb}
-use lib.ListN.{length, take, drop, getD, set, replicate, length-set}
+use lib.ListN.{length}
 use Rattle.console_parts.proofs.due_blank.Statement.{statement}
 use Rattle.console_parts.proofs.due_blank.Tie as tie
 use Rattle.walk.specs.Walk.{write}
@@ -21,13 +16,20 @@ returns : tie.Need-returns
 returns c =
     let a = c .before .before .before .before .before .before .before .before .before .before .before .args in
     let n = length (now (a .room)) in
-    ((λ kept. wrote (now (a .room)) _ (a .m .len) _ kept (a .m .lay) _ (0x0A ∷ []) n (λ l. l) refl (c .before .before .put .ensures) ∙ agree (now (a .room)) (a .m .len) kept (a .m .lay) (write n (0x0A ∷ [])) (dueBlank n) (λ h. sym (blank-due n _ (c .before .before .before .before .before .before .before .before .if1 .taken) (sym (c .before .before .before .before .before .ends-with .ensures) ∙ not-true _ (c .before .before .before .before .if2 .taken))))), near-same 0 (a .m .lay))
+    let open′ = sym (c .before .before .before .before .before .ends-with .ensures) ∙ not-true _ (c .before .before .before .before .if2 .taken) in (
+      (λ kept.
+          wrote (now (a .room)) _ (a .m .len) _ kept (a .m .lay) _ (0x0A ∷ []) n (λ l. l) refl (c .before .before .put .ensures)
+          ∙ agree (now (a .room)) (a .m .len) kept (a .m .lay) (write n (0x0A ∷ [])) (dueBlank n)
+          (λ h. sym (blank-due n _ (c .before .before .before .before .before .before .before .before .if1 .taken) open′))),
+      near-same 0 (a .m .lay),
+    )
 
 returns-2 : tie.Need-returns-2
 returns-2 c =
     let a = c .before .before .before .before .before .before .before .args in
     let n = length (now (a .room)) in
-    ((λ kept. idle (now (a .room)) (a .m .len) kept (a .m .lay) (dueBlank n) (λ h. blank-there n _ (sym (c .before .ends-with .ensures) ∙ not-false _ (c .if2 .left)))), near-same 0 (a .m .lay))
+    let there = sym (c .before .ends-with .ensures) ∙ not-false _ (c .if2 .left) in
+    ((λ kept. idle (now (a .room)) (a .m .len) kept (a .m .lay) (dueBlank n) (λ h. blank-there n _ there)), near-same 0 (a .m .lay))
 
 returns-3 : tie.Need-returns-3
 returns-3 c =

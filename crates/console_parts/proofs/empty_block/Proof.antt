@@ -1,15 +1,6 @@
-use mathlib.Core.Path.{_≡_, refl, sym, ap, _∙_, subst}
-use mathlib.Core.List.{List, [], _∷_, _++_}
-use mathlib.Core.Bool.{Bool, true, false, not, _&&_, _||_}
-use mathlib.Core.Logic.{⊎-elim}
-use Prim.Native.Nat.{ℕ, suc, _+_, _-_, _*_, _≤_, _<_, max}
-use native.Mathlib.Omega.{arith}
-use native.Mathlib.Numerals.{add-one}
+use mathlib.Core.Path.{sym, _∙_}
+use Prim.Native.Nat.{_-_}
 use borrow.Author.Needs.{needs}
-use borrow.Author.Tests.{ltb-true, ltb-false, leb-true, leb-false, eqb-true, not-true, not-false, lt-ltb, le-ltb, le-leb, lt-leb, eq-eqb, ne-eqb}
-use denote.Ref.{now}
-use lib.Dec.{leb, ltb, eqb}
-use lib.ListN.{length, take, drop, getD, set, replicate, length-set}
 use Rattle.console_parts.proofs.empty_block.Statement.{statement}
 use Rattle.console_parts.proofs.empty_block.Tie as tie
 use Rattle.console_parts.proofs.Scans.{empty-none, empty-one, empty-two}
@@ -21,10 +12,14 @@ returns-2 : tie.Need-returns-2
 returns-2 c = sym (empty-one _ _ _ (c .before .record-at .ensures) (c .before .before .if1 .left) (c .if2 .taken))
 
 returns-3 : tie.Need-returns-3
-returns-3 c = c .is-end .ensures ∙ sym (empty-two _ _ _ _ (c .before .before .before .before .before .record-at .ensures) (c .before .before .before .before .before .before .if1 .left) (c .before .before .before .record-at2 .ensures) (c .before .before .before .before .if2 .left) ∙ rw (sym (c .before .before .is-start .ensures) ∙ c .before .if3 .taken))
+returns-3 c =
+    let both = empty-two _ _ _ _ (c .before .before .before .before .before .record-at .ensures) (c .before .before .before .before .before .before .if1 .left) (c .before .before .before .record-at2 .ensures) (c .before .before .before .before .if2 .left) in
+    c .is-end .ensures ∙ sym (both ∙ rw (sym (c .before .before .is-start .ensures) ∙ c .before .if3 .taken))
 
 returns-4 : tie.Need-returns-4
-returns-4 c = sym (empty-two _ _ _ _ (c .before .before .before .before .record-at .ensures) (c .before .before .before .before .before .if1 .left) (c .before .before .record-at2 .ensures) (c .before .before .before .if2 .left) ∙ rw (sym (c .before .is-start .ensures) ∙ c .if3 .left))
+returns-4 c =
+    let both = empty-two _ _ _ _ (c .before .before .before .before .record-at .ensures) (c .before .before .before .before .before .if1 .left) (c .before .before .record-at2 .ensures) (c .before .before .before .if2 .left) in
+    sym (both ∙ rw (sym (c .before .is-start .ensures) ∙ c .if3 .left))
 
 pub empty-block-spec : {M : Type 1} → statement M
 empty-block-spec =

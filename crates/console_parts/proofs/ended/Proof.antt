@@ -1,20 +1,12 @@
-use mathlib.Core.Path.{_≡_, refl, sym, ap, _∙_, subst}
-use mathlib.Core.List.{List, [], _∷_, _++_}
-use mathlib.Core.Bool.{Bool, true, false, not, _&&_, _||_}
-use mathlib.Core.Logic.{⊎-elim}
-use Prim.Native.Nat.{ℕ, suc, _+_, _-_, _*_, _≤_, _<_, max}
+use Prim.Native.Nat.{_-_}
 use native.Mathlib.Omega.{arith}
-use native.Mathlib.Numerals.{add-one}
 use borrow.Author.Needs.{needs}
-use borrow.Author.Tests.{ltb-true, ltb-false, leb-true, leb-false, eqb-true, not-true, not-false, lt-ltb, le-ltb, le-leb, lt-leb, eq-eqb, ne-eqb}
 use denote.Ref.{now}
-use lib.Dec.{leb, ltb, eqb}
-use lib.ListN.{length, take, drop, getD, set, replicate, length-set}
+use lib.ListN.{length, take}
 use Rattle.console_parts.proofs.ended.Statement.{statement}
 use Rattle.console_parts.proofs.ended.Tie as tie
-use Rattle.base.proofs.Stack.{pop-take}
 use Rattle.console_parts.proofs.Margins.{still-shallow}
-use Rattle.console_parts.proofs.Blocks.{end-done}
+use Rattle.console_parts.proofs.Blocks.{end-done, pop-one}
 
 returns : tie.Need-returns
 returns c =
@@ -22,10 +14,16 @@ returns c =
     let t = c .before .before .before .before .tick-if in
     let l = c .before .end-lay .ensures in
     let n = c .less .ensures in (
-      (λ margins h. end-done (now (a .room)) (t .last .0) (take (a .count) margins) _ (a .m) (t .result) _ (a .b) (length (now (a .room))) _ (c .before .before .before .before .before .before .index-of .ensures) (t .ensures .0 (take (a .count) margins)) (l .0) (rw n (pop-take margins (a .count) h))),
+      (λ margins h.
+          end-done (now (a .room)) (t .last .0) (take (a .count) margins) _ (a .m) (t .result) _ (a .b) (length (now (a .room))) _
+          (c .before .before .before .before .before .before .index-of .ensures) (t .ensures .0 (take (a .count) margins)) (l .0) (pop-one _ (a .count) _ margins h n)),
       (
         n,
-        λ margins. record { column = omega (arith, l .1, t .ensures .1 .0); skip = omega (arith, l .2, t .ensures .1 .1); deeper = λ k. still-shallow k margins },
+        λ margins. record {
+          column = omega (arith, l .1, t .ensures .1 .0);
+          skip = omega (arith, l .2, t .ensures .1 .1);
+          deeper = λ k. still-shallow k margins;
+        },
       ),
     )
 

@@ -1,15 +1,9 @@
-use mathlib.Core.Path.{_≡_, refl, sym, ap, _∙_, subst}
-use mathlib.Core.List.{List, [], _∷_, _++_}
-use mathlib.Core.Bool.{Bool, true, false, not, _&&_, _||_}
-use mathlib.Core.Logic.{⊎-elim}
-use Prim.Native.Nat.{ℕ, suc, _+_, _-_, _*_, _≤_, _<_, max}
+use mathlib.Core.Path.{_≡_, refl, sym, _∙_}
+use Prim.Native.Nat.{_-_}
 use native.Mathlib.Omega.{arith}
-use native.Mathlib.Numerals.{add-one}
 use borrow.Author.Needs.{needs}
-use borrow.Author.Tests.{ltb-true, ltb-false, leb-true, leb-false, eqb-true, not-true, not-false, lt-ltb, le-ltb, le-leb, lt-leb, eq-eqb, ne-eqb}
 use denote.Ref.{now}
-use lib.Dec.{leb, ltb, eqb}
-use lib.ListN.{length, take, drop, getD, set, replicate, length-set}
+use lib.ListN.{length}
 use Rattle.console_parts.proofs.gap_ahead.Statement.{statement}
 use Rattle.console_parts.proofs.gap_ahead.Tie as tie
 use Rattle.document.specs.Document.{tokensFrom}
@@ -28,7 +22,9 @@ loop-holds c = refl
 returns : tie.Need-returns Inv-loop μ-loop
 returns c =
     let l = c .before .before .before .before .before .loop in
-    c .empty-block .ensures ∙ sym (l .inv ∙ gap-here (now (c .before .before .before .before .before .before .before .args .document)) (l .i) _ (c .before .before .before .record-at .ensures) (c .before .before .before .before .loop-test .taken) (sym (c .before .before .is-end .ensures) ∙ c .before .if1 .taken))
+    let here = sym (c .before .before .is-end .ensures) ∙ c .before .if1 .taken in
+    c .empty-block .ensures
+    ∙ sym (l .inv ∙ gap-here (now (c .before .before .before .before .before .before .before .args .document)) (l .i) _ (c .before .before .before .record-at .ensures) (c .before .before .before .before .loop-test .taken) here)
 
 loop-less : tie.Need-loop-less Inv-loop μ-loop
 loop-less c = let r = c .before .before .record-at .ensures in omega (arith, r .low (c .before .before .before .loop-test .taken), r .order, r .high)
@@ -36,7 +32,8 @@ loop-less c = let r = c .before .before .record-at .ensures in omega (arith, r .
 loop-again : tie.Need-loop-again Inv-loop μ-loop
 loop-again c =
     let l = c .before .before .before .before .loop in
-    l .inv ∙ gap-next (now (c .before .before .before .before .before .before .args .document)) (l .i) _ (c .before .before .record-at .ensures) (c .before .before .before .loop-test .taken) (sym (c .before .is-end .ensures) ∙ c .if1 .left)
+    let on = sym (c .before .is-end .ensures) ∙ c .if1 .left in
+    l .inv ∙ gap-next (now (c .before .before .before .before .before .before .args .document)) (l .i) _ (c .before .before .record-at .ensures) (c .before .before .before .loop-test .taken) on
 
 returns-2 : tie.Need-returns-2 Inv-loop μ-loop
 returns-2 c =

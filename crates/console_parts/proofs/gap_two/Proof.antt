@@ -1,15 +1,9 @@
-use mathlib.Core.Path.{_≡_, refl, sym, ap, _∙_, subst}
-use mathlib.Core.List.{List, [], _∷_, _++_}
-use mathlib.Core.Bool.{Bool, true, false, not, _&&_, _||_}
-use mathlib.Core.Logic.{⊎-elim}
-use Prim.Native.Nat.{ℕ, suc, _+_, _-_, _*_, _≤_, _<_, max}
+use mathlib.Core.Path.{sym, _∙_}
+use Prim.Native.Nat.{_+_, _-_}
 use native.Mathlib.Omega.{arith}
-use native.Mathlib.Numerals.{add-one}
 use borrow.Author.Needs.{needs}
-use borrow.Author.Tests.{ltb-true, ltb-false, leb-true, leb-false, eqb-true, not-true, not-false, lt-ltb, le-ltb, le-leb, lt-leb, eq-eqb, ne-eqb}
 use denote.Ref.{now}
-use lib.Dec.{leb, ltb, eqb}
-use lib.ListN.{length, take, drop, getD, set, replicate, length-set}
+use lib.ListN.{length, replicate}
 use Rattle.console_parts.proofs.gap_two.Statement.{statement}
 use Rattle.console_parts.proofs.gap_two.Tie as tie
 use Rattle.console_rules.specs.Console.{column, gap2}
@@ -20,26 +14,38 @@ returns : tie.Need-returns
 returns c =
     let a = c .before .before .before .before .before .before .before .before .before .before .args in
     let n = length (now (a .room)) in
-    let e = c .at-column .ensures in
-    ((λ kept. wrote (now (a .room)) _ (a .m .len) _ kept (a .m .lay) _ (replicate (2 - a .padded) 0x20) n (λ l. column (l .column .0 + (2 - a .padded)) l) e (c .before .before .before .put-spaces .ensures) ∙ agree (now (a .room)) (a .m .len) kept (a .m .lay) _ (gap2 n (a .padded)) (λ h. sym (gap-due n _ (a .padded) (c .before .before .before .before .before .before .before .if1 .taken) (c .before .before .before .before .before .before .if2 .taken) (c .before .before .before .before .before .if3 .taken)))), near-column 2 _ (a .m .lay) _ e (omega arith))
+    let e = c .at-column .ensures in (
+      (λ kept.
+          wrote (now (a .room)) _ (a .m .len) _ kept (a .m .lay) _ (replicate (2 - a .padded) 0x20) n
+          (λ l. column (l .column .0 + (2 - a .padded)) l) e (c .before .before .before .put-spaces .ensures)
+          ∙ agree (now (a .room)) (a .m .len) kept (a .m .lay) _ (gap2 n (a .padded))
+          (λ h. sym (gap-due n _ (a .padded) (c .before .before .before .before .before .before .before .if1 .taken) (c .before .before .before .before .before .before .if2 .taken) (c .before .before .before .before .before .if3 .taken)))),
+      near-column 2 _ (a .m .lay) _ e (omega arith),
+    )
 
 returns-2 : tie.Need-returns-2
 returns-2 c =
     let a = c .before .before .before .before .before .args in
-    let n = length (now (a .room)) in
-    ((λ kept. idle (now (a .room)) (a .m .len) kept (a .m .lay) (gap2 n (a .padded)) (λ h. gap-wide n _ (a .padded) (c .if3 .left))), near-same 2 (a .m .lay))
+    let n = length (now (a .room)) in (
+      (λ kept. idle (now (a .room)) (a .m .len) kept (a .m .lay) (gap2 n (a .padded)) (λ h. gap-wide n _ (a .padded) (c .if3 .left))),
+      near-same 2 (a .m .lay),
+    )
 
 returns-3 : tie.Need-returns-3
 returns-3 c =
     let a = c .before .before .before .before .args in
-    let n = length (now (a .room)) in
-    ((λ kept. idle (now (a .room)) (a .m .len) kept (a .m .lay) (gap2 n (a .padded)) (λ h. gap-near n _ (a .padded) (c .if2 .left))), near-same 2 (a .m .lay))
+    let n = length (now (a .room)) in (
+      (λ kept. idle (now (a .room)) (a .m .len) kept (a .m .lay) (gap2 n (a .padded)) (λ h. gap-near n _ (a .padded) (c .if2 .left))),
+      near-same 2 (a .m .lay),
+    )
 
 returns-4 : tie.Need-returns-4
 returns-4 c =
     let a = c .before .before .before .args in
-    let n = length (now (a .room)) in
-    ((λ kept. idle (now (a .room)) (a .m .len) kept (a .m .lay) (gap2 n (a .padded)) (λ h. gap-no n _ (a .padded) (c .if1 .left))), near-same 2 (a .m .lay))
+    let n = length (now (a .room)) in (
+      (λ kept. idle (now (a .room)) (a .m .len) kept (a .m .lay) (gap2 n (a .padded)) (λ h. gap-no n _ (a .padded) (c .if1 .left))),
+      near-same 2 (a .m .lay),
+    )
 
 pub gap-two-spec : {M : Type 1} → statement M
 gap-two-spec =

@@ -1,27 +1,22 @@
-use mathlib.Core.Path.{_≡_, refl, sym, ap, _∙_, subst}
-use mathlib.Core.List.{List, [], _∷_, _++_}
-use mathlib.Core.Bool.{Bool, true, false, not, _&&_, _||_}
-use mathlib.Core.Logic.{⊎-elim}
-use Prim.Native.Nat.{ℕ, suc, _+_, _-_, _*_, _≤_, _<_, max}
+use mathlib.Core.List.{[], _∷_}
+use Prim.Native.Nat.{_-_}
 use native.Mathlib.Omega.{arith}
-use native.Mathlib.Numerals.{add-one}
 use borrow.Author.Needs.{needs}
-use borrow.Author.Tests.{ltb-true, ltb-false, leb-true, leb-false, eqb-true, not-true, not-false, lt-ltb, le-ltb, le-leb, lt-leb, eq-eqb, ne-eqb}
 use denote.Ref.{now}
-use lib.Dec.{leb, ltb, eqb}
-use lib.ListN.{length, take, drop, getD, set, replicate, length-set}
 use Rattle.console_parts.proofs.line_end.Statement.{statement}
 use Rattle.console_parts.proofs.line_end.Tie as tie
 use Rattle.console_rules.specs.Console.{column, lineEnd}
-use Rattle.console_parts.proofs.Chunks.{near-column}
 use Rattle.console_parts.proofs.Pages.{wrote}
+use Rattle.console_parts.proofs.Chunks.{near-column}
 
 returns : tie.Need-returns
 unfolding lineEnd
 returns c =
     let a = c .before .before .before .before .before .before .args in
-    let e = c .at-column .ensures in
-    ((λ kept. wrote (now (a .room)) _ (a .m .len) _ kept (a .m .lay) _ (0x0A ∷ []) _ (column 0) e (c .before .before .before .put .ensures)), near-column 0 0 (a .m .lay) _ e (omega arith))
+    let e = c .at-column .ensures in (
+      (λ kept. wrote (now (a .room)) _ (a .m .len) _ kept (a .m .lay) _ (0x0A ∷ []) _ (column 0) e (c .before .before .before .put .ensures)),
+      near-column 0 0 (a .m .lay) _ e (omega arith),
+    )
 
 pub line-end-spec : {M : Type 1} → statement M
 line-end-spec =

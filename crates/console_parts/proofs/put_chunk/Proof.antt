@@ -1,15 +1,7 @@
-use mathlib.Core.Path.{_≡_, refl, sym, ap, _∙_, subst}
-use mathlib.Core.List.{List, [], _∷_, _++_}
-use mathlib.Core.Bool.{Bool, true, false, not, _&&_, _||_}
-use mathlib.Core.Logic.{⊎-elim}
-use Prim.Native.Nat.{ℕ, suc, _+_, _-_, _*_, _≤_, _<_, max}
+use Prim.Native.Nat.{_+_, _-_}
 use native.Mathlib.Omega.{arith}
-use native.Mathlib.Numerals.{add-one}
 use borrow.Author.Needs.{needs}
-use borrow.Author.Tests.{ltb-true, ltb-false, leb-true, leb-false, eqb-true, not-true, not-false, lt-ltb, le-ltb, le-leb, lt-leb, eq-eqb, ne-eqb}
 use denote.Ref.{now}
-use lib.Dec.{leb, ltb, eqb}
-use lib.ListN.{length, take, drop, getD, set, replicate, length-set}
 use Rattle.console_parts.proofs.put_chunk.Statement.{statement}
 use Rattle.console_parts.proofs.put_chunk.Tie as tie
 use Rattle.console_parts.proofs.Pages.{over}
@@ -22,16 +14,27 @@ returns c =
 
 returns-2 : tie.Need-returns-2
 returns-2 c =
-    let a = c .before .before .before .before .before .before .before .args in
-    ((λ kept. deep (now (a .room)) kept (a .m) (a .margin) (a .at) (now (a .text)) (a .width) _ (c .before .before .before .less .ensures) (c .before .before .if1 .taken) (c .if2 .left)), tt)
+    let a = c .before .before .before .before .before .before .before .args in (
+      (λ kept.
+          deep (now (a .room)) kept (a .m) (a .margin) (a .at) (now (a .text)) (a .width) _ (c .before .before .before .less .ensures) (c .before .before .if1 .taken) (c .if2 .left)),
+      tt,
+    )
 
 returns-3 : tie.Need-returns-3
 returns-3 c =
     let a = c .before .before .before .before .before .before .before .before .before .before .before .before .before .before .before .before .before .args in
+    let miss = c .before .before .before .before .before .before .before .before .before .before .before .before .before .less in
     let r = c .before .before .before .before .before .before .before .before .before .before .reach-margin in
     let g = c .before .before .before .before .before .before .gap-two in
-    let h = c .before .before .place-here in
-    ((λ kept. put-done (now (a .room)) kept (a .m) (a .margin) (a .at) (now (a .text)) (a .width) (c .before .before .before .before .before .before .before .before .before .before .before .before .before .less .result) _ _ _ _ _ (r .kept .0) (g .kept .0) (c .before .before .before .before .before .before .before .before .before .before .before .before .before .less .ensures) (c .before .before .before .before .before .before .before .before .before .before .before .before .if1 .left) (r .ensures .0 kept) (g .ensures .0 kept) (h .ensures .0 kept)), near-then (a .margin + 2) (a .width) (a .margin + a .width + 2) (a .m .lay) (g .result .lay) (h .result .lay) (omega arith) (near-then (a .margin) 2 (a .margin + 2) (a .m .lay) (r .result .lay) (g .result .lay) (omega arith) (r .ensures .1) (g .ensures .1)) (h .ensures .1))
+    let h = c .before .before .place-here in (
+      (λ kept.
+          put-done (now (a .room)) kept (a .m) (a .margin) (a .at) (now (a .text)) (a .width) (miss .result) _ _ _ _ _ (r .kept .0) (g .kept .0)
+          (miss .ensures) (c .before .before .before .before .before .before .before .before .before .before .before .before .if1 .left)
+          (r .ensures .0 kept) (g .ensures .0 kept) (h .ensures .0 kept)),
+      near-then (a .margin + 2) (a .width) (a .margin + a .width + 2) (a .m .lay) (g .result .lay) (h .result .lay) (omega arith)
+          (near-then (a .margin) 2 (a .margin + 2) (a .m .lay) (r .result .lay) (g .result .lay) (omega arith) (r .ensures .1) (g .ensures .1))
+          (h .ensures .1),
+    )
 
 pub put-chunk-spec : {M : Type 1} → statement M
 put-chunk-spec =

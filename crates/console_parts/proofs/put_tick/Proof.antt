@@ -1,15 +1,9 @@
-use mathlib.Core.Path.{_≡_, refl, sym, ap, _∙_, subst}
-use mathlib.Core.List.{List, [], _∷_, _++_}
-use mathlib.Core.Bool.{Bool, true, false, not, _&&_, _||_}
-use mathlib.Core.Logic.{⊎-elim}
-use Prim.Native.Nat.{ℕ, suc, _+_, _-_, _*_, _≤_, _<_, max}
+use mathlib.Core.Path.{ap}
+use mathlib.Core.List.{[], _∷_}
+use Prim.Native.Nat.{_+_, _-_}
 use native.Mathlib.Omega.{arith}
-use native.Mathlib.Numerals.{add-one}
 use borrow.Author.Needs.{needs}
-use borrow.Author.Tests.{ltb-true, ltb-false, leb-true, leb-false, eqb-true, not-true, not-false, lt-ltb, le-ltb, le-leb, lt-leb, eq-eqb, ne-eqb}
 use denote.Ref.{now}
-use lib.Dec.{leb, ltb, eqb}
-use lib.ListN.{length, take, drop, getD, set, replicate, length-set}
 use Rattle.console_parts.proofs.put_tick.Statement.{statement}
 use Rattle.console_parts.proofs.put_tick.Tie as tie
 use Rattle.console_rules.specs.Console.{column, tick}
@@ -21,8 +15,10 @@ unfolding tick
 returns c =
     let a = c .before .before .before .before .before .before .before .args in
     let e = c .at-column .ensures in
-    let k = ap (λ (l : Lay). l .column .0) e in
-    ((λ kept. wrote (now (a .room)) _ (a .m .len) _ kept (a .m .lay) _ (0x60 ∷ []) _ (λ l. column (l .column .0 + 1) l) e (c .before .before .before .before .put .ensures)), (omega arith, ap (λ (l : Lay). l .skip) e))
+    let k = ap (λ (l : Lay). l .column .0) e in (
+      (λ kept. wrote (now (a .room)) _ (a .m .len) _ kept (a .m .lay) _ (0x60 ∷ []) _ (λ l. column (l .column .0 + 1) l) e (c .before .before .before .before .put .ensures)),
+      (omega arith, ap (λ (l : Lay). l .skip) e),
+    )
 
 pub put-tick-spec : {M : Type 1} → statement M
 put-tick-spec =

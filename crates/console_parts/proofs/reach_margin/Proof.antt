@@ -1,20 +1,14 @@
-use mathlib.Core.Path.{_≡_, refl, sym, ap, _∙_, subst}
-use mathlib.Core.List.{List, [], _∷_, _++_}
-use mathlib.Core.Bool.{Bool, true, false, not, _&&_, _||_}
-use mathlib.Core.Logic.{⊎-elim}
-use Prim.Native.Nat.{ℕ, suc, _+_, _-_, _*_, _≤_, _<_, max}
+use mathlib.Core.Path.{refl, _∙_}
+use Prim.Native.Nat.{_-_, max}
 use native.Mathlib.Omega.{arith}
-use native.Mathlib.Numerals.{add-one}
 use borrow.Author.Needs.{needs}
-use borrow.Author.Tests.{ltb-true, ltb-false, leb-true, leb-false, eqb-true, not-true, not-false, lt-ltb, le-ltb, le-leb, lt-leb, eq-eqb, ne-eqb}
 use denote.Ref.{now}
-use lib.Dec.{leb, ltb, eqb}
-use lib.ListN.{length, take, drop, getD, set, replicate, length-set}
+use lib.ListN.{length, replicate}
 use Rattle.console_parts.proofs.reach_margin.Statement.{statement}
 use Rattle.console_parts.proofs.reach_margin.Tie as tie
 use Rattle.console_rules.specs.Console.{column, reach}
-use Rattle.console_parts.proofs.Chunks.{near-column}
 use Rattle.console_parts.proofs.Pages.{wrote, agree}
+use Rattle.console_parts.proofs.Chunks.{near-column}
 
 returns : tie.Need-returns
 unfolding reach
@@ -24,8 +18,13 @@ returns c =
     let e = c .at-column .ensures in
     let s = c .before .before .before .before .put-spaces .ensures in
     let z = c .before .before .before .before .before .less .ensures in
-    let x = c .before .larger .ensures in
-    ((λ kept. wrote (now (a .room)) _ (a .m .len) _ kept (a .m .lay) _ (replicate (a .margin - a .m .lay .column .0) 0x20) n (λ l. column (max (l .column .0) (a .margin)) l) (rw x at e) (rw z at s) ∙ agree (now (a .room)) (a .m .len) kept (a .m .lay) _ (reach n (a .margin)) (λ _. refl)), near-column (a .margin) _ (a .m .lay) _ e (omega arith))
+    let x = c .before .larger .ensures in (
+      (λ kept.
+          wrote (now (a .room)) _ (a .m .len) _ kept (a .m .lay) _ (replicate (a .margin - a .m .lay .column .0) 0x20) n
+          (λ l. column (max (l .column .0) (a .margin)) l) (rw x at e) (rw z at s)
+          ∙ agree (now (a .room)) (a .m .len) kept (a .m .lay) _ (reach n (a .margin)) (λ _. refl)),
+      near-column (a .margin) _ (a .m .lay) _ e (omega arith),
+    )
 
 pub reach-margin-spec : {M : Type 1} → statement M
 reach-margin-spec =

@@ -1,15 +1,9 @@
-use mathlib.Core.Path.{_≡_, refl, sym, ap, _∙_, subst}
-use mathlib.Core.List.{List, [], _∷_, _++_}
-use mathlib.Core.Bool.{Bool, true, false, not, _&&_, _||_}
-use mathlib.Core.Logic.{⊎-elim}
-use Prim.Native.Nat.{ℕ, suc, _+_, _-_, _*_, _≤_, _<_, max}
+use mathlib.Core.Path.{sym, _∙_}
+use Prim.Native.Nat.{_-_}
 use native.Mathlib.Omega.{arith}
-use native.Mathlib.Numerals.{add-one}
 use borrow.Author.Needs.{needs}
-use borrow.Author.Tests.{ltb-true, ltb-false, leb-true, leb-false, eqb-true, not-true, not-false, lt-ltb, le-ltb, le-leb, lt-leb, eq-eqb, ne-eqb}
 use denote.Ref.{now}
-use lib.Dec.{leb, ltb, eqb}
-use lib.ListN.{length, take, drop, getD, set, replicate, length-set}
+use lib.ListN.{length, take}
 use Rattle.console_parts.proofs.started.Statement.{statement}
 use Rattle.console_parts.proofs.started.Tie as tie
 use Rattle.console_parts.proofs.Margins.{still-shallow}
@@ -21,11 +15,18 @@ returns c =
     let t = c .before .before .before .before .before .before .before .before .before .before .tick-if in
     let g = c .before .before .before .before .before .before .before .before .before .before .before .before .gap-at in
     let l = c .before .before .before .before .before .before .before .start-lay .ensures in
-    let d = c .before .before .indent-by in (
-      start-done (now (a .room)) (t .last .0) (take (a .count) (now (a .margins))) _ (a .m) (t .result) _ (a .b) (length (now (a .room))) _ (c .before .before .before .before .before .before .before .before .before .before .before .before .before .index-of .ensures) (t .ensures .0 (take (a .count) (now (a .margins)))) (a .tab) (g .result) _ (g .ensures) (l .0) (d .ensures .0 .1 ∙ push-yes (a .tab) _ (g .result) _ _ (sym (c .before .before .before .before .before .before .pushes-one .ensures) ∙ c .before .before .before .before .before .if1 .taken) (c .before .before .before .start-more .ensures .0)),
+    let d = c .before .before .indent-by in
+    let kept = take (a .count) (now (a .margins)) in (
+      start-done (now (a .room)) (t .last .0) kept _ (a .m) (t .result) _ (a .b) (length (now (a .room))) _ (c .before .before .before .before .before .before .before .before .before .before .before .before .before .index-of .ensures)
+          (t .ensures .0 kept) (a .tab) (g .result) _ (g .ensures) (l .0)
+          (push-yes (a .tab) _ (g .result) kept _ _ (sym (c .before .before .before .before .before .before .pushes-one .ensures) ∙ c .before .before .before .before .before .if1 .taken) (c .before .before .before .start-more .ensures .0) (d .ensures .0 .1)),
       (
         omega (arith, d .ensures .0 .0),
-        record { column = omega (arith, l .1, t .ensures .1 .0); skip = omega (arith, l .2, t .ensures .1 .1); deeper = d .ensures .1 },
+        record {
+          column = omega (arith, l .1, t .ensures .1 .0);
+          skip = omega (arith, l .2, t .ensures .1 .1);
+          deeper = d .ensures .1;
+        },
       ),
     )
 
@@ -34,11 +35,18 @@ returns-2 c =
     let a = c .before .before .before .before .before .before .before .before .before .before .before .before .args in
     let t = c .before .before .before .before .before .tick-if in
     let g = c .before .before .before .before .before .before .before .gap-at in
-    let l = c .before .before .start-lay .ensures in (
-      start-done (now (a .room)) (t .last .0) (take (a .count) (now (a .margins))) _ (a .m) (t .result) _ (a .b) (length (now (a .room))) _ (c .before .before .before .before .before .before .before .before .index-of .ensures) (t .ensures .0 (take (a .count) (now (a .margins)))) (a .tab) (g .result) _ (g .ensures) (l .0) (push-no (a .tab) _ (g .result) _ (sym (c .before .pushes-one .ensures) ∙ c .if1 .left)),
+    let l = c .before .before .start-lay .ensures in
+    let kept = take (a .count) (now (a .margins)) in (
+      start-done (now (a .room)) (t .last .0) kept _ (a .m) (t .result) _ (a .b) (length (now (a .room))) _ (c .before .before .before .before .before .before .before .before .index-of .ensures)
+          (t .ensures .0 kept) (a .tab) (g .result) _ (g .ensures) (l .0)
+          (push-no (a .tab) _ (g .result) _ (sym (c .before .pushes-one .ensures) ∙ c .if1 .left)),
       (
         omega arith,
-        record { column = omega (arith, l .1, t .ensures .1 .0); skip = omega (arith, l .2, t .ensures .1 .1); deeper = λ k. still-shallow k (now (a .margins)) },
+        record {
+          column = omega (arith, l .1, t .ensures .1 .0);
+          skip = omega (arith, l .2, t .ensures .1 .1);
+          deeper = λ k. still-shallow k (now (a .margins));
+        },
       ),
     )
 

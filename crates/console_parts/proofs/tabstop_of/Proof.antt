@@ -1,21 +1,16 @@
-use mathlib.Core.Path.{_≡_, refl, sym, ap, _∙_, subst}
-use mathlib.Core.List.{List, [], _∷_, _++_}
-use mathlib.Core.Bool.{Bool, true, false, not, _&&_, _||_}
-use mathlib.Core.Logic.{⊎-elim}
-use Prim.Native.Nat.{ℕ, suc, _+_, _-_, _*_, _≤_, _<_, max}
+use mathlib.Core.Path.{_≡_, refl, sym, ap, _∙_}
+use mathlib.Core.Bool.{false}
+use Prim.Native.Nat.{_+_, _-_, _≤_}
 use native.Mathlib.Omega.{arith}
-use native.Mathlib.Numerals.{add-one}
 use borrow.Author.Needs.{needs}
-use borrow.Author.Tests.{ltb-true, ltb-false, leb-true, leb-false, eqb-true, not-true, not-false, lt-ltb, le-ltb, le-leb, lt-leb, eq-eqb, ne-eqb}
 use denote.Ref.{now}
-use lib.Dec.{leb, ltb, eqb}
-use lib.ListN.{length, take, drop, getD, set, replicate, length-set}
+use lib.ListN.{length, drop}
 use Rattle.console_parts.proofs.tabstop_of.Statement.{statement}
 use Rattle.console_parts.proofs.tabstop_of.Tie as tie
 use lib.ListN.{length-take}
 use Rattle.document.specs.Document.{tokens, tokensFrom}
 use Rattle.document.specs.Answers.{part}
-use Rattle.console_rules.specs.Console.{Terms, terms, term, tabstop}
+use Rattle.console_rules.specs.Console.{Terms, terms, tabstop}
 use Rattle.console_parts.specs.Counted.{termsOf}
 use Rattle.console_parts.proofs.Scans.{terms-next, terms-none, term-bounds}
 

@@ -1,15 +1,8 @@
-use mathlib.Core.Path.{_≡_, refl, sym, ap, _∙_, subst}
-use mathlib.Core.List.{List, [], _∷_, _++_}
-use mathlib.Core.Bool.{Bool, true, false, not, _&&_, _||_}
-use mathlib.Core.Logic.{⊎-elim}
-use Prim.Native.Nat.{ℕ, suc, _+_, _-_, _*_, _≤_, _<_, max}
+use mathlib.Core.Path.{sym, ap, _∙_}
+use Prim.Native.Nat.{_-_}
 use native.Mathlib.Omega.{arith}
-use native.Mathlib.Numerals.{add-one}
 use borrow.Author.Needs.{needs}
-use borrow.Author.Tests.{ltb-true, ltb-false, leb-true, leb-false, eqb-true, not-true, not-false, lt-ltb, le-ltb, le-leb, lt-leb, eq-eqb, ne-eqb}
 use denote.Ref.{now}
-use lib.Dec.{leb, ltb, eqb}
-use lib.ListN.{length, take, drop, getD, set, replicate, length-set}
 use Rattle.console_parts.proofs.term_on.Statement.{statement}
 use Rattle.console_parts.proofs.term_on.Tie as tie
 use Rattle.console_rules.specs.Console.{term}
@@ -22,12 +15,15 @@ add-r c = omega (arith, c .before .count .ensures, characters-short (now (c .bef
 returns : tie.Need-returns
 returns c =
     let a = c .before .before .before .before .before .before .args in
-    text-counted _ (now (a .body)) (termsOf (a .t)) _ (c .before .before .if1 .taken) (c .before .count .ensures) ∙ ap (λ k. term k (now (a .body)) (termsOf (a .t))) (sym (c .before .before .before .enum-told .given .1))
+    let t = termsOf (a .t) in
+    text-counted _ (now (a .body)) t _ (c .before .before .if1 .taken) (c .before .count .ensures)
+    ∙ ap (λ k. term k (now (a .body)) t) (sym (c .before .before .before .enum-told .given .1))
 
 returns-2 : tie.Need-returns-2
 returns-2 c =
     let a = c .before .before .before .before .args in
-    text-passed _ (now (a .body)) (termsOf (a .t)) (c .if1 .left) ∙ ap (λ k. term k (now (a .body)) (termsOf (a .t))) (sym (c .before .enum-told .given .1))
+    let t = termsOf (a .t) in
+    text-passed _ (now (a .body)) t (c .if1 .left) ∙ ap (λ k. term k (now (a .body)) t) (sym (c .before .enum-told .given .1))
 
 returns-3 : tie.Need-returns-3
 unfolding term

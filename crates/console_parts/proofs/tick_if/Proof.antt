@@ -1,15 +1,9 @@
-use mathlib.Core.Path.{_≡_, refl, sym, ap, _∙_, subst}
-use mathlib.Core.List.{List, [], _∷_, _++_}
-use mathlib.Core.Bool.{Bool, true, false, not, _&&_, _||_}
-use mathlib.Core.Logic.{⊎-elim}
-use Prim.Native.Nat.{ℕ, suc, _+_, _-_, _*_, _≤_, _<_, max}
+use mathlib.Core.Path.{refl, sym, _∙_}
+use Prim.Native.Nat.{_-_}
 use native.Mathlib.Omega.{arith}
-use native.Mathlib.Numerals.{add-one}
 use borrow.Author.Needs.{needs}
-use borrow.Author.Tests.{ltb-true, ltb-false, leb-true, leb-false, eqb-true, not-true, not-false, lt-ltb, le-ltb, le-leb, lt-leb, eq-eqb, ne-eqb}
 use denote.Ref.{now}
-use lib.Dec.{leb, ltb, eqb}
-use lib.ListN.{length, take, drop, getD, set, replicate, length-set}
+use lib.ListN.{length}
 use Rattle.console_parts.proofs.tick_if.Statement.{statement}
 use Rattle.console_parts.proofs.tick_if.Tie as tie
 use Rattle.console_rules.specs.Console.{tick}
@@ -21,13 +15,18 @@ returns : tie.Need-returns
 returns c =
     let a = c .before .before .before .before .before .before .args in
     let n = length (now (a .room)) in
-    ((λ kept. c .before .before .put-tick .ensures .0 kept ∙ agree (now (a .room)) (a .m .len) kept (a .m .lay) (tick n) (tickIf n (a .i)) (λ h. sym (tick-due n (a .i) _ (c .before .before .before .before .if1 .taken)))), c .before .before .put-tick .ensures .1)
+    let p = c .before .before .put-tick .ensures in (
+      (λ kept. p .0 kept ∙ agree (now (a .room)) (a .m .len) kept (a .m .lay) (tick n) (tickIf n (a .i)) (λ h. sym (tick-due n (a .i) _ (c .before .before .before .before .if1 .taken)))),
+      p .1,
+    )
 
 returns-2 : tie.Need-returns-2
 returns-2 c =
     let a = c .before .before .args in
-    let n = length (now (a .room)) in
-    ((λ kept. idle (now (a .room)) (a .m .len) kept (a .m .lay) (tickIf n (a .i)) (λ h. tick-none n (a .i) _ (c .if1 .left))), (omega arith, refl))
+    let n = length (now (a .room)) in (
+      (λ kept. idle (now (a .room)) (a .m .len) kept (a .m .lay) (tickIf n (a .i)) (λ h. tick-none n (a .i) _ (c .if1 .left))),
+      (omega arith, refl),
+    )
 
 pub tick-if-spec : {M : Type 1} → statement M
 tick-if-spec =

@@ -1,0 +1,23 @@
+use Prim.Native.Nat.{_-_}
+use borrow.Author.Needs.{needs}
+use Rattle.sefgrunn.proofs.sefgrunn_check.Statement.{statement}
+use Rattle.sefgrunn.proofs.sefgrunn_check.Tie as tie
+use Rattle.sefgrunn.proofs.Numbers.{checked-accepted, checked-refused}
+
+returns : tie.Need-returns
+returns c = checked-accepted (c .before .before .check .result) _ (c .before .before .check .ensures) (c .enum-told .given .1)
+
+returns-2 : tie.Need-returns-2
+returns-2 c = checked-refused (c .before .before .before .before .before .check .result) _ (c .before .before .before .before .before .check .ensures) _ _ _ (c .before .before .before .answer .given .1) (c .refusal-number .ensures) (c .before .refusal-place .ensures)
+
+pub sefgrunn-check-spec : {M : Type 1} → statement M
+sefgrunn-check-spec =
+    tie.close
+    (tie.spec
+    (λ c κs. search needs)
+    (λ c. search needs)
+    (λ c. search needs)
+    (λ c κs. search needs)
+    (λ c κs. search needs)
+    returns
+    returns-2)
