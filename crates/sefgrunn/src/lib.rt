@@ -4,6 +4,7 @@ ghost use lib.ListN.{length};
 ghost use Rattle.document.specs.Document.{check};
 ghost use Rattle.walk.specs.Rendered.{filled};
 ghost use Rattle.console_rules.specs.Console.{console};
+ghost use Rattle.manpage.specs.Roff.{roff};
 ghost use Rattle.sefgrunn.specs.Numbers.{numberOf, placeOf, lengthOrPlace, settings, answerNumber, answerAt};
 use console_rules::Settings;
 use document::Checked;
@@ -59,5 +60,16 @@ pub extern "C" fn sefgrunn_console(
     ensures room { λ _. ⌜ now (room .exit) ≡ filled (length (now (room .entry))) (console (settings width full) (length (now (room .entry))) (now (document .entry))) ⌝ }
 {
     let answer = console::render_console(document, Settings { width, full }, room);
+    told(answer, at)
+}
+
+// `Doc::render_roff` given `Roff::new()`.
+#[no_mangle]
+pub extern "C" fn sefgrunn_roff(document: &[u8], room: &mut [u8], at: &mut usize) -> u32
+    ensures number { λ r. ⌜ r ≡ numberOf (roff (length (now (room .entry))) (now (document .entry))) ⌝ }
+    ensures at { λ _. ⌜ now (at .exit) ≡ lengthOrPlace (roff (length (now (room .entry))) (now (document .entry))) ⌝ }
+    ensures room { λ _. ⌜ now (room .exit) ≡ filled (length (now (room .entry))) (roff (length (now (room .entry))) (now (document .entry))) ⌝ }
+{
+    let answer = manpage::render_roff(document, room);
     told(answer, at)
 }

@@ -1,5 +1,6 @@
 use mathlib.Core.Path.{sym, _∙_}
 use Prim.Native.Nat.{_-_}
+use native.Mathlib.Omega.{arith}
 use borrow.Author.Needs.{needs}
 use denote.Ref.{now}
 use Rattle.splitter.proofs.strip_prefix.Statement.{statement}
@@ -8,10 +9,10 @@ use Rattle.base.proofs.Prefix.{starts-length}
 use Rattle.splitter.proofs.Answers.{stripped-there, stripped-not}
 
 sub-result : tie.Need-sub-result
-sub-result c = starts-length (now (c .before .before .before .before .args .prefix)) (now (c .before .before .before .before .args .text)) (sym (c .before .starts-with .ensures) ∙ c .if1 .taken)
+sub-result c = omega (arith, starts-length (now (c .before .before .before .before .args .prefix)) (now (c .before .before .before .before .args .text)) (sym (c .before .starts-with .ensures) ∙ c .if1 .taken))
 
 part-result-start : tie.Need-part-result-start
-part-result-start c = starts-length (now (c .before .before .before .before .args .prefix)) (now (c .before .before .before .before .args .text)) (sym (c .before .starts-with .ensures) ∙ c .if1 .taken)
+part-result-start c = omega (arith, starts-length (now (c .before .before .before .before .args .prefix)) (now (c .before .before .before .before .args .text)) (sym (c .before .starts-with .ensures) ∙ c .if1 .taken))
 
 returns : tie.Need-returns
 returns c = stripped-there (now (c .before .before .before .before .before .args .prefix)) (now (c .before .before .before .before .before .args .text)) (sym (c .before .before .starts-with .ensures) ∙ c .before .if1 .taken)

@@ -1,0 +1,6 @@
+pub mod Escaping
+pub mod Composing
+pub mod Capturing
+pub mod Blocks
+pub mod Walking
+pub mod Samples

@@ -1,0 +1,46 @@
+use mathlib.Core.Path.{sym, ap, _∙_}
+use mathlib.Core.List.{[]}
+use Prim.Native.Nat.{ℕ, _-_}
+use borrow.Author.Needs.{needs}
+use denote.Ref.{now}
+use lib.ListN.{length}
+use Rattle.manpage.proofs.render_roff.Statement.{statement}
+use Rattle.manpage.proofs.render_roff.Tie as tie
+use Rattle.base.specs.Result.{_>>=_}
+use Rattle.document.proofs.Walks.{verdict-gives, verdict-refused}
+use Rattle.walk.specs.Rendered.{measured, standing, filled}
+use Rattle.walk.proofs.Clearing.{standing-measured}
+use Rattle.manpage.proofs.Walking.{roff-accepted, roff-refused}
+
+returns : tie.Need-returns
+returns c =
+    let a = c .before .before .before .before .before .before .before .before .before .before .before .before .before .args in
+    let w = c .before .before .before .before .before .before .walk in
+    let e = w .ensures .0 ∙ roff-accepted (length (now (a .room))) (now (a .document)) (verdict-gives [] (c .before .before .before .before .before .before .before .before .before .before .check .ensures) (c .before .before .before .before .before .before .before .before .enum-told .given .1)) in (
+      standing-measured (w .last .1 .0) (w .result) _ e (w .ensures .1),
+      c .before .before .clear-after .ensures ∙ ap (λ (n : ℕ). filled n (standing (w .last .1 .0) (w .result))) (w .kept .1 .0) ∙ ap (filled (length (now (a .room)))) e,
+    )
+
+returns-2 : tie.Need-returns-2
+unfolding measured _>>=_
+returns-2 c =
+    let a = c .before .before .before .before .before .before .before .before .before .before .args in
+    let e = roff-refused (length (now (a .room))) (now (a .document)) _ _ (verdict-refused [] (c .before .before .before .before .before .before .before .check .ensures) (c .before .before .before .before .before .verdict .given .1)) in (
+      sym (ap measured e),
+      c .before .before .clear-after2 .ensures ∙ ap (filled (length (now (a .room)))) (sym e),
+    )
+
+pub render-roff-spec : {M : Type 1} → statement M
+render-roff-spec =
+    tie.close
+    (tie.spec
+    (λ c κs. search needs)
+    (λ c. search needs)
+    (λ c κs. search needs)
+    (λ c κs. search needs)
+    (λ c. search needs)
+    (λ c κs. search needs)
+    (λ c. search needs)
+    returns
+    (λ c. search needs)
+    returns-2)

@@ -1,0 +1,168 @@
+// Escape bytes by roff's rules, into a lent room (src/buffer/manpage/escape.rs).
+ghost use mathlib.Core.Path.{_≡_};
+ghost use mathlib.Core.List.{_∷_, []};
+ghost use mathlib.Core.List.{map};
+ghost use lib.ListN.{length};
+ghost use Rattle.base.specs.Result.{_>>=_ as bind};
+ghost use Rattle.room.specs.Room.{seen, extended};
+ghost use Rattle.manpage.specs.Escape.{guard, backslash, replaced, specialByte, spacesByte, escapeByte, startsLine, escape, lineStart, spaces};
+ghost use Rattle.manpage.specs.Roff.{upper};
+
+// Escaping rules.
+pub enum Escape {
+    // a line end first, unless a line starts here already
+    UnescapedAtNewline,
+    // spaces and line ends escaped: arguments of control lines
+    Spaces,
+    // bytes that roff considers special escaped
+    Special,
+    // as Special, and a line end becomes a space
+    SpecialNoNewline,
+    // as it is
+    Unescaped,
+}
+
+// The length of the text so far, and whether a line starts there.
+pub struct Line {
+    pub len: usize,
+    pub fresh: bool,
+}
+
+// A full stop and an apostrophe are guarded at the start of a line.
+fn put_guard(room: &mut [u8], len: usize, start: bool, c: u8) -> usize
+    ensures { λ r. ⌜ seen (now (room .exit)) r ≡ bind (seen (now (room .entry)) len) (extended (length (now (room .entry))) (guard start c)) ⌝ }
+{
+    if start {
+        if c == b'.' {
+            return room::put_all(room, len, b"\\&");
+        }
+        if c == b'\'' {
+            return room::put_all(room, len, b"\\&");
+        }
+    }
+    len
+}
+
+fn put_backslash(room: &mut [u8], len: usize, c: u8) -> usize
+    ensures { λ r. ⌜ seen (now (room .exit)) r ≡ bind (seen (now (room .entry)) len) (extended (length (now (room .entry))) (backslash c)) ⌝ }
+{
+    if c == b'\\' {
+        return room::put(room, len, b'\\');
+    }
+    if c == b'-' {
+        return room::put(room, len, b'\\');
+    }
+    len
+}
+
+fn put_replaced(room: &mut [u8], len: usize, ends: u8, c: u8) -> usize
+    ensures { λ r. ⌜ seen (now (room .exit)) r ≡ bind (seen (now (room .entry)) len) (extended (length (now (room .entry))) (replaced ends c)) ⌝ }
+{
+    if c == b'\'' {
+        return room::put_all(room, len, b"\\*(Aq");
+    }
+    if c == b'\n' {
+        return room::put(room, len, ends);
+    }
+    room::put(room, len, c)
+}
+
+// A byte of text.
+fn put_special(room: &mut [u8], len: usize, ends: u8, start: bool, c: u8) -> usize
+    ensures { λ r. ⌜ seen (now (room .exit)) r ≡ bind (seen (now (room .entry)) len) (extended (length (now (room .entry))) (specialByte ends start c)) ⌝ }
+{
+    let guarded = put_guard(room, len, start, c);
+    let marked = put_backslash(room, guarded, c);
+    put_replaced(room, marked, ends, c)
+}
+
+// A byte of a control line's argument.
+fn put_space(room: &mut [u8], len: usize, c: u8) -> usize
+    ensures { λ r. ⌜ seen (now (room .exit)) r ≡ bind (seen (now (room .entry)) len) (extended (length (now (room .entry))) (spacesByte c)) ⌝ }
+{
+    if c == b' ' {
+        return room::put_all(room, len, b"\\ ");
+    }
+    if c == b'\n' {
+        return room::put_all(room, len, b"\\ ");
+    }
+    room::put(room, len, c)
+}
+
+// A byte in a mode.
+fn put_byte(room: &mut [u8], len: usize, mode: Escape, start: bool, c: u8) -> usize
+    ensures { λ r. ⌜ seen (now (room .exit)) r ≡ bind (seen (now (room .entry)) len) (extended (length (now (room .entry))) (escapeByte mode start c)) ⌝ }
+{
+    match mode {
+        Escape::UnescapedAtNewline => room::put(room, len, c),
+        Escape::Spaces => put_space(room, len, c),
+        Escape::Special => put_special(room, len, b'\n', start, c),
+        Escape::SpecialNoNewline => put_special(room, len, b' ', start, c),
+        Escape::Unescaped => room::put(room, len, c),
+    }
+}
+
+// Whether the byte after this one counts as the first of a line.
+fn starts_line(mode: Escape, c: u8) -> bool
+    ensures { λ r. ⌜ r ≡ startsLine mode c ⌝ }
+{
+    match mode {
+        Escape::UnescapedAtNewline => c == b'\n',
+        Escape::Spaces => c == b'\n',
+        Escape::Special => c == b'\n',
+        Escape::SpecialNoNewline => false,
+        Escape::Unescaped => c == b'\n',
+    }
+}
+
+// Some bytes in a mode.
+pub(crate) fn escape_bytes(
+    room: &mut [u8],
+    len: usize,
+    mode: Escape,
+    start: bool,
+    bytes: &[u8],
+) -> Line
+    ensures text { λ r. ⌜ seen (now (room .exit)) (r .len) ≡ bind (seen (now (room .entry)) len) (extended (length (now (room .entry))) (escape mode start (now (bytes .entry)))) ⌝ }
+    ensures line { λ r. ⌜ r .fresh ≡ lineStart mode start (now (bytes .entry)) ⌝ }
+{
+    let mut n = len;
+    let mut fresh = start;
+    let mut i: usize = 0;
+    while i < bytes.len() {
+        let c = bytes[i];
+        n = put_byte(room, n, mode, fresh, c);
+        fresh = starts_line(mode, c);
+        i += 1;
+    }
+    Line { len: n, fresh }
+}
+
+fn to_upper(c: u8) -> u8
+    ensures { λ r. ⌜ r ≡ upper c ⌝ }
+{
+    if c < b'a' {
+        return c;
+    }
+    if b'z' < c {
+        return c;
+    }
+    c - 32
+}
+
+// Some bytes of a heading, upper-cased.
+pub(crate) fn escape_upper(room: &mut [u8], len: usize, start: bool, bytes: &[u8]) -> Line
+    ensures text { λ r. ⌜ seen (now (room .exit)) (r .len) ≡ bind (seen (now (room .entry)) len) (extended (length (now (room .entry))) (escape spaces start (map upper (now (bytes .entry))))) ⌝ }
+    ensures line { λ r. ⌜ r .fresh ≡ lineStart spaces start (map upper (now (bytes .entry))) ⌝ }
+{
+    let mut n = len;
+    let mut fresh = start;
+    let mut i: usize = 0;
+    while i < bytes.len() {
+        let c = to_upper(bytes[i]);
+        n = put_byte(room, n, Escape::Spaces, fresh, c);
+        fresh = starts_line(Escape::Spaces, c);
+        i += 1;
+    }
+    Line { len: n, fresh }
+}
