@@ -1,13 +1,20 @@
 // The C interface (include/sefgrunn.h). Each function returns 0 for accepted, else the refusal's number.
 ghost use mathlib.Core.Path.{_≡_};
+ghost use mathlib.Core.Bool.{true, false};
 ghost use lib.ListN.{length};
 ghost use Rattle.document.specs.Document.{check};
 ghost use Rattle.walk.specs.Rendered.{filled};
 ghost use Rattle.console_rules.specs.Console.{console};
+ghost use Rattle.buffer.specs.Answers.{kept};
+ghost use Rattle.buffer.specs.Builder.{addsDoc, addsEmDoc};
+ghost use Rattle.html_rules.specs.Html.{html};
+ghost use Rattle.html_rules.specs.Markdown.{markdown};
 ghost use Rattle.manpage.specs.Roff.{roff};
-ghost use Rattle.sefgrunn.specs.Numbers.{numberOf, placeOf, lengthOrPlace, settings, answerNumber, answerAt};
+ghost use Rattle.sefgrunn.specs.Numbers.{numberOf, placeOf, lengthOrPlace, settings, answerNumber, answerAt, builtNumber, builtPlace, builtLength, lengthAfter, writesIn, opensIn, closesIn};
+use buffer::Built;
 use console_rules::Settings;
 use document::Checked;
+use document::Kind;
 use walk::Rendered;
 
 // Refusals 1 to 8; `place` is the refusal's, and 0 where the document is accepted.
@@ -63,6 +70,56 @@ pub extern "C" fn sefgrunn_console(
     told(answer, at)
 }
 
+// `Doc::render_html`.
+#[no_mangle]
+pub extern "C" fn sefgrunn_html(
+    document: &[u8],
+    full: bool,
+    css: bool,
+    room: &mut [u8],
+    at: &mut usize,
+) -> u32
+    ensures number { λ r. ⌜ r ≡ numberOf (html (length (now (room .entry))) false full css (now (document .entry))) ⌝ }
+    ensures at { λ _. ⌜ now (at .exit) ≡ lengthOrPlace (html (length (now (room .entry))) false full css (now (document .entry))) ⌝ }
+    ensures room { λ _. ⌜ now (room .exit) ≡ filled (length (now (room .entry))) (html (length (now (room .entry))) false full css (now (document .entry))) ⌝ }
+{
+    let answer = html::render_html(document, full, css, room);
+    told(answer, at)
+}
+
+// Strict HTML, which 01 adds.
+#[no_mangle]
+pub extern "C" fn sefgrunn_html_strict(
+    document: &[u8],
+    full: bool,
+    css: bool,
+    room: &mut [u8],
+    at: &mut usize,
+) -> u32
+    ensures number { λ r. ⌜ r ≡ numberOf (html (length (now (room .entry))) true full css (now (document .entry))) ⌝ }
+    ensures at { λ _. ⌜ now (at .exit) ≡ lengthOrPlace (html (length (now (room .entry))) true full css (now (document .entry))) ⌝ }
+    ensures room { λ _. ⌜ now (room .exit) ≡ filled (length (now (room .entry))) (html (length (now (room .entry))) true full css (now (document .entry))) ⌝ }
+{
+    let answer = html::render_html_strict(document, full, css, room);
+    told(answer, at)
+}
+
+// `Doc::render_markdown`.
+#[no_mangle]
+pub extern "C" fn sefgrunn_markdown(
+    document: &[u8],
+    full: bool,
+    room: &mut [u8],
+    at: &mut usize,
+) -> u32
+    ensures number { λ r. ⌜ r ≡ numberOf (markdown (length (now (room .entry))) full (now (document .entry))) ⌝ }
+    ensures at { λ _. ⌜ now (at .exit) ≡ lengthOrPlace (markdown (length (now (room .entry))) full (now (document .entry))) ⌝ }
+    ensures room { λ _. ⌜ now (room .exit) ≡ filled (length (now (room .entry))) (markdown (length (now (room .entry))) full (now (document .entry))) ⌝ }
+{
+    let answer = markdown::render_markdown(document, full, room);
+    told(answer, at)
+}
+
 // `Doc::render_roff` given `Roff::new()`.
 #[no_mangle]
 pub extern "C" fn sefgrunn_roff(document: &[u8], room: &mut [u8], at: &mut usize) -> u32
@@ -72,4 +129,142 @@ pub extern "C" fn sefgrunn_roff(document: &[u8], room: &mut [u8], at: &mut usize
 {
     let answer = manpage::render_roff(document, room);
     told(answer, at)
+}
+
+// The number of what the builder answers; the length changes only where it accepts.
+fn stored(built: Built, len: &mut usize, place: &mut usize) -> u32
+    ensures number { λ r. ⌜ r ≡ builtNumber built ⌝ }
+    ensures length { λ _. ⌜ now (len .exit) ≡ builtLength (now (len .entry)) built ⌝ }
+    ensures place { λ _. ⌜ now (place .exit) ≡ builtPlace built ⌝ }
+{
+    match built {
+        Built::Length(n) => {
+            *len = n;
+            *place = 0;
+            0
+        }
+        Built::Refused(a) => {
+            *place = document::refusal_place(a);
+            document::refusal_number(a)
+        }
+    }
+}
+
+// A style or block number outside its range: 3 with place 0.
+fn out_of_range(place: &mut usize) -> u32
+    ensures number { λ r. ⌜ r ≡ 3 ⌝ }
+    ensures place { λ _. ⌜ now (place .exit) ≡ 0 ⌝ }
+{
+    *place = 0;
+    3
+}
+
+// `Doc::write_str`, in the style with a number from 1 to 5.
+#[no_mangle]
+pub extern "C" fn sefgrunn_write(
+    room: &mut [u8],
+    len: &mut usize,
+    style: u32,
+    text: &[u8],
+    place: &mut usize,
+) -> u32
+    ensures number { λ r. ⌜ r ≡ numberOf (writesIn (now (room .entry)) (now (len .entry)) style (now (text .entry))) ⌝ }
+    ensures length { λ _. ⌜ now (len .exit) ≡ lengthAfter (now (len .entry)) (writesIn (now (room .entry)) (now (len .entry)) style (now (text .entry))) ⌝ }
+    ensures place { λ _. ⌜ now (place .exit) ≡ placeOf (writesIn (now (room .entry)) (now (len .entry)) style (now (text .entry))) ⌝ }
+    ensures room { λ _. ⌜ now (room .exit) ≡ kept (now (room .entry)) (writesIn (now (room .entry)) (now (len .entry)) style (now (text .entry))) ⌝ }
+{
+    let kind = document::kind_of(style as usize);
+    match kind {
+        Kind::Text(s) => {
+            let built = buffer::write_str(room, *len, s, text);
+            stored(built, len, place)
+        }
+        Kind::Start(_) => out_of_range(place),
+        Kind::End(_) => out_of_range(place),
+        Kind::Unknown => out_of_range(place),
+    }
+}
+
+// The start of the block with an index from 0 to 11.
+#[no_mangle]
+pub extern "C" fn sefgrunn_open(
+    room: &mut [u8],
+    len: &mut usize,
+    block: u32,
+    place: &mut usize,
+) -> u32
+    ensures number { λ r. ⌜ r ≡ numberOf (opensIn (now (room .entry)) (now (len .entry)) block) ⌝ }
+    ensures length { λ _. ⌜ now (len .exit) ≡ lengthAfter (now (len .entry)) (opensIn (now (room .entry)) (now (len .entry)) block) ⌝ }
+    ensures place { λ _. ⌜ now (place .exit) ≡ placeOf (opensIn (now (room .entry)) (now (len .entry)) block) ⌝ }
+    ensures room { λ _. ⌜ now (room .exit) ≡ kept (now (room .entry)) (opensIn (now (room .entry)) (now (len .entry)) block) ⌝ }
+{
+    let kind = document::kind_of(0x0100 + block as usize);
+    match kind {
+        Kind::Text(_) => out_of_range(place),
+        Kind::Start(b) => {
+            let built = buffer::open_block(room, *len, b);
+            stored(built, len, place)
+        }
+        Kind::End(_) => out_of_range(place),
+        Kind::Unknown => out_of_range(place),
+    }
+}
+
+// The end of the block with an index from 0 to 11.
+#[no_mangle]
+pub extern "C" fn sefgrunn_close(
+    room: &mut [u8],
+    len: &mut usize,
+    block: u32,
+    place: &mut usize,
+) -> u32
+    ensures number { λ r. ⌜ r ≡ numberOf (closesIn (now (room .entry)) (now (len .entry)) block) ⌝ }
+    ensures length { λ _. ⌜ now (len .exit) ≡ lengthAfter (now (len .entry)) (closesIn (now (room .entry)) (now (len .entry)) block) ⌝ }
+    ensures place { λ _. ⌜ now (place .exit) ≡ placeOf (closesIn (now (room .entry)) (now (len .entry)) block) ⌝ }
+    ensures room { λ _. ⌜ now (room .exit) ≡ kept (now (room .entry)) (closesIn (now (room .entry)) (now (len .entry)) block) ⌝ }
+{
+    let kind = document::kind_of(0x0100 + block as usize);
+    match kind {
+        Kind::Text(_) => out_of_range(place),
+        Kind::Start(b) => {
+            let built = buffer::close_block(room, *len, b);
+            stored(built, len, place)
+        }
+        Kind::End(_) => out_of_range(place),
+        Kind::Unknown => out_of_range(place),
+    }
+}
+
+// `Doc::doc`.
+#[no_mangle]
+pub extern "C" fn sefgrunn_doc(
+    room: &mut [u8],
+    len: &mut usize,
+    added: &[u8],
+    place: &mut usize,
+) -> u32
+    ensures number { λ r. ⌜ r ≡ numberOf (addsDoc (now (room .entry)) (now (len .entry)) (now (added .entry))) ⌝ }
+    ensures length { λ _. ⌜ now (len .exit) ≡ lengthAfter (now (len .entry)) (addsDoc (now (room .entry)) (now (len .entry)) (now (added .entry))) ⌝ }
+    ensures place { λ _. ⌜ now (place .exit) ≡ placeOf (addsDoc (now (room .entry)) (now (len .entry)) (now (added .entry))) ⌝ }
+    ensures room { λ _. ⌜ now (room .exit) ≡ kept (now (room .entry)) (addsDoc (now (room .entry)) (now (len .entry)) (now (added .entry))) ⌝ }
+{
+    let built = buffer::doc(room, *len, added);
+    stored(built, len, place)
+}
+
+// `Doc::em_doc`.
+#[no_mangle]
+pub extern "C" fn sefgrunn_em_doc(
+    room: &mut [u8],
+    len: &mut usize,
+    added: &[u8],
+    place: &mut usize,
+) -> u32
+    ensures number { λ r. ⌜ r ≡ numberOf (addsEmDoc (now (room .entry)) (now (len .entry)) (now (added .entry))) ⌝ }
+    ensures length { λ _. ⌜ now (len .exit) ≡ lengthAfter (now (len .entry)) (addsEmDoc (now (room .entry)) (now (len .entry)) (now (added .entry))) ⌝ }
+    ensures place { λ _. ⌜ now (place .exit) ≡ placeOf (addsEmDoc (now (room .entry)) (now (len .entry)) (now (added .entry))) ⌝ }
+    ensures room { λ _. ⌜ now (room .exit) ≡ kept (now (room .entry)) (addsEmDoc (now (room .entry)) (now (len .entry)) (now (added .entry))) ⌝ }
+{
+    let built = buffer::em_doc(room, *len, added);
+    stored(built, len, place)
 }

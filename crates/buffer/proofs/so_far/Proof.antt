@@ -1,0 +1,31 @@
+use mathlib.Core.Path.{refl, sym, _∙_}
+use Prim.Native.Nat.{_-_}
+use native.Mathlib.Omega.{arith}
+use borrow.Author.Needs.{needs}
+use denote.Ref.{now}
+use Rattle.buffer.proofs.so_far.Statement.{statement}
+use Rattle.buffer.proofs.so_far.Tie as tie
+use lib.Seq.{length-take-le}
+use Rattle.buffer.proofs.Answering.{soFar-past, soFar-long, soFar-in}
+
+returns : tie.Need-returns
+returns c = (soFar-past (now (c .before .before .args .room)) (c .before .before .args .len) (c .if1 .taken), (omega arith, refl))
+
+returns-2 : tie.Need-returns-2
+returns-2 c = (soFar-long (now (c .before .before .before .args .room)) (c .before .before .before .args .len) (c .before .if1 .left) (c .if2 .taken), (omega arith, refl))
+
+slice-aggregate-open-blocks : tie.Need-slice-aggregate-open-blocks
+slice-aggregate-open-blocks c = sym (length-take-le (c .before .before .before .before .args .len) (now (c .before .before .before .before .args .room)) (c .before .before .if1 .left))
+
+returns-3 : tie.Need-returns-3
+returns-3 c = (c .open-blocks .ensures .0 ∙ soFar-in (now (c .before .before .before .before .before .args .room)) (c .before .before .before .before .before .args .len) (c .before .before .before .if1 .left) (c .before .before .if2 .left), c .open-blocks .ensures .1)
+
+pub so-far-spec : {M : Type 1} → statement M
+so-far-spec =
+    tie.close
+    (tie.spec
+    returns
+    returns-2
+    slice-aggregate-open-blocks
+    (λ c κs. search needs)
+    returns-3)

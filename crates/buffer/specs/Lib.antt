@@ -1,0 +1,4 @@
+pub mod Builder
+pub mod Answers
+pub mod Parts
+pub mod Text

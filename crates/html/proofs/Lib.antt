@@ -1,0 +1,4 @@
+pub mod Blocks
+pub mod Turns
+pub mod Walked
+pub mod Whole

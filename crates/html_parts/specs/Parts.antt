@@ -1,0 +1,27 @@
+-- What the functions of HTML and Markdown promise each other; no rule of 01 stands here.
+use Prim.Native.Nat.{ℕ, _-_, _≤_}
+use mathlib.Core.Bool.{false, true}
+use mathlib.Core.List.{List}
+use lib.ListN.{take, drop}
+use Rattle.walk.specs.declared.Rendered.{Rendered}
+use Rattle.walk.specs.declared.Rendered.the-variants as rendered
+use Rattle.html_rules.specs.Html.{entity}
+use Rattle.html_rules.specs.Markdown.{bracket}
+use Rattle.html_parts.specs.declared.Span.{Span}
+use Rattle.html_parts.specs.declared.Escape.{Escape}
+use Rattle.html_parts.specs.declared.Escape.the-variants as escape
+
+-- the bytes of a table from a place up to another
+abbrev pub spanned : List ℕ → Span → List ℕ
+spanned table s = take (s .1 - s .0) (drop (s .0) table)
+
+-- what stands for a byte before the others of its chunk
+abbrev pub entityOf : Escape → ℕ → List ℕ → List ℕ
+entityOf escape.Html = entity false
+entityOf escape.Strict = entity true
+entityOf escape.Mono = bracket
+
+-- the length that is answered is at most the room's
+abbrev pub Inside : ℕ → Rendered → Type 0
+Inside limit (rendered.Text n) = n ≤ limit
+Inside limit (rendered.Refused a) = Unit {0}

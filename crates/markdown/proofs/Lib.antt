@@ -1,0 +1,5 @@
+pub mod Flags
+pub mod Texts
+pub mod Turns
+pub mod Walked
+pub mod Whole

@@ -1,0 +1,146 @@
+-- The turns of Markdown on a page, each as one rule on its text beside a change of the numbers and flags. Assumes nothing.
+use Prim.Native.Nat.{ℕ, _≤_, _<_}
+use mathlib.Core.Path.{_≡_, refl, sym, ap, _∙_}
+use mathlib.Core.Bool.{Bool, true, false}
+use mathlib.Core.List.{List, _++_}
+use lib.Dec.{eqb}
+use borrow.Author.Tests.{eq-eqb, ne-eqb, lt-ltb, le-ltb, not-true, not-false}
+use Rattle.base.specs.Choice.{if_then_else_}
+use Rattle.base.specs.Result.{Result, gives, refused, _>>=_}
+use Rattle.base.proofs.Choice.{if-true, if-false}
+use Rattle.base.proofs.Results.{bind-assoc, bind-same, bind-end}
+use Rattle.utf8.specs.Utf8.{bytes}
+use Rattle.room.specs.Room.{extended}
+use Rattle.document.specs.Document.{Token, index}
+use Rattle.document.specs.declared.Style.{Style}
+use Rattle.document.specs.declared.Style.the-variants as style
+use Rattle.document.specs.declared.Block.{Block}
+use Rattle.document.specs.declared.Kind.the-variants as kind
+use Rattle.splitter.specs.Split.{Chunk, raw, paragraph, lineBreak, split}
+use Rattle.walk.specs.Walk.{withOut, withLay, page, write, last, body}
+use Rattle.html_rules.specs.Marks.{separated}
+use Rattle.html_rules.specs.Markdown.{State, styled, skip, fenced, opening, closing, startLead, startLine, startText, metTerm, startLay, endText, endLay, codeBegins, codeStops, lineText, wordText, change, separate, begun, started, ended, rawChunk, bodyEnds, finish, chunk, turn}
+use Rattle.html_rules.specs.declared.Markdown.{Markdown}
+use Rattle.html_parts.proofs.Lifts.{lift, lift-then, lift-lay}
+use Rattle.markdown.specs.Parts.{startRule, rawRule, chunkRule, fenceAfter}
+
+-- the text that a style leaves when it is closed
+abbrev pub closed : ℕ → Style → List ℕ → Result (List ℕ)
+closed limit st x = extended limit (closing st ++ opening style.Text) x
+
+module _ (limit p : ℕ) (b : Block) where
+  begun-is : (s : State) → begun limit b s ≡ lift (startRule limit (s .lay) b) (withLay (startLay b) s)
+  unfolding begun separate write startRule
+  begun-is s =
+      ap (λ (r : Result State). r >>= λ s₁. lift (extended limit (startText (s₁ .lay) b)) (withLay (startLay b) s₁))
+      (lift-then (extended limit (startLead (s .lay) b)) s (separated limit (startLine b)))
+      ∙ lift-lay (λ x. extended limit (startLead (s .lay) b) x >>= separated limit (startLine b)) s (λ l. extended limit (startText l b)) (startLay b)
+
+  module _ (st : Style) (s : State) where
+    -- a block that is not Meta
+    started-is : (ts : List Token) → (index b ≡ 10 → ⊥) → (lift (closed limit st) s >>= started limit p b ts)
+        ≡ lift (λ x. closed limit st x >>= startRule limit (metTerm b ts (s .lay)) b) (withLay (λ l. startLay b (metTerm b ts l)) s)
+    unfolding started
+    started-is ts n =
+        bind-same (lift (closed limit st) s) (started limit p b ts) (λ s₁. lift (startRule limit (metTerm b ts (s₁ .lay)) b) (withLay (λ l. startLay b (metTerm b ts l)) s₁))
+        (λ t. if-false _ _ (ne-eqb (index b) 10 n) ∙ begun-is (withLay (metTerm b ts) t))
+        ∙ lift-lay (closed limit st) s (λ l. startRule limit (metTerm b ts l) b) (λ l. startLay b (metTerm b ts l))
+
+    ended-is : (index b ≡ 10 → ⊥) → (lift (closed limit st) s >>= ended limit p b)
+        ≡ lift (λ x. closed limit st x >>= extended limit (endText (s .lay) b)) (withLay (endLay b) s)
+    unfolding ended write
+    ended-is n =
+        bind-same (lift (closed limit st) s) (ended limit p b) (λ s₁. lift (extended limit (endText (s₁ .lay) b)) (withLay (endLay b) s₁))
+        (λ t. if-false _ _ (ne-eqb (index b) 10 n))
+        ∙ lift-lay (closed limit st) s (λ l. extended limit (endText l b)) (endLay b)
+
+    -- Meta
+    refused-is : (f : State → Result State) → ((t : State) → f t ≡ refused 11 p) → (lift (closed limit st) s >>= f) ≡ (closed limit st (s .out) >>= λ _. refused 11 p)
+    unfolding _>>=_
+    refused-is f e =
+        bind-same (lift (closed limit st) s) f (λ _. refused 11 p) e
+        ∙ sym (bind-assoc (closed limit st (s .out)) (λ y. gives (withOut y s)) (λ _. refused 11 p))
+
+module _ (limit : ℕ) (full : Bool) (p : ℕ) (y : List ℕ) (ts : List Token) (kept : List ℕ) (lay : Markdown) (x : List ℕ) where
+  abbrev here : State
+  here = page kept lay x
+
+  -- the flags with the style closed, and with the term that is met
+  abbrev pub met : Block → Markdown
+  met b = metTerm b ts (styled style.Text lay)
+
+  module _ (b : Block) where
+    pub start-is : (index b ≡ 10 → ⊥) → turn limit full p (kind.Start b) y ts here
+        ≡ (closed limit (lay .style) x >>= startRule limit (met b) b >>= λ z. gives (page kept (startLay b (met b)) z))
+    unfolding turn change write
+    start-is n = started-is limit p b (lay .style) (withLay (styled style.Text) here) ts n
+
+    pub end-is : (index b ≡ 10 → ⊥) → turn limit full p (kind.End b) y ts here
+        ≡ (closed limit (lay .style) x >>= extended limit (endText (styled style.Text lay) b) >>= λ z. gives (page kept (endLay b (styled style.Text lay)) z))
+    unfolding turn change write
+    end-is n = ended-is limit p b (lay .style) (withLay (styled style.Text) here) n
+
+    pub start-meta : index b ≡ 10 → turn limit full p (kind.Start b) y ts here ≡ (closed limit (lay .style) x >>= λ _. refused 11 p)
+    unfolding turn change write started
+    start-meta e = refused-is limit p b (lay .style) (withLay (styled style.Text) here) (started limit p b ts) (λ t. if-true _ _ (eq-eqb (index b) 10 e))
+
+    pub end-meta : index b ≡ 10 → turn limit full p (kind.End b) y ts here ≡ (closed limit (lay .style) x >>= λ _. refused 11 p)
+    unfolding turn change write ended
+    end-meta e = refused-is limit p b (lay .style) (withLay (styled style.Text) here) (ended limit p b) (λ t. if-true _ _ (eq-eqb (index b) 10 e))
+
+  pub unknown-is : turn limit full p kind.Unknown y ts here ≡ gives here
+  unfolding turn
+  unknown-is = refl
+
+  module _ (st : Style) where
+    -- text that is hidden, and text that is not
+    pub hidden-is : 0 < lay .skip → turn limit full p (kind.Text st) y ts here ≡ gives here
+    unfolding turn
+    hidden-is h = if-true _ _ (lt-ltb 0 (lay .skip) h)
+
+    pub text-is : lay .skip ≤ 0 → turn limit full p (kind.Text st) y ts here ≡ (change limit st here >>= body full (chunk limit full) (split y) >>= bodyEnds limit)
+    unfolding turn
+    text-is h = if-false _ _ (le-ltb 0 (lay .skip) h)
+
+  -- the end
+  pub finish-is : finish limit here ≡ closed limit (lay .style) x
+  unfolding finish change write _>>=_
+  finish-is =
+      sym (bind-assoc (closed limit (lay .style) x) (λ z. gives (withOut z (withLay (styled style.Text) here))) (λ s₁. gives (s₁ .out)))
+      ∙ bind-end (closed limit (lay .style) x)
+
+-- a chunk's change of the flags
+abbrev pub fencing : Chunk → Markdown → Markdown
+fencing c l = fenced (fenceAfter c (l .fenced)) l
+
+module _ (limit : ℕ) (s : State) where
+  raw-is : (x : List ℕ) (w : ℕ) → rawChunk limit x w s ≡ lift (rawRule limit (s .lay) x w) (withLay (fencing (raw x w)) s)
+  unfolding rawChunk rawRule separate write if_then_else_
+  raw-is x w = go (eqb w 1_000_001) (eqb w 1_000_000)
+    where
+      go : (t u : Bool) →
+          (if t then (lift (separated limit (bytes "\n")) s >>= lift (extended limit (lineText x))) else
+          if u then (lift (extended limit (codeBegins (s .lay))) s >>= λ s₁. lift (extended limit (lineText x)) (withLay (fenced true) s₁)) else
+          (lift (extended limit (codeStops (s .lay))) s >>= λ s₁. lift (extended limit (wordText (s .lay) x)) (withLay (fenced false) s₁)))
+          ≡ lift (λ z.
+          if t then (separated limit (bytes "\n") z >>= extended limit (lineText x)) else
+          if u then (extended limit (codeBegins (s .lay)) z >>= extended limit (lineText x)) else
+          (extended limit (codeStops (s .lay)) z >>= extended limit (wordText (s .lay) x)))
+          (withLay (λ l. fenced (if t then l .fenced else if u then true else false) l) s)
+      go true u = lift-then (separated limit (bytes "\n")) s (extended limit (lineText x))
+      go false true = lift-lay (extended limit (codeBegins (s .lay))) s (λ _. extended limit (lineText x)) (fenced true)
+      go false false = lift-lay (extended limit (codeStops (s .lay))) s (λ _. extended limit (wordText (s .lay) x)) (fenced false)
+
+  -- a chunk that goes on, and one that ends the walk of its body
+  module _ (full : Bool) where
+    pub chunk-on : (c : Chunk) → last full c ≡ false → chunk limit full c s ≡ lift (chunkRule limit (s .lay) c) (withLay (fencing c) s)
+    unfolding chunk write
+    chunk-on (raw x w) e = raw-is x w
+    chunk-on paragraph e = if-true _ _ (not-false full e)
+    chunk-on lineBreak e = refl
+
+    pub chunk-last : (c : Chunk) → last full c ≡ true → chunk limit full c s ≡ gives (withLay (skip 1) s)
+    unfolding chunk
+    chunk-last (raw x w) e = cc
+    chunk-last paragraph e = if-false _ _ (not-true full e)
+    chunk-last lineBreak e = cc

@@ -1,0 +1,271 @@
+-- What holds at each record of the walk over an accepted document, and at each chunk of a body. Assumes nothing.
+use Prim.Native.Nat.{ℕ, _+_, _≤_, _<_}
+use mathlib.Core.Path.{_≡_, refl, sym, ap, _∙_}
+use mathlib.Core.Bool.{Bool, true, false}
+use mathlib.Core.List.{List, [], _++_}
+use lib.ListN.{length}
+use native.Mathlib.Omega.{arith}
+use Rattle.base.specs.Result.{Result, gives, refused, _>>=_}
+use Rattle.base.proofs.Results.{bind-assoc, bind-same, bind-end}
+use Rattle.room.specs.Room.{extended, seen}
+use Rattle.document.specs.Document.{index, tokens, tokensFrom, check}
+use Rattle.document.specs.Answers.{part, Read}
+use Rattle.document.specs.declared.Style.{Style}
+use Rattle.document.specs.declared.Style.the-variants as style
+use Rattle.document.specs.declared.Block.{Block}
+use Rattle.document.specs.declared.Kind.{Kind}
+use Rattle.document.specs.declared.Kind.the-variants as kind
+use Rattle.document.specs.declared.Head.{Head}
+use Rattle.document.proofs.Walks.{check-gives}
+use Rattle.splitter.specs.Split.{split}
+use Rattle.splitter.specs.Answers.{chunkOf, chunksFrom, start}
+use Rattle.splitter.specs.declared.Cursor.{Cursor}
+use Rattle.splitter.specs.declared.Piece.{Piece}
+use Rattle.splitter.specs.declared.Piece.the-variants.{Raw, Space, Paragraph, LineBreak}
+use Rattle.splitter.proofs.Answers.{Took}
+use Rattle.walk.specs.Walk.{page, withLay, write, shown, last, walk, body}
+use Rattle.walk.proofs.Shown.{shown-in, shown-then, shown-by, shown-write, shown-changed}
+use Rattle.walk.proofs.Leads.{Leads, leads-start, leads-on, chunksThen}
+use Rattle.html_rules.specs.Markdown.{State, plain, initial, styled, skip, fenced, opening, closing, metTerm, startLay, endText, endLay, codeEnds, change, bodyEnds, finish, chunk, turn}
+use Rattle.html_rules.specs.declared.Markdown.{Markdown}
+use Rattle.html_parts.proofs.Rest as walking
+use Rattle.html_parts.proofs.Rest.{goes-on, chunks-on, chunks-stop, chunks-done}
+use Rattle.html_parts.proofs.Writes.{wrote-then}
+use Rattle.markdown.specs.Parts.{startRule, chunkRule, fenceAfter}
+use Rattle.markdown.proofs.Flags.{start-few, end-few, met-few}
+use Rattle.markdown.proofs.Turns.{closed, start-is, end-is, start-meta, end-meta, unknown-is, hidden-is, text-is, finish-is, fencing, chunk-on, chunk-last}
+
+fence-any : (p : Piece) (y : List ℕ) (f : Bool) → fenceAfter (chunkOf y p) f ≡ fenceAfter (chunkOf [] p) f
+fence-any (Raw from to width) y f = refl
+fence-any Space y f = refl
+fence-any Paragraph y f = refl
+fence-any LineBreak y f = refl
+
+module _ (limit : ℕ) (full : Bool) (document : List ℕ) where
+  -- the records from a place on, and the end; after a body, its end first
+  abbrev rest : ℕ → State → Result (List ℕ)
+  rest = walking.rest (turn limit full) (finish limit) document
+
+  abbrev after : ℕ → State → Result (List ℕ)
+  after at s = bodyEnds limit s >>= rest at
+
+  abbrev pub whole : Result (List ℕ)
+  whole = walk (turn limit full) (tokens 0 0 document) initial >>= finish limit
+
+  -- where a record is read next
+  pub record On (room : List ℕ) (at len : ℕ) (lay : Markdown) : Type 0 where
+    pub same : length room ≡ limit
+    pub few : lay .skip ≤ at
+    pub open-few : lay .mono ≤ at
+    pub short : length document ≤ 32_768
+    pub leads : Leads whole (rest at) (shown room len [] lay)
+
+  pub on-start : (room : List ℕ) → length room ≡ limit → check document ≡ gives [] → On room 0 0 plain
+  on-start room s e = record {
+    same = s;
+    few = omega arith;
+    open-few = omega arith;
+    short = check-gives document [] e .0;
+    leads = leads-start (rest 0) (shown room 0 [] plain) initial (shown-in {L = Markdown} room 0 [] plain (omega arith));
+  }
+
+  -- the chunks of a body from a cursor on are left, and then what follows the body
+  pub record InBody (room : List ℕ) (at len : ℕ) (lay : Markdown) (y : List ℕ) (c : Cursor) : Type 0 where
+    pub few : lay .skip ≤ at
+    pub open-few : lay .mono ≤ at
+    pub leads : Leads whole (chunksThen full (chunk limit full) (after at) (chunksFrom y c)) (shown room len [] lay)
+
+  -- a chunk that goes on
+  pub body-on : {room : List ℕ} {at len : ℕ} {lay : Markdown} {y : List ℕ} {c : Cursor} → InBody room at len lay y c
+      → {p : Piece} {d : Cursor} → Took y c p d → (new : List ℕ) (n : ℕ) (f : Bool) → length room ≡ limit → last full (chunkOf [] p) ≡ false
+      → seen new n ≡ (seen room len >>= chunkRule (length room) lay (chunkOf y p)) → f ≡ fenceAfter (chunkOf [] p) (lay .fenced) → InBody new at n (fenced f lay) y d
+  body-on {room} {at} {len} {lay} {y} {c} i {p} t new n f s e w g = record {
+    few = i .few;
+    open-few = i .open-few;
+    leads = chunks-on full (chunk limit full) (after at) whole y c (shown room len [] lay) (i .leads) t (shown new n [] (fenced f lay))
+        (shown-by (withLay (fencing (chunkOf y p))) [] [] lay (fenced f lay) (λ x. ap (λ (b : Bool). page [] (fenced b lay) x) (fence-any p y (lay .fenced) ∙ sym g))
+        (chunkRule limit lay (chunkOf y p)) room new len n (w ∙ ap (λ (m : ℕ). seen room len >>= chunkRule m lay (chunkOf y p)) s)
+        ∙ sym (shown-then room len [] lay (chunk limit full (chunkOf y p)) _ (λ x. chunk-on limit (page [] lay x) full (chunkOf y p) (goes-on p y full false e)))) e;
+  }
+
+  module _ {room : List ℕ} {at len : ℕ} {lay : Markdown} (o : On room at len lay) where
+    -- the length is past the room
+    pub on-out : length room < len → refused 13 0 ≡ whole
+    on-out h = walking.rest-out (turn limit full) (finish limit) document whole at room len [] lay (o .leads) h
+
+    -- no record is left
+    pub on-end : (told : Result (List ℕ)) (new : List ℕ) (n : ℕ) → length document ≤ at → told ≡ seen new n
+        → seen new n ≡ (seen room len >>= extended (length room) (closing (lay .style) ++ opening style.Text)) → told ≡ whole
+    on-end told new n h t e =
+        walking.rest-end (turn limit full) (finish limit) document whole at room len [] lay (o .leads) told (closed limit (lay .style)) h
+        (λ x. finish-is limit full at [] [] [] lay x)
+        (t ∙ e ∙ ap (λ (m : ℕ). seen room len >>= extended m (closing (lay .style) ++ opening style.Text)) (o .same))
+
+    -- a record was read here
+    module _ {h : Head} (r : Read document at h) (l : at < length document) where
+      abbrev Turned : State → Result State
+      Turned = walking.Turned (turn limit full) (finish limit) document whole at room len [] lay (o .leads) r l
+
+      further : at + 1 ≤ h .next
+      further = walking.further (turn limit full) (finish limit) document whole at room len [] lay (o .leads) r l
+
+      by-kind : (k : Kind) → h .kind ≡ k → (s : State) → Turned s ≡ turn limit full at k (part document (h .start) (h .next)) (tokensFrom document (h .next)) s
+      by-kind = walking.by-kind (turn limit full) (finish limit) document whole at room len [] lay (o .leads) r l
+
+      turn-leads : (rule : List ℕ → Result (List ℕ)) (new : List ℕ) (n : ℕ) (lay′ : Markdown)
+          → ((x : List ℕ) → Turned (page [] lay x) ≡ (rule x >>= λ z. gives (page [] lay′ z))) → seen new n ≡ (seen room len >>= rule)
+          → Leads whole (rest (h .next)) (shown new n [] lay′)
+      turn-leads rule new n lay′ t e = walking.turn-leads (turn limit full) (finish limit) document whole at room len [] lay (o .leads) r l rule new n [] lay′ t e
+
+      -- the style has been closed
+      closes : (mid : List ℕ) (n : ℕ) → seen mid n ≡ (seen room len >>= extended (length room) (closing (lay .style) ++ opening style.Text))
+          → seen mid n ≡ (seen room len >>= closed limit (lay .style))
+      closes mid n w = w ∙ ap (λ (m : ℕ). seen room len >>= extended m (closing (lay .style) ++ opening style.Text)) (o .same)
+
+      -- nothing is done
+      passes : ((x : List ℕ) → Turned (page [] lay x) ≡ gives (page [] lay x)) → On room (h .next) len lay
+      unfolding _>>=_
+      passes t = record {
+        same = o .same;
+        few = omega (arith, o .few, further);
+        open-few = omega (arith, o .open-few, further);
+        short = o .short;
+        leads = turn-leads gives room len lay t (sym (bind-end (seen room len)));
+      }
+
+      pub on-unknown : h .kind ≡ kind.Unknown → On room (h .next) len lay
+      on-unknown e = passes (λ x. by-kind kind.Unknown e (page [] lay x) ∙ unknown-is limit full at _ _ [] lay x)
+
+      -- a turn that meets 11
+      meta : (told : Result (List ℕ)) (mid : List ℕ) (n : ℕ) → ((x : List ℕ) → Turned (page [] lay x) ≡ (closed limit (lay .style) x >>= λ _. refused 11 at))
+          → seen mid n ≡ (seen room len >>= extended (length room) (closing (lay .style) ++ opening style.Text)) → told ≡ (seen mid n >>= λ _. refused 11 at) → told ≡ whole
+      meta told mid n t w v =
+          walking.turn-refuses (turn limit full) (finish limit) document whole at room len [] lay (o .leads) r l (closed limit (lay .style)) told t
+          (wrote-then room mid len n (closed limit (lay .style)) (λ _. refused 11 at) told (closes mid n w) v)
+
+      -- the numbers stay small
+      pub on-met : (b : Block) (met : Markdown) → met ≡ metTerm b (tokensFrom document (h .next)) (styled style.Text lay) → (met .skip ≤ 32_768) × (met .mono ≤ 32_768)
+      on-met b met t =
+          let x = met-few b (tokensFrom document (h .next)) (styled style.Text lay) in
+          let z₁ = ap (λ (l : Markdown). l .skip) t in
+          let z₂ = ap (λ (l : Markdown). l .mono) t in
+          (omega (arith, o .few, o .short), omega (arith, o .open-few, o .short))
+
+      module _ {b : Block} (mid : List ℕ) (n : ℕ) (w : seen mid n ≡ (seen room len >>= extended (length room) (closing (lay .style) ++ opening style.Text)))
+          (i : ℕ) (q : i ≡ index b) where
+        -- Meta
+        pub on-start-meta : (told : Result (List ℕ)) → h .kind ≡ kind.Start b → i ≡ 10 → told ≡ (seen mid n >>= λ _. refused 11 at) → told ≡ whole
+        on-start-meta told e m v = meta told mid n (λ x. by-kind (kind.Start b) e (page [] lay x) ∙ start-meta limit full at _ _ [] lay x b (sym q ∙ m)) w v
+
+        pub on-end-meta : (told : Result (List ℕ)) → h .kind ≡ kind.End b → i ≡ 10 → told ≡ (seen mid n >>= λ _. refused 11 at) → told ≡ whole
+        on-end-meta told e m v = meta told mid n (λ x. by-kind (kind.End b) e (page [] lay x) ∙ end-meta limit full at _ _ [] lay x b (sym q ∙ m)) w v
+
+        -- another block starts, and ends
+        pub on-started : (met lay′ : Markdown) (new : List ℕ) (k m : ℕ) → h .kind ≡ kind.Start b → (i ≡ 10 → ⊥) → length mid ≡ length room → length new ≡ length mid
+            → met ≡ metTerm b (tokensFrom document (h .next)) (styled style.Text lay) → seen new k ≡ (seen mid n >>= startRule m met b) → m ≡ length mid
+            → lay′ ≡ startLay b met → On new (h .next) k lay′
+        on-started met lay′ new k m e c s u t v z f =
+            let g : lay′ ≡ startLay b (metTerm b (tokensFrom document (h .next)) (styled style.Text lay)) = f ∙ ap (startLay b) t in
+            let x₁ = start-few b met in
+            let x₂ = met-few b (tokensFrom document (h .next)) (styled style.Text lay) in
+            let y₁ = ap (λ (l : Markdown). l .skip) f in
+            let y₂ = ap (λ (l : Markdown). l .mono) f in
+            let z₁ = ap (λ (l : Markdown). l .skip) t in
+            let z₂ = ap (λ (l : Markdown). l .mono) t in
+            record {
+              same = u ∙ s ∙ o .same;
+              few = omega (arith, o .few, further);
+              open-few = omega (arith, o .open-few, further);
+              short = o .short;
+              leads = rw g
+                  (turn-leads (λ x. closed limit (lay .style) x >>= startRule limit (metTerm b (tokensFrom document (h .next)) (styled style.Text lay)) b) new k _
+                  (λ x. by-kind (kind.Start b) e (page [] lay x) ∙ start-is limit full at _ _ [] lay x b (λ d. c (q ∙ d)))
+                  (wrote-then room mid len n (closed limit (lay .style)) (startRule limit (metTerm b (tokensFrom document (h .next)) (styled style.Text lay)) b) (seen new k) (closes mid n w)
+                  (v ∙ ap (λ (c : ℕ). seen mid n >>= startRule c met b) (z ∙ s ∙ o .same) ∙ ap (λ (l : Markdown). seen mid n >>= startRule limit l b) t)));
+            }
+
+        pub on-ended : (lay′ : Markdown) (new text : List ℕ) (k m : ℕ) → h .kind ≡ kind.End b → (i ≡ 10 → ⊥) → length mid ≡ length room → length new ≡ length mid
+            → text ≡ endText (styled style.Text lay) b → seen new k ≡ (seen mid n >>= extended m text) → m ≡ length mid
+            → lay′ ≡ endLay b (styled style.Text lay) → On new (h .next) k lay′
+        on-ended lay′ new text k m e c s u t v z f =
+            let x₁ = end-few b (styled style.Text lay) in
+            let y₁ = ap (λ (l : Markdown). l .skip) f in
+            let y₂ = ap (λ (l : Markdown). l .mono) f in
+            record {
+              same = u ∙ s ∙ o .same;
+              few = omega (arith, o .few, further);
+              open-few = omega (arith, o .open-few, further);
+              short = o .short;
+              leads = rw f
+                  (turn-leads (λ x. closed limit (lay .style) x >>= extended limit (endText (styled style.Text lay) b)) new k _
+                  (λ x. by-kind (kind.End b) e (page [] lay x) ∙ end-is limit full at _ _ [] lay x b (λ d. c (q ∙ d)))
+                  (wrote-then room mid len n (closed limit (lay .style)) (extended limit (endText (styled style.Text lay) b)) (seen new k) (closes mid n w)
+                  (v ∙ ap (λ (c : ℕ). seen mid n >>= extended c text) (z ∙ s ∙ o .same) ∙ ap (λ (y : List ℕ). seen mid n >>= extended limit y) t)));
+            }
+
+      -- text
+      module _ {st : Style} (e : h .kind ≡ kind.Text st) where
+        pub on-hidden : 0 < lay .skip → On room (h .next) len lay
+        on-hidden z = passes (λ x. by-kind (kind.Text st) e (page [] lay x) ∙ hidden-is limit full at _ _ [] lay x st z)
+
+        -- the style has changed, and the chunks of the body are left
+        pub on-body : (new : List ℕ) (n : ℕ) (lay′ : Markdown) → lay .skip ≤ 0
+            → seen new n ≡ (seen room len >>= extended (length room) (closing (lay .style) ++ opening st)) → lay′ ≡ styled st lay
+            → InBody new (h .next) n lay′ (part document (h .start) (h .next)) start
+        unfolding change split
+        on-body new n lay′ z w g =
+            let y = part document (h .start) (h .next) in
+            let y₁ = ap (λ (l : Markdown). l .skip) g in
+            let y₂ = ap (λ (l : Markdown). l .mono) g in
+            record {
+              few = omega (arith, o .few, further);
+              open-few = omega (arith, o .open-few, further);
+              leads = rw g
+                  (walking.turn-begins (turn limit full) (finish limit) document whole at room len [] lay (o .leads) r l
+                  (change limit st) (chunksThen full (chunk limit full) (after (h .next)) (split y)) (shown new n [] (styled st lay))
+                  (λ x.
+                  ap (λ (q : Result State). q >>= rest (h .next)) (by-kind (kind.Text st) e (page [] lay x) ∙ text-is limit full at y _ [] lay x st z)
+                  ∙ sym (bind-assoc (change limit st (page [] lay x) >>= body full (chunk limit full) (split y)) (bodyEnds limit) (rest (h .next)))
+                  ∙ sym (bind-assoc (change limit st (page [] lay x)) (body full (chunk limit full) (split y)) (after (h .next))))
+                  (shown-write (withLay (styled st)) [] [] lay (styled st lay) (λ x. refl) limit room new len n (closing (lay .style) ++ opening st)
+                  (w ∙ ap (λ (c : ℕ). seen room len >>= extended c (closing (lay .style) ++ opening st)) (o .same))
+                  ∙ sym (shown-then room len [] lay (change limit st) (λ s. write limit (closing (lay .style) ++ opening st) (withLay (styled st) s)) (λ x. refl))));
+            }
+
+        -- the chunks are done, or one ended the walk of the body; the code lines end
+        module _ {old : List ℕ} {k : ℕ} {l₁ : Markdown} {c : Cursor} (s : length old ≡ limit) (i : InBody old (h .next) k l₁ (part document (h .start) (h .next)) c)
+            (new text : List ℕ) (n : ℕ) (u : length new ≡ length old) (t : text ≡ codeEnds l₁) (w : seen new n ≡ (seen old k >>= extended (length old) text)) where
+          ends : (l₂ : Markdown) → l₂ .fenced ≡ l₁ .fenced → Leads whole (after (h .next)) (shown old k [] l₂) → Leads whole (rest (h .next)) (shown new n [] (fenced false l₂))
+          unfolding bodyEnds
+          ends l₂ f g =
+              leads-on whole (after (h .next)) (shown old k [] l₂) g (bodyEnds limit) (rest (h .next)) (shown new n [] (fenced false l₂)) (λ s. refl)
+              (shown-write (withLay (fenced false)) [] [] l₂ (fenced false l₂) (λ x. refl) limit old new k n (codeEnds l₂)
+              (w ∙ ap (λ (m : ℕ). seen old k >>= extended m text) s ∙ ap (λ (y : List ℕ). seen old k >>= extended limit y) (t ∙ ap (λ (b : Bool). codeEnds (fenced b l₂)) (sym f)))
+              ∙ sym (shown-then old k [] l₂ (bodyEnds limit) (λ s. write limit (codeEnds l₂) (withLay (fenced false) s)) (λ x. refl)))
+
+          pub on-done : chunksFrom (part document (h .start) (h .next)) c ≡ [] → On new (h .next) n (fenced false l₁)
+          on-done f = record {
+            same = u ∙ s;
+            few = i .few;
+            open-few = i .open-few;
+            short = o .short;
+            leads = ends l₁ refl (chunks-done full (chunk limit full) (after (h .next)) whole _ c (shown old k [] l₁) (i .leads) f);
+          }
+
+          pub on-stopped : {p : Piece} {d : Cursor} → Took (part document (h .start) (h .next)) c p d → last full (chunkOf [] p) ≡ true
+              → On new (h .next) n (fenced false (skip 1 l₁))
+          on-stopped {p} q f = record {
+            same = u ∙ s;
+            few = omega (arith, further);
+            open-few = i .open-few;
+            short = o .short;
+            leads = ends (skip 1 l₁) refl
+                (chunks-stop full (chunk limit full) (after (h .next)) whole _ c (shown old k [] l₁) (i .leads) q (shown old k [] (skip 1 l₁))
+                (shown-changed (withLay (skip 1)) [] [] l₁ (skip 1 l₁) (λ x. refl) old k
+                ∙ sym (bind-same (shown old k [] l₁) _ _ (λ s. chunk-last limit s full (chunkOf _ p) (goes-on p _ full true f)))) f);
+          }
+
+-- the same for a room that has kept its length
+pub body-at : {limit m : ℕ} {full : Bool} {document room : List ℕ} {at len : ℕ} {lay : Markdown} {y : List ℕ} {c : Cursor} → m ≡ limit
+    → InBody limit full document room at len lay y c → InBody m full document room at len lay y c
+body-at e i = rw e i

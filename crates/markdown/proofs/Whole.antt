@@ -1,0 +1,19 @@
+-- The verdict on a document, and the walk after it. Assumes nothing.
+use Prim.Native.Nat.{ℕ}
+use mathlib.Core.Path.{_≡_}
+use mathlib.Core.Bool.{Bool}
+use mathlib.Core.List.{List, []}
+use Rattle.base.specs.Result.{Result, gives, refused, _>>=_}
+use Rattle.document.specs.Document.{tokens, check}
+use Rattle.walk.specs.Walk.{walk}
+use Rattle.html_rules.specs.Markdown.{initial, turn, finish, markdown}
+
+module _ (limit : ℕ) (full : Bool) (document : List ℕ) where
+  pub markdown-refused : (n p : ℕ) → check document ≡ refused n p → refused n p ≡ markdown limit full document
+  unfolding markdown _>>=_
+  markdown-refused n p e = rw e
+
+  pub markdown-accepted : (told : Result (List ℕ)) → check document ≡ gives []
+      → told ≡ (walk (turn limit full) (tokens 0 0 document) initial >>= finish limit) → told ≡ markdown limit full document
+  unfolding markdown _>>=_
+  markdown-accepted told e w = rw e w

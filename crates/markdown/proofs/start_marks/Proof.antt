@@ -1,0 +1,110 @@
+use Prim.Native.Nat.{_-_}
+use borrow.Author.Needs.{needs}
+use borrow.Author.Tests.{not-true, not-false}
+use Rattle.markdown.proofs.start_marks.Statement.{statement}
+use Rattle.markdown.proofs.start_marks.Tie as tie
+use Rattle.base.specs.Choice.{if_then_else_}
+use Rattle.utf8.specs.Utf8.{bytes, encode}
+use Rattle.markdown.specs.Parts.{tags}
+
+returns : tie.Need-returns
+unfolding tags bytes encode if_then_else_
+returns c = record { lead = rw (c .before .enum-told .given .1); line = rw (c .before .enum-told .given .1); text = rw (c .before .enum-told .given .1, c .if1 .taken) }
+
+returns-2 : tie.Need-returns-2
+unfolding tags bytes encode if_then_else_
+returns-2 c = record { lead = rw (c .before .enum-told4 .given .1); line = rw (c .before .enum-told4 .given .1); text = rw (c .before .enum-told4 .given .1, c .if2 .taken) }
+
+returns-3 : tie.Need-returns-3
+unfolding tags bytes encode if_then_else_
+returns-3 c = record { lead = rw (c .before .enum-told5 .given .1); line = rw (c .before .enum-told5 .given .1); text = rw (c .before .enum-told5 .given .1, c .if3 .taken) }
+
+returns-4 : tie.Need-returns-4
+unfolding tags bytes encode if_then_else_
+returns-4 c = record { lead = rw (c .before .before .enum-told6 .given .1, not-true (c .before .before .before .before .args .l .listed) (c .if4 .taken)); line = rw (c .before .before .enum-told6 .given .1); text = rw (c .before .before .enum-told6 .given .1) }
+
+returns-5 : tie.Need-returns-5
+unfolding tags bytes encode if_then_else_
+returns-5 c = record { lead = rw (c .before .before .before .enum-told6 .given .1, not-false (c .before .before .before .before .before .args .l .listed) (c .before .if4 .left), c .if5 .taken); line = rw (c .before .before .before .enum-told6 .given .1); text = rw (c .before .before .before .enum-told6 .given .1) }
+
+returns-6 : tie.Need-returns-6
+unfolding tags bytes encode if_then_else_
+returns-6 c = record { lead = rw (c .before .enum-told .given .1); line = rw (c .before .enum-told .given .1); text = rw (c .before .enum-told .given .1, c .if1 .left) }
+
+returns-7 : tie.Need-returns-7
+unfolding tags bytes encode if_then_else_
+returns-7 c = record { lead = rw (c .enum-told2 .given .1); line = rw (c .enum-told2 .given .1); text = rw (c .enum-told2 .given .1) }
+
+returns-8 : tie.Need-returns-8
+unfolding tags bytes encode if_then_else_
+returns-8 c = record { lead = rw (c .enum-told3 .given .1); line = rw (c .enum-told3 .given .1); text = rw (c .enum-told3 .given .1) }
+
+returns-9 : tie.Need-returns-9
+unfolding tags bytes encode if_then_else_
+returns-9 c = record { lead = rw (c .before .enum-told4 .given .1); line = rw (c .before .enum-told4 .given .1); text = rw (c .before .enum-told4 .given .1, c .if2 .left) }
+
+returns-10 : tie.Need-returns-10
+unfolding tags bytes encode if_then_else_
+returns-10 c = record { lead = rw (c .before .enum-told5 .given .1); line = rw (c .before .enum-told5 .given .1); text = rw (c .before .enum-told5 .given .1, c .if3 .left) }
+
+returns-11 : tie.Need-returns-11
+unfolding tags bytes encode if_then_else_
+returns-11 c = record { lead = rw (c .before .before .before .enum-told6 .given .1, not-false (c .before .before .before .before .before .args .l .listed) (c .before .if4 .left), c .if5 .left); line = rw (c .before .before .before .enum-told6 .given .1); text = rw (c .before .before .before .enum-told6 .given .1) }
+
+returns-12 : tie.Need-returns-12
+unfolding tags bytes encode if_then_else_
+returns-12 c = record { lead = rw (c .enum-told7 .given .1); line = rw (c .enum-told7 .given .1); text = rw (c .enum-told7 .given .1) }
+
+returns-13 : tie.Need-returns-13
+unfolding tags bytes encode if_then_else_
+returns-13 c = record { lead = rw (c .enum-told8 .given .1); line = rw (c .enum-told8 .given .1); text = rw (c .enum-told8 .given .1) }
+
+returns-14 : tie.Need-returns-14
+unfolding tags bytes encode if_then_else_
+returns-14 c = record { lead = rw (c .enum-told9 .given .1); line = rw (c .enum-told9 .given .1); text = rw (c .enum-told9 .given .1) }
+
+returns-15 : tie.Need-returns-15
+unfolding tags bytes encode if_then_else_
+returns-15 c = record { lead = rw (c .enum-told10 .given .1); line = rw (c .enum-told10 .given .1); text = rw (c .enum-told10 .given .1) }
+
+returns-16 : tie.Need-returns-16
+unfolding tags bytes encode if_then_else_
+returns-16 c = record { lead = rw (c .enum-told11 .given .1); line = rw (c .enum-told11 .given .1); text = rw (c .enum-told11 .given .1) }
+
+returns-17 : tie.Need-returns-17
+unfolding tags bytes encode if_then_else_
+returns-17 c = record { lead = rw (c .enum-told12 .given .1); line = rw (c .enum-told12 .given .1); text = rw (c .enum-told12 .given .1) }
+
+pub start-marks-spec : {M : Type 1} → statement M
+start-marks-spec =
+    tie.close
+    (tie.spec
+    (λ c. search needs)
+    returns
+    (λ c. search needs)
+    (λ c. search needs)
+    (λ c. search needs)
+    returns-2
+    (λ c. search needs)
+    returns-3
+    (λ c. search needs)
+    returns-4
+    returns-5
+    (λ c. search needs)
+    (λ c. search needs)
+    (λ c. search needs)
+    (λ c. search needs)
+    (λ c. search needs)
+    (λ c. search needs)
+    returns-6
+    returns-7
+    returns-8
+    returns-9
+    returns-10
+    returns-11
+    returns-12
+    returns-13
+    returns-14
+    returns-15
+    returns-16
+    returns-17)

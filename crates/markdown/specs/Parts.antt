@@ -1,0 +1,48 @@
+-- What the functions inside this crate promise each other; no rule of 01 stands here.
+use Prim.Native.Nat.{ℕ}
+use mathlib.Core.Path.{_≡_}
+use mathlib.Core.Bool.{Bool, true, false}
+use mathlib.Core.List.{List}
+use lib.Dec.{eqb}
+use Rattle.base.specs.Choice.{if_then_else_}
+use Rattle.base.specs.Result.{Result, _>>=_}
+use Rattle.utf8.specs.Utf8.{bytes}
+use Rattle.room.specs.Room.{extended}
+use Rattle.document.specs.declared.Block.{Block}
+use Rattle.splitter.specs.Split.{Chunk, raw, paragraph, lineBreak}
+use Rattle.html_rules.specs.Marks.{separated}
+use Rattle.html_rules.specs.Markdown.{startLead, startLine, startText, codeBegins, codeStops, lineText, wordText, paragraphText}
+use Rattle.html_rules.specs.declared.Markdown.{Markdown}
+use Rattle.html_parts.specs.Parts.{spanned}
+use Rattle.markdown.specs.declared.Marks.{Marks}
+
+-- all marks in one text
+unfoldable pub tags : List ℕ
+tags = bytes "**`**_`_### - \n\n  ```text\n\n  ```\n &mdash; "
+
+-- where the three texts of a block's start stand
+pub record Starts (m : Marks) (l : Markdown) (b : Block) : Type 0 where
+  pub lead : spanned tags (m .lead) ≡ startLead l b
+  pub line : spanned tags (m .line) ≡ startLine b
+  pub text : spanned tags (m .text) ≡ startText l b
+
+-- the text after a block's start
+unfoldable pub startRule : ℕ → Markdown → Block → List ℕ → Result (List ℕ)
+startRule limit l b x = extended limit (startLead l b) x >>= separated limit (startLine b) >>= extended limit (startText l b)
+
+-- the text after a chunk that does not end the walk of its body, and whether code lines are then being written
+unfoldable pub rawRule : ℕ → Markdown → List ℕ → ℕ → List ℕ → Result (List ℕ)
+rawRule limit l x w y =
+    if eqb w 1_000_001 then (separated limit (bytes "\n") y >>= extended limit (lineText x)) else
+    if eqb w 1_000_000 then (extended limit (codeBegins l) y >>= extended limit (lineText x)) else
+    (extended limit (codeStops l) y >>= extended limit (wordText l x))
+
+abbrev pub chunkRule : ℕ → Markdown → Chunk → List ℕ → Result (List ℕ)
+chunkRule limit l (raw x w) = rawRule limit l x w
+chunkRule limit l paragraph = extended limit (paragraphText l)
+chunkRule limit l lineBreak = extended limit (bytes "\n")
+
+abbrev pub fenceAfter : Chunk → Bool → Bool
+fenceAfter (raw x w) f = if eqb w 1_000_001 then f else if eqb w 1_000_000 then true else false
+fenceAfter paragraph f = f
+fenceAfter lineBreak f = f
