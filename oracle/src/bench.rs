@@ -7,26 +7,13 @@
 #![allow(dead_code, unused_imports, unused_variables)]
 
 use std::hint::black_box;
+use std::panic::{catch_unwind, AssertUnwindSafe};
 use std::time::Instant;
 
 use crate::buffer::Color;
+use crate::port::*;
 use crate::stored::{decode, Ending};
 use crate::Doc;
-
-extern "C" {
-    #[cfg(feature = "linked-check")]
-    fn sefgrunn_check(document: *const u8, n: usize, place: *mut usize) -> u32;
-    #[cfg(feature = "linked-console")]
-    fn sefgrunn_console(
-        document: *const u8,
-        n: usize,
-        width: usize,
-        full: bool,
-        room: *mut u8,
-        room_len: usize,
-        at: *mut usize,
-    ) -> u32;
-}
 
 /// Median nanoseconds of each of two calls, which take turns.
 fn medians(mut first: impl FnMut(), mut second: impl FnMut()) -> (u128, u128) {
@@ -54,7 +41,10 @@ fn row(what: &str, page: &str, bytes: usize, port: u128, rust: u128) {
 
 pub fn head() {
     println!("median ns of a call; the port checks the document and clears its room each time");
-    println!("{:<24} {:<20} {:>6} {:>9} {:>9} {:>6}", "call", "page", "bytes", "port", "rust", "ratio");
+    println!(
+        "{:<24} {:<20} {:>6} {:>9} {:>9} {:>6}",
+        "call", "page", "bytes", "port", "rust", "ratio"
+    );
 }
 
 /// The rows of one page, for each function that is linked; `None` where the page is refused.
@@ -108,5 +98,75 @@ pub fn page(name: &str, document: &[u8]) -> Option<()> {
             row(what, name, document.len(), port, rust);
         }
     }
+    #[cfg(feature = "linked-html")]
+    rendering(
+        "html",
+        name,
+        document,
+        || doc.render_html(true, false),
+        |room, at| unsafe {
+            sefgrunn_html(
+                document.as_ptr(),
+                document.len(),
+                true,
+                false,
+                room.as_mut_ptr(),
+                room.len(),
+                at,
+            )
+        },
+    );
+    #[cfg(feature = "linked-markdown")]
+    rendering(
+        "markdown",
+        name,
+        document,
+        || doc.render_markdown(true),
+        |room, at| unsafe {
+            sefgrunn_markdown(
+                document.as_ptr(),
+                document.len(),
+                true,
+                room.as_mut_ptr(),
+                room.len(),
+                at,
+            )
+        },
+    );
+    #[cfg(feature = "linked-roff")]
+    rendering(
+        "roff",
+        name,
+        document,
+        || doc.roff(),
+        |room, at| unsafe {
+            sefgrunn_roff(document.as_ptr(), document.len(), room.as_mut_ptr(), room.len(), at)
+        },
+    );
     Some(())
+}
+
+/// A row for one renderer, in a room of exactly the text's length; none where the Rust or the port refuses the page.
+fn rendering(
+    what: &str,
+    name: &str,
+    document: &[u8],
+    rust: impl Fn() -> String,
+    port: impl Fn(&mut [u8], &mut usize) -> u32,
+) {
+    let Ok(text) = catch_unwind(AssertUnwindSafe(&rust)) else { return };
+    let (mut room, mut at) = (vec![0u8; text.len()], 0);
+    if port(&mut room, &mut at) != 0 {
+        return;
+    }
+    assert_eq!(room, text.as_bytes());
+    let (port, rust) = medians(
+        || {
+            black_box(port(black_box(&mut room), &mut at));
+        },
+        || {
+            black_box(rust());
+        },
+    );
+    row(what, name, document.len(), port, rust);
 }

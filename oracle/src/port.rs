@@ -9,9 +9,9 @@ use crate::rules::{Operation, Renderer};
 
 extern "C" {
     #[cfg(feature = "linked-check")]
-    fn sefgrunn_check(document: *const u8, n: usize, place: *mut usize) -> u32;
+    pub(crate) fn sefgrunn_check(document: *const u8, n: usize, place: *mut usize) -> u32;
     #[cfg(feature = "linked-console")]
-    fn sefgrunn_console(
+    pub(crate) fn sefgrunn_console(
         document: *const u8,
         n: usize,
         width: usize,
@@ -21,7 +21,7 @@ extern "C" {
         at: *mut usize,
     ) -> u32;
     #[cfg(feature = "linked-html")]
-    fn sefgrunn_html(
+    pub(crate) fn sefgrunn_html(
         document: *const u8,
         n: usize,
         full: bool,
@@ -31,7 +31,7 @@ extern "C" {
         at: *mut usize,
     ) -> u32;
     #[cfg(feature = "linked-html")]
-    fn sefgrunn_html_strict(
+    pub(crate) fn sefgrunn_html_strict(
         document: *const u8,
         n: usize,
         full: bool,
@@ -41,7 +41,7 @@ extern "C" {
         at: *mut usize,
     ) -> u32;
     #[cfg(feature = "linked-markdown")]
-    fn sefgrunn_markdown(
+    pub(crate) fn sefgrunn_markdown(
         document: *const u8,
         n: usize,
         full: bool,
@@ -50,7 +50,7 @@ extern "C" {
         at: *mut usize,
     ) -> u32;
     #[cfg(feature = "linked-roff")]
-    fn sefgrunn_roff(
+    pub(crate) fn sefgrunn_roff(
         document: *const u8,
         n: usize,
         room: *mut u8,
@@ -58,7 +58,7 @@ extern "C" {
         at: *mut usize,
     ) -> u32;
     #[cfg(feature = "linked-builder")]
-    fn sefgrunn_write(
+    pub(crate) fn sefgrunn_write(
         room: *mut u8,
         room_len: usize,
         length: *mut usize,
@@ -68,7 +68,7 @@ extern "C" {
         place: *mut usize,
     ) -> u32;
     #[cfg(feature = "linked-builder")]
-    fn sefgrunn_open(
+    pub(crate) fn sefgrunn_open(
         room: *mut u8,
         room_len: usize,
         length: *mut usize,
@@ -76,7 +76,7 @@ extern "C" {
         place: *mut usize,
     ) -> u32;
     #[cfg(feature = "linked-builder")]
-    fn sefgrunn_close(
+    pub(crate) fn sefgrunn_close(
         room: *mut u8,
         room_len: usize,
         length: *mut usize,
@@ -84,7 +84,7 @@ extern "C" {
         place: *mut usize,
     ) -> u32;
     #[cfg(feature = "linked-builder")]
-    fn sefgrunn_doc(
+    pub(crate) fn sefgrunn_doc(
         room: *mut u8,
         room_len: usize,
         length: *mut usize,
@@ -93,7 +93,7 @@ extern "C" {
         place: *mut usize,
     ) -> u32;
     #[cfg(feature = "linked-builder")]
-    fn sefgrunn_em_doc(
+    pub(crate) fn sefgrunn_em_doc(
         room: *mut u8,
         room_len: usize,
         length: *mut usize,
