@@ -21,7 +21,7 @@ use Rattle.document.specs.declared.Style.{Style}
 use Rattle.document.specs.declared.Kind.the-variants as kind
 use Rattle.document.proofs.Walks.{Deep-at, deep-bound, deep-from, deep-less, deep-text, deep-start, deep-end, accepted-at-0, open-known, open-whole}
 use Rattle.splitter.specs.Split.{Chunk}
-use Rattle.splitter.specs.Answers.{chunkOf, chunksFrom, start}
+use Rattle.splitter.specs.Answers.{chunkOf, chunksFrom, cursor, start}
 use Rattle.splitter.specs.declared.Cursor.{Cursor}
 use Rattle.splitter.specs.declared.Piece.{Piece}
 use Rattle.splitter.proofs.Steps.{split-start}
@@ -39,6 +39,7 @@ use Rattle.console_parts.specs.declared.Placed.{Placed}
 use Rattle.console_parts.specs.declared.Placed.the-variants as placed
 use Rattle.console_parts.specs.declared.Mark.{Mark}
 use Rattle.console_parts.proofs.Margins.{top-shallow}
+use Rattle.console_words.specs.Onward.{onward, Moves}
 use Rattle.console.specs.Answers.{textBy, textAfter, Stands}
 
 module _ (document : List ℕ) (set : Settings) (tab limit : ℕ) where
@@ -182,6 +183,24 @@ module _ (document : List ℕ) (set : Settings) (tab limit : ℕ) where
     write-end e =
         leads-on whole (chunksRest margin place next (chunksFrom x c)) (held room kept m) (w .leads) gives (rest next) (held room kept m)
         (λ s. body-end (set .full) (chunk length set limit margin place) (rest next) (chunksFrom x c) e s) (sym (bind-end (held room kept m)))
+
+    -- words followed on their line
+    pub write-words : (room′ : List ℕ) (m′ : Mark) (at′ : ℕ) → length room′ ≡ length room → Moves (set .width) margin x (c .code) room m (c .at) room′ m′ at′
+        → Writing x margin place next kept room′ m′ (cursor at′ (c .code))
+    write-words room′ m′ at′ f v =
+        let some = body (set .full) (chunk length set limit margin place) in
+        let same : (held room′ kept m′ >>= some (chunksFrom x (cursor at′ (c .code)))) ≡ (held room kept m >>= some (chunksFrom x c)) =
+        subst (λ (n : ℕ). (held room′ kept m′ >>= onward set n margin place x at′ (c .code)) ≡ (held room kept m >>= onward set n margin place x (c .at) (c .code))) (w .size) (v .same set place kept refl) in
+        record {
+          size = f ∙ w .size;
+          leads = bind-assoc (held room′ kept m′) (some (chunksFrom x (cursor at′ (c .code)))) (rest next)
+              ∙ ap (λ (r : Result State). r >>= rest next) same
+              ∙ sym (bind-assoc (held room kept m) (some (chunksFrom x c)) (rest next))
+              ∙ w .leads;
+          column = omega (arith, v .near, v .order, w .column);
+          skip = omega (arith, v .skip, w .skip);
+          short = v .within (w .short);
+        }
 
     module _ (p : Piece) (d : Cursor) (t : Took x c p d) where
       -- a chunk was refused by 10

@@ -141,6 +141,17 @@ fn text_of(document: &[u8], set: Settings, tab: usize, room: &mut [u8]) -> Rende
                 let mut from: usize = 0;
                 let mut code = Code::No;
                 'chunks: loop {
+                    let run = console_words::put_words(
+                        room,
+                        m,
+                        margin,
+                        body,
+                        from,
+                        code,
+                        set.width,
+                    );
+                    m = run.mark;
+                    from = run.at;
                     let Step::Take(piece, after) = splitter::step_at(
                         body,
                         Cursor { at: from, code },

@@ -93,7 +93,7 @@ space-not [] e = refl
 space-not (b ∷ []) e = absurd (e refl)
 space-not (b ∷ c ∷ x) e = refl
 
-empty-some : (room : List ℕ) (n : ℕ) → (n ≡ 0 → ⊥) → n ≤ length room → empty (take n room) ≡ false
+pub empty-some : (room : List ℕ) (n : ℕ) → (n ≡ 0 → ⊥) → n ≤ length room → empty (take n room) ≡ false
 unfolding empty
 empty-some room zero h k = absurd (h refl)
 empty-some [] (suc n) h k = absurd (omega arith)

@@ -626,10 +626,10 @@ pub fn gap_ahead(document: &[u8], at: usize) -> bool
 
 // The tabstop.
 
-// The widest term so far, whether a term is being counted, and its characters so far.
+// The widest term so far, whether a term is being counted (1 where it is), and its characters so far.
 struct Terms {
     widest: usize,
-    counting: bool,
+    counting: usize,
     counted: usize,
 }
 
@@ -640,7 +640,7 @@ fn term_start(t: Terms, b: Block) -> Terms
     if document::index_of(b) == 4 {
         return Terms {
             widest: t.widest,
-            counting: true,
+            counting: 1,
             counted: 0,
         };
     }
@@ -653,7 +653,7 @@ fn term_end(t: Terms, b: Block) -> Terms
 {
     let mut r = t;
     if document::index_of(b) == 4 {
-        r.counting = false;
+        r.counting = 0;
         if t.widest < t.counted {
             if t.counted <= 24 {
                 r.widest = t.counted;
@@ -671,7 +671,7 @@ fn term_on(t: Terms, k: Kind, body: &[u8]) -> Terms
     match k {
         Kind::Text(_) => {
             let mut r = t;
-            if t.counting {
+            if t.counting == 1 {
                 r.counted = t.counted + utf8::count(body);
             }
             r
@@ -688,7 +688,7 @@ pub fn tabstop_of(document: &[u8]) -> usize
 {
     let mut t = Terms {
         widest: 0,
-        counting: false,
+        counting: 0,
         counted: 0,
     };
     let mut at: usize = 0;

@@ -3,3 +3,4 @@ pub mod Texts
 pub mod Turns
 pub mod Walked
 pub mod Whole
+pub mod Onward

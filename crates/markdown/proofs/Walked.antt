@@ -1,9 +1,9 @@
 -- What holds at each record of the walk over an accepted document, and at each chunk of a body. Assumes nothing.
-use Prim.Native.Nat.{ℕ, _+_, _≤_, _<_}
-use mathlib.Core.Path.{_≡_, refl, sym, ap, _∙_}
+use Prim.Native.Nat.{ℕ, _+_, _-_, _≤_, _<_}
+use mathlib.Core.Path.{_≡_, refl, sym, ap, _∙_, subst}
 use mathlib.Core.Bool.{Bool, true, false}
 use mathlib.Core.List.{List, [], _++_}
-use lib.ListN.{length}
+use lib.ListN.{length, drop, length-take}
 use native.Mathlib.Omega.{arith}
 use Rattle.base.specs.Result.{Result, gives, refused, _>>=_}
 use Rattle.base.proofs.Results.{bind-assoc, bind-same, bind-end}
@@ -18,7 +18,8 @@ use Rattle.document.specs.declared.Kind.the-variants as kind
 use Rattle.document.specs.declared.Head.{Head}
 use Rattle.document.proofs.Walks.{check-gives}
 use Rattle.splitter.specs.Split.{split}
-use Rattle.splitter.specs.Answers.{chunkOf, chunksFrom, start}
+use Rattle.splitter.specs.Answers.{chunkOf, chunksFrom, cursor, start}
+use Rattle.splitter.specs.declared.Code.{Code}
 use Rattle.splitter.specs.declared.Cursor.{Cursor}
 use Rattle.splitter.specs.declared.Piece.{Piece}
 use Rattle.splitter.specs.declared.Piece.the-variants.{Raw, Space, Paragraph, LineBreak}
@@ -32,6 +33,7 @@ use Rattle.html_parts.proofs.Rest as walking
 use Rattle.html_parts.proofs.Rest.{goes-on, chunks-on, chunks-stop, chunks-done}
 use Rattle.html_parts.proofs.Writes.{wrote-then}
 use Rattle.markdown.specs.Parts.{startRule, chunkRule, fenceAfter}
+use Rattle.markdown.specs.Onward.{onward, Moves}
 use Rattle.markdown.proofs.Flags.{start-few, end-few, met-few}
 use Rattle.markdown.proofs.Turns.{closed, start-is, end-is, start-meta, end-meta, unknown-is, hidden-is, text-is, finish-is, fencing, chunk-on, chunk-last}
 
@@ -74,6 +76,19 @@ module _ (limit : ℕ) (full : Bool) (document : List ℕ) where
     pub few : lay .skip ≤ at
     pub open-few : lay .mono ≤ at
     pub leads : Leads whole (chunksThen full (chunk limit full) (after at) (chunksFrom y c)) (shown room len [] lay)
+
+  -- words that went out as they stand
+  pub body-words : {room : List ℕ} {at len : ℕ} {lay : Markdown} {y : List ℕ} {from : ℕ} {d : Code} → InBody room at len lay y (cursor from d)
+      → (new : List ℕ) (n from′ : ℕ) → length room ≡ limit → Moves lay y d room len from new n from′ → InBody new at n lay y (cursor from′ d)
+  body-words {room} {at} {len} {lay} {y} {from} {d} i new n from′ s m = record {
+    few = i .few;
+    open-few = i .open-few;
+    leads = bind-assoc (shown new n [] lay) (onward full limit y from′ d) (after at)
+        ∙ ap (λ (r : Result State). r >>= after at)
+        (subst (λ (k : ℕ). (shown new n [] lay >>= onward full k y from′ d) ≡ (shown room len [] lay >>= onward full k y from d)) s (m .same full []))
+        ∙ sym (bind-assoc (shown room len [] lay) (onward full limit y from d) (after at))
+        ∙ i .leads;
+  }
 
   -- a chunk that goes on
   pub body-on : {room : List ℕ} {at len : ℕ} {lay : Markdown} {y : List ℕ} {c : Cursor} → InBody room at len lay y c
@@ -264,6 +279,9 @@ module _ (limit : ℕ) (full : Bool) (document : List ℕ) where
                 (shown-changed (withLay (skip 1)) [] [] l₁ (skip 1 l₁) (λ x. refl) old k
                 ∙ sym (bind-same (shown old k [] l₁) _ _ (λ s. chunk-last limit s full (chunkOf _ p) (goes-on p _ full true f)))) f);
           }
+
+pub body-few : (document : List ℕ) (from to : ℕ) → length document ≤ 32_768 → to ≤ length document → length (part document from to) ≤ 32_768
+body-few document from to h k = omega (arith, length-take (to - from) (drop from document))
 
 -- the same for a room that has kept its length
 pub body-at : {limit m : ℕ} {full : Bool} {document room : List ℕ} {at len : ℕ} {lay : Markdown} {y : List ℕ} {c : Cursor} → m ≡ limit

@@ -14,6 +14,7 @@ ghost use Rattle.walk.specs.Rendered.{answered, measured, standing, filled};
 ghost use Rattle.html_rules.specs.Markdown.{styled as withStyle, opening, closing, termEnds, metTerm, startLay, endText, endLay, codeBegins, codeStops, codeEnds, lineText, wordText, paragraphText, initial, turn, finish, markdown};
 ghost use Rattle.html_parts.specs.Parts.{spanned, Inside};
 ghost use Rattle.markdown.specs.Parts.{tags as allTags, Starts, startRule, rawRule, chunkRule, fenceAfter};
+ghost use Rattle.markdown.specs.Onward.{Onward, Ahead, Moves};
 use document::Block;
 use document::Checked;
 use document::Kind;
@@ -455,6 +456,58 @@ fn fence_after(piece: Piece, fenced: bool) -> bool
     }
 }
 
+// How far the text and the walk of a body have come.
+struct Run {
+    len: usize,
+    at: usize,
+}
+
+// Words and spaces from a place on, as they stand, up to a line end.
+fn put_words(room: &mut [u8], len: usize, body: &[u8], from: usize) -> Run
+    requires { ⌜ length (now body) ≤ 32_768 ⌝ }
+    ensures { λ r. ⌜ Onward (now (body .entry)) (now (room .entry)) len from (now (room .exit)) (r .len) (r .at) ⌝ }
+{
+    let mut n = len;
+    let mut at = from;
+    loop {
+        let w = words::copy_next(room, n, body, at);
+        let k = w.to - at;
+        if k == 0 {
+            return Run { len: n, at };
+        }
+        n += k;
+        at = w.to;
+    }
+}
+
+// Whether words go out as they stand: outside ticks, Mono and code lines.
+fn is_plain(l: Markdown, code: Code) -> bool
+    ensures { λ r. ⌜ Ahead l code r ⌝ }
+{
+    if 0 < l.mono {
+        return false;
+    }
+    if l.fenced {
+        return false;
+    }
+    match code {
+        Code::No => true,
+        Code::First => false,
+        Code::Rest => false,
+    }
+}
+
+// The words and spaces from a cursor on that go out as they stand: the chunks that are left give from here what they gave before.
+fn put_plain(room: &mut [u8], len: usize, body: &[u8], from: usize, code: Code, l: Markdown) -> Run
+    requires { ⌜ length (now body) ≤ 32_768 ⌝ }
+    ensures { λ r. ⌜ Moves l (now (body .entry)) code (now (room .entry)) len from (now (room .exit)) (r .len) (r .at) ⌝ }
+{
+    if is_plain(l, code) {
+        return put_words(room, len, body, from);
+    }
+    Run { len, at: from }
+}
+
 // The walk over an accepted document.
 fn walk(document: &[u8], tags: &[u8], full: bool, room: &mut [u8]) -> Rendered
     requires { ⌜ now tags ≡ allTags ⌝ }
@@ -514,12 +567,16 @@ fn walk(document: &[u8], tags: &[u8], full: bool, room: &mut [u8]) -> Rendered
                 len = change_to_markdown_style(room, len, tags, style, st);
                 lay = styled(lay, st);
                 let body = &document[start..next];
-                let mut cursor = Cursor {
-                    at: 0,
-                    code: Code::No,
-                };
+                let mut from: usize = 0;
+                let mut code = Code::No;
                 'chunks: loop {
-                    let Step::Take(piece, after) = splitter::step_at(body, cursor) else {
+                    let run = put_plain(room, len, body, from, code, lay);
+                    len = run.len;
+                    from = run.at;
+                    let Step::Take(piece, after) = splitter::step_at(
+                        body,
+                        Cursor { at: from, code },
+                    ) else {
                         break 'chunks;
                     };
                     if html_parts::ends_body(piece, full) {
@@ -530,7 +587,8 @@ fn walk(document: &[u8], tags: &[u8], full: bool, room: &mut [u8]) -> Rendered
                     }
                     len = put_chunk(room, len, tags, body, piece, lay);
                     lay.fenced = fence_after(piece, lay.fenced);
-                    cursor = after;
+                    from = after.at;
+                    code = after.code;
                 }
                 len = html_parts::put_span(room, len, tags, ends_span(lay));
                 lay.fenced = false;

@@ -10,7 +10,7 @@ use Rattle.console.proofs.text_of.Tie as tie
 use Rattle.document.specs.declared.Refusal.the-variants as refusal
 use Rattle.splitter.specs.Answers.{cursor}
 use Rattle.splitter.proofs.Answers.{took, ended}
-use Rattle.console.proofs.Standing.{Standing, Writing, stand-first, zeros-shallow, stand-over, stand-known, stand-slot, stand-less, stand-count, stand-column, stand-started, stand-ended, stand-hidden, stands-refused, stands-done, margin-low, body-few, body-first, column-low, body-done, body-stop, body-on, body-deep, placed-deep, placed-at, nearby-at}
+use Rattle.console.proofs.Standing.{Standing, Writing, stand-first, zeros-shallow, stand-over, stand-known, stand-slot, stand-less, stand-count, stand-column, stand-started, stand-ended, stand-hidden, write-words, stands-refused, stands-done, margin-low, body-few, body-first, column-low, body-done, body-stop, body-on, body-deep, placed-deep, placed-at, nearby-at}
 
 abbrev Inv-chunks : tie.InvT-chunks
 Inv-chunks document set tab room₀ margins count m₀ at place start next margin body from₀ code₀ room m from code = Writing document set tab (length room₀) body margin place next (take count margins) room m (cursor from code)
@@ -104,66 +104,78 @@ chunks-holds c =
 
 records-less-5 : tie.Need-records-less-5 Inv-chunks μ-chunks Inv-records μ-records
 records-less-5 c =
-    let s = c .before .before .before .before .before .before .before .before .before .before .before .before .before .before .before .before .records in
-    stand-less _ _ _ _ (s .room) (s .margins) (s .count) (s .m) (s .at) (s .inv) (c .before .before .before .before .before .before .before .before .before .before .before .before .record-at .result) (c .before .before .before .before .before .before .before .before .before .before .before .before .record-at .ensures) (c .before .before .before .before .before .before .before .before .before .before .before .before .before .before .before .records-test .taken)
+    let s = c .before .before .before .before .before .before .before .before .before .before .before .before .before .before .before .before .before .before .before .before .before .records in
+    stand-less _ _ _ _ (s .room) (s .margins) (s .count) (s .m) (s .at) (s .inv) (c .before .before .before .before .before .before .before .before .before .before .before .before .before .before .before .before .before .record-at .result) (c .before .before .before .before .before .before .before .before .before .before .before .before .before .before .before .before .before .record-at .ensures) (c .before .before .before .before .before .before .before .before .before .before .before .before .before .before .before .before .before .before .before .before .records-test .taken)
 
 records-again-5 : tie.Need-records-again-5 Inv-chunks μ-chunks Inv-records μ-records
 records-again-5 c =
-    let s = c .before .before .before .before .before .before .before .before .before .before .before .before .before .before .before .before .records in
-    let v = c .before .before .before .chunks in
-    body-done _ _ _ _ (s .room) (s .margins) (s .count) (s .m) (s .at) (s .inv) (c .before .before .before .before .before .before .before .before .before .before .before .before .record-at .result) (c .before .before .before .before .before .before .before .before .before .before .before .before .record-at .ensures) (c .before .before .before .before .before .before .before .before .before .before .before .before .before .before .before .records-test .taken) (c .before .before .before .before .before .before .before .before .before .before .before .before .before .before .before .before .before .before .before .before .pre .0) _ (c .before .before .before .before .before .before .before .before .before .before .enum-told2 .given .1) (c .before .before .before .before .before .top-margin .result) (c .before .before .before .before .before .top-margin .ensures) (v .room) (v .m) (cursor (v .from) (v .code)) (v .inv) (ended _ (cursor (v .from) (v .code)) (c .before .before .step-at .result) (c .enum-told3 .given .1) (c .before .before .step-at .ensures))
+    let s = c .before .before .before .before .before .before .before .before .before .before .before .before .before .before .before .before .before .before .before .before .before .records in
+    let v = c .before .before .before .before .before .before .before .before .chunks in
+    let u = c .before .before .before .before .before .before .put-words in
+    let i = write-words _ _ _ _ _ _ _ _ _ (v .room) (v .m) (cursor (v .from) (v .code)) (v .inv) (u .last .0) (u .result .mark) (u .result .at) (u .kept .0) (u .ensures) in
+    body-done _ _ _ _ (s .room) (s .margins) (s .count) (s .m) (s .at) (s .inv) (c .before .before .before .before .before .before .before .before .before .before .before .before .before .before .before .before .before .record-at .result) (c .before .before .before .before .before .before .before .before .before .before .before .before .before .before .before .before .before .record-at .ensures) (c .before .before .before .before .before .before .before .before .before .before .before .before .before .before .before .before .before .before .before .before .records-test .taken) (c .before .before .before .before .before .before .before .before .before .before .before .before .before .before .before .before .before .before .before .before .before .before .before .before .before .pre .0) _ (c .before .before .before .before .before .before .before .before .before .before .before .before .before .before .before .enum-told2 .given .1) (c .before .before .before .before .before .before .before .before .before .before .top-margin .result) (c .before .before .before .before .before .before .before .before .before .before .top-margin .ensures) (u .last .0) (u .result .mark) (cursor (u .result .at) (v .code)) i (ended _ (cursor (u .result .at) (v .code)) (c .before .before .step-at .result) (c .enum-told3 .given .1) (c .before .before .step-at .ensures))
 
 put-piece-requires : tie.Need-put-piece-requires Inv-chunks μ-chunks Inv-records μ-records
 put-piece-requires c κs =
-    let s = c .before .before .before .before .before .before .before .before .before .before .before .before .before .before .before .before .before .before .records in
-    let v = c .before .before .before .before .before .chunks in
-    let t = took _ (cursor (v .from) (v .code)) (c .before .before .before .before .step-at .result) _ _ (c .before .before .piece .given .1) (c .before .before .before .before .step-at .ensures) in
-    let low = margin-low _ _ _ _ (s .room) (s .margins) (s .count) (s .m) (s .at) (s .inv) (c .before .before .before .before .before .before .before .before .before .before .before .before .before .before .record-at .result) (c .before .before .before .before .before .before .before .before .before .before .before .before .before .before .record-at .ensures) (c .before .before .before .before .before .before .before .before .before .before .before .before .before .before .before .before .before .records-test .taken) (c .before .before .before .before .before .before .before .before .before .before .before .before .before .before .before .before .before .before .before .before .before .before .pre .0) _ (c .before .before .before .before .before .before .before .before .before .before .before .before .enum-told2 .given .1) (c .before .before .before .before .before .before .before .top-margin .result) (c .before .before .before .before .before .before .before .top-margin .ensures) in (
-      column-low _ _ _ _ (s .room) (s .margins) (s .count) (s .m) (s .at) (s .inv) (c .before .before .before .before .before .before .before .before .before .before .before .before .before .before .record-at .result) (c .before .before .before .before .before .before .before .before .before .before .before .before .before .before .record-at .ensures) (c .before .before .before .before .before .before .before .before .before .before .before .before .before .before .before .before .before .records-test .taken) (c .before .before .before .before .before .before .before .before .before .before .before .before .before .before .before .before .before .before .before .before .before .before .pre .0) _ (c .before .before .before .before .before .before .before .before .before .before .before .before .enum-told2 .given .1) (c .before .before .before .before .before .before .before .top-margin .result) (c .before .before .before .before .before .before .before .top-margin .ensures) (v .room) (v .m) (cursor (v .from) (v .code)) (v .inv),
+    let s = c .before .before .before .before .before .before .before .before .before .before .before .before .before .before .before .before .before .before .before .before .before .before .before .records in
+    let v = c .before .before .before .before .before .before .before .before .before .before .chunks in
+    let u = c .before .before .before .before .before .before .before .before .put-words in
+    let i = write-words _ _ _ _ _ _ _ _ _ (v .room) (v .m) (cursor (v .from) (v .code)) (v .inv) (u .last .0) (u .result .mark) (u .result .at) (u .kept .0) (u .ensures) in
+    let t = took _ (cursor (u .result .at) (v .code)) (c .before .before .before .before .step-at .result) _ _ (c .before .before .piece .given .1) (c .before .before .before .before .step-at .ensures) in
+    let low = margin-low _ _ _ _ (s .room) (s .margins) (s .count) (s .m) (s .at) (s .inv) (c .before .before .before .before .before .before .before .before .before .before .before .before .before .before .before .before .before .before .before .record-at .result) (c .before .before .before .before .before .before .before .before .before .before .before .before .before .before .before .before .before .before .before .record-at .ensures) (c .before .before .before .before .before .before .before .before .before .before .before .before .before .before .before .before .before .before .before .before .before .before .records-test .taken) (c .before .before .before .before .before .before .before .before .before .before .before .before .before .before .before .before .before .before .before .before .before .before .before .before .before .before .before .pre .0) _ (c .before .before .before .before .before .before .before .before .before .before .before .before .before .before .before .before .before .enum-told2 .given .1) (c .before .before .before .before .before .before .before .before .before .before .before .before .top-margin .result) (c .before .before .before .before .before .before .before .before .before .before .before .before .top-margin .ensures) in (
+      column-low _ _ _ _ (s .room) (s .margins) (s .count) (s .m) (s .at) (s .inv) (c .before .before .before .before .before .before .before .before .before .before .before .before .before .before .before .before .before .before .before .record-at .result) (c .before .before .before .before .before .before .before .before .before .before .before .before .before .before .before .before .before .before .before .record-at .ensures) (c .before .before .before .before .before .before .before .before .before .before .before .before .before .before .before .before .before .before .before .before .before .before .records-test .taken) (c .before .before .before .before .before .before .before .before .before .before .before .before .before .before .before .before .before .before .before .before .before .before .before .before .before .before .before .pre .0) _ (c .before .before .before .before .before .before .before .before .before .before .before .before .before .before .before .before .before .enum-told2 .given .1) (c .before .before .before .before .before .before .before .before .before .before .before .before .top-margin .result) (c .before .before .before .before .before .before .before .before .before .before .before .before .top-margin .ensures) (u .last .0) (u .result .mark) (cursor (u .result .at) (v .code)) i,
       omega (arith, low),
-      body-few _ _ _ _ (s .room) (s .margins) (s .count) (s .m) (s .at) (s .inv) (c .before .before .before .before .before .before .before .before .before .before .before .before .before .before .record-at .result) (c .before .before .before .before .before .before .before .before .before .before .before .before .before .before .record-at .ensures) (c .before .before .before .before .before .before .before .before .before .before .before .before .before .before .before .before .before .records-test .taken) (c .before .before .before .before .before .before .before .before .before .before .before .before .before .before .before .before .before .before .before .before .before .before .pre .0) _ (c .before .before .before .before .before .before .before .before .before .before .before .before .enum-told2 .given .1) (c .before .before .before .before .before .before .before .top-margin .result) (c .before .before .before .before .before .before .before .top-margin .ensures),
+      body-few _ _ _ _ (s .room) (s .margins) (s .count) (s .m) (s .at) (s .inv) (c .before .before .before .before .before .before .before .before .before .before .before .before .before .before .before .before .before .before .before .record-at .result) (c .before .before .before .before .before .before .before .before .before .before .before .before .before .before .before .before .before .before .before .record-at .ensures) (c .before .before .before .before .before .before .before .before .before .before .before .before .before .before .before .before .before .before .before .before .before .before .records-test .taken) (c .before .before .before .before .before .before .before .before .before .before .before .before .before .before .before .before .before .before .before .before .before .before .before .before .before .before .before .pre .0) _ (c .before .before .before .before .before .before .before .before .before .before .before .before .before .before .before .before .before .enum-told2 .given .1) (c .before .before .before .before .before .before .before .before .before .before .before .before .top-margin .result) (c .before .before .before .before .before .before .before .before .before .before .before .before .top-margin .ensures),
       t .piece,
     )
 
 same-length-2 : tie.Need-same-length-2 Inv-chunks μ-chunks Inv-records μ-records
-same-length-2 c = c .before .before .before .before .before .put-piece .kept .0 ∙ c .before .before .before .before .before .before .before .before .before .before .before .chunks .inv .size ∙ c .before .before .before .before .before .before .before .before .before .before .before .before .before .before .before .before .before .before .before .before .before .before .before .before .records .inv .size
+same-length-2 c = c .before .before .before .before .before .put-piece .kept .0 ∙ c .before .before .before .before .before .before .before .before .before .before .before .before .before .before .put-words .kept .0 ∙ c .before .before .before .before .before .before .before .before .before .before .before .before .before .before .before .before .chunks .inv .size ∙ c .before .before .before .before .before .before .before .before .before .before .before .before .before .before .before .before .before .before .before .before .before .before .before .before .before .before .before .before .before .records .inv .size
 
 returns-2 : tie.Need-returns-2 Inv-chunks μ-chunks Inv-records μ-records
 returns-2 c =
-    let s = c .before .before .before .before .before .before .before .before .before .before .before .before .before .before .before .before .before .before .before .before .before .before .before .before .records in
-    let v = c .before .before .before .before .before .before .before .before .before .before .before .chunks in
+    let s = c .before .before .before .before .before .before .before .before .before .before .before .before .before .before .before .before .before .before .before .before .before .before .before .before .before .before .before .before .before .records in
+    let v = c .before .before .before .before .before .before .before .before .before .before .before .before .before .before .before .before .chunks in
+    let u = c .before .before .before .before .before .before .before .before .before .before .before .before .before .before .put-words in
+    let i = write-words _ _ _ _ _ _ _ _ _ (v .room) (v .m) (cursor (v .from) (v .code)) (v .inv) (u .last .0) (u .result .mark) (u .result .at) (u .kept .0) (u .ensures) in
     let g = c .before .before .before .before .before .put-piece in
     stands-refused _ _ _ _ (g .last .0) (refusal.BeyondMargin _)
-    (body-deep _ _ _ _ (s .room) (s .margins) (s .count) (s .m) (s .at) (s .inv) (c .before .before .before .before .before .before .before .before .before .before .before .before .before .before .before .before .before .before .before .before .record-at .result) (c .before .before .before .before .before .before .before .before .before .before .before .before .before .before .before .before .before .before .before .before .record-at .ensures) (c .before .before .before .before .before .before .before .before .before .before .before .before .before .before .before .before .before .before .before .before .before .before .before .records-test .taken) (c .before .before .before .before .before .before .before .before .before .before .before .before .before .before .before .before .before .before .before .before .before .before .before .before .before .before .before .before .pre .0) _ (c .before .before .before .before .before .before .before .before .before .before .before .before .before .before .before .before .before .before .enum-told2 .given .1) (c .before .before .before .before .before .before .before .before .before .before .before .before .before .top-margin .result) (c .before .before .before .before .before .before .before .before .before .before .before .before .before .top-margin .ensures) (v .room) (v .m) (cursor (v .from) (v .code)) (v .inv) _ _
-    (took _ (cursor (v .from) (v .code)) (c .before .before .before .before .before .before .before .before .before .before .step-at .result) _ _ (c .before .before .before .before .before .before .before .before .piece .given .1) (c .before .before .before .before .before .before .before .before .before .before .step-at .ensures)) _ (placed-deep (g .last .0) (take (s .count) (s .margins)) (g .result) _ _ (c .before .placed .given .1) (g .ensures .0 (take (s .count) (s .margins)))))
+    (body-deep _ _ _ _ (s .room) (s .margins) (s .count) (s .m) (s .at) (s .inv) (c .before .before .before .before .before .before .before .before .before .before .before .before .before .before .before .before .before .before .before .before .before .before .before .before .before .record-at .result) (c .before .before .before .before .before .before .before .before .before .before .before .before .before .before .before .before .before .before .before .before .before .before .before .before .before .record-at .ensures) (c .before .before .before .before .before .before .before .before .before .before .before .before .before .before .before .before .before .before .before .before .before .before .before .before .before .before .before .before .records-test .taken) (c .before .before .before .before .before .before .before .before .before .before .before .before .before .before .before .before .before .before .before .before .before .before .before .before .before .before .before .before .before .before .before .before .before .pre .0) _ (c .before .before .before .before .before .before .before .before .before .before .before .before .before .before .before .before .before .before .before .before .before .before .before .enum-told2 .given .1) (c .before .before .before .before .before .before .before .before .before .before .before .before .before .before .before .before .before .before .top-margin .result) (c .before .before .before .before .before .before .before .before .before .before .before .before .before .before .before .before .before .before .top-margin .ensures) (u .last .0) (u .result .mark) (cursor (u .result .at) (v .code)) i _ _
+    (took _ (cursor (u .result .at) (v .code)) (c .before .before .before .before .before .before .before .before .before .before .step-at .result) _ _ (c .before .before .before .before .before .before .before .before .piece .given .1) (c .before .before .before .before .before .before .before .before .before .before .step-at .ensures)) _ (placed-deep (g .last .0) (take (s .count) (s .margins)) (g .result) _ _ (c .before .placed .given .1) (g .ensures .0 (take (s .count) (s .margins)))))
 
 records-less-6 : tie.Need-records-less-6 Inv-chunks μ-chunks Inv-records μ-records
 records-less-6 c =
-    let s = c .before .before .before .before .before .before .before .before .before .before .before .before .before .before .before .before .before .before .before .before .before .before .before .before .before .before .records in
-    stand-less _ _ _ _ (s .room) (s .margins) (s .count) (s .m) (s .at) (s .inv) (c .before .before .before .before .before .before .before .before .before .before .before .before .before .before .before .before .before .before .before .before .before .before .record-at .result) (c .before .before .before .before .before .before .before .before .before .before .before .before .before .before .before .before .before .before .before .before .before .before .record-at .ensures) (c .before .before .before .before .before .before .before .before .before .before .before .before .before .before .before .before .before .before .before .before .before .before .before .before .before .records-test .taken)
+    let s = c .before .before .before .before .before .before .before .before .before .before .before .before .before .before .before .before .before .before .before .before .before .before .before .before .before .before .before .before .before .before .before .records in
+    stand-less _ _ _ _ (s .room) (s .margins) (s .count) (s .m) (s .at) (s .inv) (c .before .before .before .before .before .before .before .before .before .before .before .before .before .before .before .before .before .before .before .before .before .before .before .before .before .before .before .record-at .result) (c .before .before .before .before .before .before .before .before .before .before .before .before .before .before .before .before .before .before .before .before .before .before .before .before .before .before .before .record-at .ensures) (c .before .before .before .before .before .before .before .before .before .before .before .before .before .before .before .before .before .before .before .before .before .before .before .before .before .before .before .before .before .before .records-test .taken)
 
 records-again-6 : tie.Need-records-again-6 Inv-chunks μ-chunks Inv-records μ-records
 records-again-6 c =
-    let s = c .before .before .before .before .before .before .before .before .before .before .before .before .before .before .before .before .before .before .before .before .before .before .before .before .before .before .records in
-    let v = c .before .before .before .before .before .before .before .before .before .before .before .before .before .chunks in
+    let s = c .before .before .before .before .before .before .before .before .before .before .before .before .before .before .before .before .before .before .before .before .before .before .before .before .before .before .before .before .before .before .before .records in
+    let v = c .before .before .before .before .before .before .before .before .before .before .before .before .before .before .before .before .before .before .chunks in
+    let u = c .before .before .before .before .before .before .before .before .before .before .before .before .before .before .before .before .put-words in
+    let i = write-words _ _ _ _ _ _ _ _ _ (v .room) (v .m) (cursor (v .from) (v .code)) (v .inv) (u .last .0) (u .result .mark) (u .result .at) (u .kept .0) (u .ensures) in
     let g = c .before .before .before .before .before .before .before .put-piece in
-    body-stop _ _ _ _ (s .room) (s .margins) (s .count) (s .m) (s .at) (s .inv) (c .before .before .before .before .before .before .before .before .before .before .before .before .before .before .before .before .before .before .before .before .before .before .record-at .result) (c .before .before .before .before .before .before .before .before .before .before .before .before .before .before .before .before .before .before .before .before .before .before .record-at .ensures) (c .before .before .before .before .before .before .before .before .before .before .before .before .before .before .before .before .before .before .before .before .before .before .before .before .before .records-test .taken) (c .before .before .before .before .before .before .before .before .before .before .before .before .before .before .before .before .before .before .before .before .before .before .before .before .before .before .before .before .before .before .pre .0) _ (c .before .before .before .before .before .before .before .before .before .before .before .before .before .before .before .before .before .before .before .before .enum-told2 .given .1) (c .before .before .before .before .before .before .before .before .before .before .before .before .before .before .before .top-margin .result) (c .before .before .before .before .before .before .before .before .before .before .before .before .before .before .before .top-margin .ensures) (v .room) (v .m) (cursor (v .from) (v .code)) (v .inv) _ _
-    (took _ (cursor (v .from) (v .code)) (c .before .before .before .before .before .before .before .before .before .before .before .before .step-at .result) _ _ (c .before .before .before .before .before .before .before .before .before .before .piece .given .1) (c .before .before .before .before .before .before .before .before .before .before .before .before .step-at .ensures)) (g .last .0) _ (g .kept .0)
+    body-stop _ _ _ _ (s .room) (s .margins) (s .count) (s .m) (s .at) (s .inv) (c .before .before .before .before .before .before .before .before .before .before .before .before .before .before .before .before .before .before .before .before .before .before .before .before .before .before .before .record-at .result) (c .before .before .before .before .before .before .before .before .before .before .before .before .before .before .before .before .before .before .before .before .before .before .before .before .before .before .before .record-at .ensures) (c .before .before .before .before .before .before .before .before .before .before .before .before .before .before .before .before .before .before .before .before .before .before .before .before .before .before .before .before .before .before .records-test .taken) (c .before .before .before .before .before .before .before .before .before .before .before .before .before .before .before .before .before .before .before .before .before .before .before .before .before .before .before .before .before .before .before .before .before .before .before .pre .0) _ (c .before .before .before .before .before .before .before .before .before .before .before .before .before .before .before .before .before .before .before .before .before .before .before .before .before .enum-told2 .given .1) (c .before .before .before .before .before .before .before .before .before .before .before .before .before .before .before .before .before .before .before .before .top-margin .result) (c .before .before .before .before .before .before .before .before .before .before .before .before .before .before .before .before .before .before .before .before .top-margin .ensures) (u .last .0) (u .result .mark) (cursor (u .result .at) (v .code)) i _ _
+    (took _ (cursor (u .result .at) (v .code)) (c .before .before .before .before .before .before .before .before .before .before .before .before .step-at .result) _ _ (c .before .before .before .before .before .before .before .before .before .before .piece .given .1) (c .before .before .before .before .before .before .before .before .before .before .before .before .step-at .ensures)) (g .last .0) _ (g .kept .0)
     (placed-at (g .last .0) (take (s .count) (s .margins)) (g .result) _ _ (c .before .before .before .placed2 .given .1) (g .ensures .0 (take (s .count) (s .margins)))) (nearby-at _ _ (g .result) _ (c .before .before .before .placed2 .given .1) (g .ensures .1))
     (sym (c .before .stops-at .ensures _) ∙ c .if3 .taken)
 
 chunks-less : tie.Need-chunks-less Inv-chunks μ-chunks Inv-records μ-records
 chunks-less c =
-    let t = took _ (cursor (c .before .before .before .before .before .before .before .before .before .before .before .before .before .chunks .from) (c .before .before .before .before .before .before .before .before .before .before .before .before .before .chunks .code)) (c .before .before .before .before .before .before .before .before .before .before .before .before .step-at .result) _ _ (c .before .before .before .before .before .before .before .before .before .before .piece .given .1) (c .before .before .before .before .before .before .before .before .before .before .before .before .step-at .ensures) in
-    omega (arith, t .further, t .short)
+    let v = c .before .before .before .before .before .before .before .before .before .before .before .before .before .before .before .before .before .before .chunks in
+    let u = c .before .before .before .before .before .before .before .before .before .before .before .before .before .before .before .before .put-words in
+    let t = took _ (cursor (u .result .at) (v .code)) (c .before .before .before .before .before .before .before .before .before .before .before .before .step-at .result) _ _ (c .before .before .before .before .before .before .before .before .before .before .piece .given .1) (c .before .before .before .before .before .before .before .before .before .before .before .before .step-at .ensures) in
+    omega (arith, t .further, t .short, u .ensures .order)
 
 chunks-again : tie.Need-chunks-again Inv-chunks μ-chunks Inv-records μ-records
 chunks-again c =
-    let s = c .before .before .before .before .before .before .before .before .before .before .before .before .before .before .before .before .before .before .before .before .before .before .before .before .before .before .records in
-    let v = c .before .before .before .before .before .before .before .before .before .before .before .before .before .chunks in
+    let s = c .before .before .before .before .before .before .before .before .before .before .before .before .before .before .before .before .before .before .before .before .before .before .before .before .before .before .before .before .before .before .before .records in
+    let v = c .before .before .before .before .before .before .before .before .before .before .before .before .before .before .before .before .before .before .chunks in
+    let u = c .before .before .before .before .before .before .before .before .before .before .before .before .before .before .before .before .put-words in
+    let i = write-words _ _ _ _ _ _ _ _ _ (v .room) (v .m) (cursor (v .from) (v .code)) (v .inv) (u .last .0) (u .result .mark) (u .result .at) (u .kept .0) (u .ensures) in
     let g = c .before .before .before .before .before .before .before .put-piece in
-    body-on _ _ _ _ (s .room) (s .margins) (s .count) (s .m) (s .at) (s .inv) (c .before .before .before .before .before .before .before .before .before .before .before .before .before .before .before .before .before .before .before .before .before .before .record-at .result) (c .before .before .before .before .before .before .before .before .before .before .before .before .before .before .before .before .before .before .before .before .before .before .record-at .ensures) (c .before .before .before .before .before .before .before .before .before .before .before .before .before .before .before .before .before .before .before .before .before .before .before .before .before .records-test .taken) (c .before .before .before .before .before .before .before .before .before .before .before .before .before .before .before .before .before .before .before .before .before .before .before .before .before .before .before .before .before .before .pre .0) _ (c .before .before .before .before .before .before .before .before .before .before .before .before .before .before .before .before .before .before .before .before .enum-told2 .given .1) (c .before .before .before .before .before .before .before .before .before .before .before .before .before .before .before .top-margin .result) (c .before .before .before .before .before .before .before .before .before .before .before .before .before .before .before .top-margin .ensures) (v .room) (v .m) (cursor (v .from) (v .code)) (v .inv) _ _
-    (took _ (cursor (v .from) (v .code)) (c .before .before .before .before .before .before .before .before .before .before .before .before .step-at .result) _ _ (c .before .before .before .before .before .before .before .before .before .before .piece .given .1) (c .before .before .before .before .before .before .before .before .before .before .before .before .step-at .ensures)) (g .last .0) _ (g .kept .0)
+    body-on _ _ _ _ (s .room) (s .margins) (s .count) (s .m) (s .at) (s .inv) (c .before .before .before .before .before .before .before .before .before .before .before .before .before .before .before .before .before .before .before .before .before .before .before .before .before .before .before .record-at .result) (c .before .before .before .before .before .before .before .before .before .before .before .before .before .before .before .before .before .before .before .before .before .before .before .before .before .before .before .record-at .ensures) (c .before .before .before .before .before .before .before .before .before .before .before .before .before .before .before .before .before .before .before .before .before .before .before .before .before .before .before .before .before .before .records-test .taken) (c .before .before .before .before .before .before .before .before .before .before .before .before .before .before .before .before .before .before .before .before .before .before .before .before .before .before .before .before .before .before .before .before .before .before .before .pre .0) _ (c .before .before .before .before .before .before .before .before .before .before .before .before .before .before .before .before .before .before .before .before .before .before .before .before .before .enum-told2 .given .1) (c .before .before .before .before .before .before .before .before .before .before .before .before .before .before .before .before .before .before .before .before .top-margin .result) (c .before .before .before .before .before .before .before .before .before .before .before .before .before .before .before .before .before .before .before .before .top-margin .ensures) (u .last .0) (u .result .mark) (cursor (u .result .at) (v .code)) i _ _
+    (took _ (cursor (u .result .at) (v .code)) (c .before .before .before .before .before .before .before .before .before .before .before .before .step-at .result) _ _ (c .before .before .before .before .before .before .before .before .before .before .piece .given .1) (c .before .before .before .before .before .before .before .before .before .before .before .before .step-at .ensures)) (g .last .0) _ (g .kept .0)
     (placed-at (g .last .0) (take (s .count) (s .margins)) (g .result) _ _ (c .before .before .before .placed2 .given .1) (g .ensures .0 (take (s .count) (s .margins)))) (nearby-at _ _ (g .result) _ (c .before .before .before .placed2 .given .1) (g .ensures .1))
     (sym (c .before .stops-at .ensures _) ∙ c .if3 .left)
 
@@ -210,6 +222,7 @@ text-of-spec =
     part-body-start
     part-body-end
     chunks-holds
+    (λ c κs. search needs)
     (λ c κs. search needs)
     (λ c. search needs)
     (λ c. search needs)

@@ -2,6 +2,7 @@ use mathlib.Core.Path.{sym, ap, _∙_}
 use Prim.Native.Nat.{_-_}
 use native.Mathlib.Omega.{arith}
 use borrow.Author.Needs.{needs}
+use borrow.Author.Tests.{eq-eqb, ne-eqb}
 use denote.Ref.{now}
 use Rattle.console_parts.proofs.term_on.Statement.{statement}
 use Rattle.console_parts.proofs.term_on.Tie as tie
@@ -10,20 +11,20 @@ use Rattle.console_parts.specs.Counted.{termsOf}
 use Rattle.console_parts.proofs.Scans.{text-counted, text-passed, characters-short}
 
 add-r : tie.Need-add-r
-add-r c = omega (arith, c .before .count .ensures, characters-short (now (c .before .before .before .before .before .before .args .body)), c .before .before .before .before .before .before .pre)
+add-r c = omega (arith, c .before .count .ensures, characters-short (now (c .before .before .before .before .before .before .before .args .body)), c .before .before .before .before .before .before .before .pre)
 
 returns : tie.Need-returns
 returns c =
-    let a = c .before .before .before .before .before .before .args in
+    let a = c .before .before .before .before .before .before .before .args in
     let t = termsOf (a .t) in
-    text-counted _ (now (a .body)) t _ (c .before .before .if1 .taken) (c .before .count .ensures)
-    ∙ ap (λ k. term k (now (a .body)) t) (sym (c .before .before .before .enum-told .given .1))
+    text-counted _ (now (a .body)) t _ (eq-eqb _ _ (c .before .before .if1 .taken)) (c .before .count .ensures)
+    ∙ ap (λ k. term k (now (a .body)) t) (sym (c .before .before .before .before .enum-told .given .1))
 
 returns-2 : tie.Need-returns-2
 returns-2 c =
-    let a = c .before .before .before .before .args in
+    let a = c .before .before .before .before .before .args in
     let t = termsOf (a .t) in
-    text-passed _ (now (a .body)) t (c .if1 .left) ∙ ap (λ k. term k (now (a .body)) t) (sym (c .before .enum-told .given .1))
+    text-passed _ (now (a .body)) t (ne-eqb _ _ (c .if1 .left)) ∙ ap (λ k. term k (now (a .body)) t) (sym (c .before .before .enum-told .given .1))
 
 returns-3 : tie.Need-returns-3
 unfolding term

@@ -6,19 +6,20 @@ use denote.Ref.{now}
 use lib.ListN.{length}
 use Rattle.markdown.proofs.walk.Statement.{statement}
 use Rattle.markdown.proofs.walk.Tie as tie
+use Rattle.splitter.specs.Answers.{cursor}
 use Rattle.splitter.proofs.Answers.{took, ended}
 use Rattle.document.specs.Document.{tokensFrom}
 use Rattle.html_rules.specs.Markdown.{metTerm, endText, endLay, codeEnds}
 use Rattle.html_rules.specs.declared.Markdown.{Markdown}
 use Rattle.html_parts.specs.Parts.{Inside}
 use Rattle.markdown.proofs.Texts.{span-is}
-use Rattle.markdown.proofs.Walked.{On, InBody, on-start, on-out, on-end, on-unknown, on-start-meta, on-end-meta, on-met, on-started, on-ended, on-hidden, on-body, on-done, on-stopped, body-on, body-at}
+use Rattle.markdown.proofs.Walked.{On, InBody, on-start, on-out, on-end, on-unknown, on-start-meta, on-end-meta, on-met, on-started, on-ended, on-hidden, on-body, on-done, on-stopped, body-few, body-words, body-on, body-at}
 
 abbrev Inv-chunks : tie.InvT-chunks
-Inv-chunks document tags full room₀ at len₀ lay₀ start next body cursor₀ room len lay cursor = (length room ≡ length room₀) × InBody (length room₀) full document room at len lay body cursor
+Inv-chunks document tags full room₀ at len₀ lay₀ start next body from₀ code₀ room len lay from code = (length room ≡ length room₀) × InBody (length room₀) full document room at len lay body (cursor from code)
 
 abbrev μ-chunks : tie.MeasureT-chunks
-μ-chunks document tags full room₀ at len₀ lay₀ start next body cursor₀ room len lay cursor = length body + 1 - cursor .at
+μ-chunks document tags full room₀ at len₀ lay₀ start next body from₀ code₀ room len lay from code = length body + 1 - from
 
 abbrev Inv-records : tie.InvT-records
 Inv-records document tags full room₀ at₀ len₀ lay₀ room at len lay = On (length room₀) full document room at len lay
@@ -98,26 +99,31 @@ part-body-end c = let r = c .before .before .before .before .before .before .bef
 chunks-holds : tie.Need-chunks-holds Inv-chunks μ-chunks Inv-records μ-records
 chunks-holds c = (refl, body-at (c .before .before .before .before .change-to-markdown-style3 .kept .0 ∙ c .before .before .before .before .before .before .before .before .before .before .before .before .before .before .records .inv .same) (on-body _ _ _ (c .before .before .before .before .before .before .before .before .before .before .before .before .before .before .records .inv) (c .before .before .before .before .before .before .before .before .before .before .before .record-at .ensures) (c .before .before .before .before .before .before .before .before .before .before .before .before .before .records-test .taken) (c .before .before .before .before .before .before .before .before .before .kind3 .given .1) _ _ _ (c .before .before .before .before .before .before .if4 .left) (c .before .before .before .before .change-to-markdown-style3 .ensures) (c .before .styled3 .ensures)))
 
+put-plain-requires : tie.Need-put-plain-requires Inv-chunks μ-chunks Inv-records μ-records
+put-plain-requires c κs =
+    let h = c .before .before .before .before .before .before .before .before .before .before .before .before .before .record-at in
+    body-few (now (c .before .before .before .before .before .before .before .before .before .before .before .before .before .before .before .before .before .before .before .before .args .document)) (h .result .start) (h .result .next) (c .before .before .before .before .before .before .before .before .before .before .before .before .before .before .before .before .records .inv .short) (h .ensures .high)
+
 records-less-5 : tie.Need-records-less-5 Inv-chunks μ-chunks Inv-records μ-records
-records-less-5 c = let r = c .before .before .before .before .before .before .before .before .before .before .before .before .before .before .before .before .before .before .before .before .before .before .before .record-at .ensures in let k = r .low (c .before .before .before .before .before .before .before .before .before .before .before .before .before .before .before .before .before .before .before .before .before .before .before .before .before .records-test .taken) in omega (arith, r .order, r .high)
+records-less-5 c = let r = c .before .before .before .before .before .before .before .before .before .before .before .before .before .before .before .before .before .before .before .before .before .before .before .before .before .before .before .record-at .ensures in let k = r .low (c .before .before .before .before .before .before .before .before .before .before .before .before .before .before .before .before .before .before .before .before .before .before .before .before .before .before .before .before .before .records-test .taken) in omega (arith, r .order, r .high)
 
 records-again-5 : tie.Need-records-again-5 Inv-chunks μ-chunks Inv-records μ-records
-records-again-5 c = let e = c .before .before .before .before .before .before .before .before .before .before .before .before .before .before .before .before .change-to-markdown-style3 .kept .0 ∙ c .before .before .before .before .before .before .before .before .before .before .before .before .before .before .before .before .before .before .before .before .before .before .before .before .before .before .records .inv .same in on-stopped _ _ _ (c .before .before .before .before .before .before .before .before .before .before .before .before .before .before .before .before .before .before .before .before .before .before .before .before .before .before .records .inv) (c .before .before .before .before .before .before .before .before .before .before .before .before .before .before .before .before .before .before .before .before .before .before .before .record-at .ensures) (c .before .before .before .before .before .before .before .before .before .before .before .before .before .before .before .before .before .before .before .before .before .before .before .before .before .records-test .taken) (c .before .before .before .before .before .before .before .before .before .before .before .before .before .before .before .before .before .before .before .before .before .kind3 .given .1) (c .before .before .before .before .before .before .before .before .before .before .before .chunks .inv .0 ∙ e) (body-at (sym e) (c .before .before .before .before .before .before .before .before .before .before .before .chunks .inv .1)) _ _ _ (c .before .before .put-span2 .kept .0) (span-is _ (codeEnds (c .before .before .before .before .before .before .before .before .before .before .before .chunks .lay)) (c .before .before .before .ends-span .result) (c .before .before .before .before .before .before .before .before .before .before .before .before .before .before .before .before .before .before .before .before .before .before .before .before .before .before .before .before .before .before .pre .0) (c .before .before .before .ends-span .ensures)) (c .before .before .put-span2 .ensures) (took _ _ _ _ _ (c .before .before .before .before .before .before .before .before .piece .given .1) (c .before .before .before .before .before .before .before .before .before .before .step-at .ensures)) (sym (c .before .before .before .before .before .before .ends-body .ensures) ∙ c .before .before .before .before .before .if5 .taken)
+records-again-5 c = let e = c .before .before .before .before .before .before .before .before .before .before .before .before .before .before .before .before .before .before .before .before .change-to-markdown-style3 .kept .0 ∙ c .before .before .before .before .before .before .before .before .before .before .before .before .before .before .before .before .before .before .before .before .before .before .before .before .before .before .before .before .before .before .records .inv .same in on-stopped _ _ _ (c .before .before .before .before .before .before .before .before .before .before .before .before .before .before .before .before .before .before .before .before .before .before .before .before .before .before .before .before .before .before .records .inv) (c .before .before .before .before .before .before .before .before .before .before .before .before .before .before .before .before .before .before .before .before .before .before .before .before .before .before .before .record-at .ensures) (c .before .before .before .before .before .before .before .before .before .before .before .before .before .before .before .before .before .before .before .before .before .before .before .before .before .before .before .before .before .records-test .taken) (c .before .before .before .before .before .before .before .before .before .before .before .before .before .before .before .before .before .before .before .before .before .before .before .before .before .kind3 .given .1) (c .before .before .before .before .before .before .before .before .before .before .before .before .before .put-plain .kept .0 ∙ c .before .before .before .before .before .before .before .before .before .before .before .before .before .before .before .chunks .inv .0 ∙ e) (body-at (sym e) (body-words _ _ _ (c .before .before .before .before .before .before .before .before .before .before .before .before .before .before .before .chunks .inv .1) _ _ _ (c .before .before .before .before .before .before .before .before .before .before .before .before .before .before .before .chunks .inv .0) (c .before .before .before .before .before .before .before .before .before .before .before .before .before .put-plain .ensures))) _ _ _ (c .before .before .put-span2 .kept .0) (span-is _ (codeEnds (c .before .before .before .before .before .before .before .before .before .before .before .before .before .before .before .chunks .lay)) (c .before .before .before .ends-span .result) (c .before .before .before .before .before .before .before .before .before .before .before .before .before .before .before .before .before .before .before .before .before .before .before .before .before .before .before .before .before .before .before .before .before .before .pre .0) (c .before .before .before .ends-span .ensures)) (c .before .before .put-span2 .ensures) (took _ _ _ _ _ (c .before .before .before .before .before .before .before .before .piece .given .1) (c .before .before .before .before .before .before .before .before .before .before .step-at .ensures)) (sym (c .before .before .before .before .before .before .ends-body .ensures) ∙ c .before .before .before .before .before .if5 .taken)
 
 put-chunk-requires : tie.Need-put-chunk-requires Inv-chunks μ-chunks Inv-records μ-records
-put-chunk-requires c κs = c .before .before .before .before .before .before .before .before .before .before .before .before .before .before .before .before .before .before .before .before .before .before .before .before .before .before .pre .0
+put-chunk-requires c κs = c .before .before .before .before .before .before .before .before .before .before .before .before .before .before .before .before .before .before .before .before .before .before .before .before .before .before .before .before .before .before .pre .0
 
 chunks-less : tie.Need-chunks-less Inv-chunks μ-chunks Inv-records μ-records
-chunks-less c = let t = took _ _ _ _ _ (c .before .before .before .before .before .before .before .before .piece .given .1) (c .before .before .before .before .before .before .before .before .before .before .step-at .ensures) in omega (arith, t .further, t .short)
+chunks-less c = let t = took _ _ _ _ _ (c .before .before .before .before .before .before .before .before .piece .given .1) (c .before .before .before .before .before .before .before .before .before .before .step-at .ensures) in omega (arith, t .further, t .short, c .before .before .before .before .before .before .before .before .before .before .before .before .before .put-plain .ensures .order)
 
 chunks-again : tie.Need-chunks-again Inv-chunks μ-chunks Inv-records μ-records
-chunks-again c = (c .before .before .before .put-chunk .kept .0 ∙ c .before .before .before .before .before .before .before .before .before .before .before .chunks .inv .0, body-on _ _ _ (c .before .before .before .before .before .before .before .before .before .before .before .chunks .inv .1) (took _ _ _ _ _ (c .before .before .before .before .before .before .before .before .piece .given .1) (c .before .before .before .before .before .before .before .before .before .before .step-at .ensures)) _ _ _ (c .before .before .before .before .before .before .before .before .before .before .before .chunks .inv .0) (sym (c .before .before .before .before .before .before .ends-body .ensures) ∙ c .before .before .before .before .before .if5 .left) (c .before .before .before .put-chunk .ensures) (c .fence-after .ensures))
+chunks-again c = (c .before .before .before .put-chunk .kept .0 ∙ c .before .before .before .before .before .before .before .before .before .before .before .before .before .put-plain .kept .0 ∙ c .before .before .before .before .before .before .before .before .before .before .before .before .before .before .before .chunks .inv .0, body-on _ _ _ (body-words _ _ _ (c .before .before .before .before .before .before .before .before .before .before .before .before .before .before .before .chunks .inv .1) _ _ _ (c .before .before .before .before .before .before .before .before .before .before .before .before .before .before .before .chunks .inv .0) (c .before .before .before .before .before .before .before .before .before .before .before .before .before .put-plain .ensures)) (took _ _ _ _ _ (c .before .before .before .before .before .before .before .before .piece .given .1) (c .before .before .before .before .before .before .before .before .before .before .step-at .ensures)) _ _ _ (c .before .before .before .before .before .before .before .before .before .before .before .before .before .put-plain .kept .0 ∙ c .before .before .before .before .before .before .before .before .before .before .before .before .before .before .before .chunks .inv .0) (sym (c .before .before .before .before .before .before .ends-body .ensures) ∙ c .before .before .before .before .before .if5 .left) (c .before .before .before .put-chunk .ensures) (c .fence-after .ensures))
 
 records-less-6 : tie.Need-records-less-6 Inv-chunks μ-chunks Inv-records μ-records
-records-less-6 c = let r = c .before .before .before .before .before .before .before .before .before .before .before .before .before .before .before .before .before .before .before .before .record-at .ensures in let k = r .low (c .before .before .before .before .before .before .before .before .before .before .before .before .before .before .before .before .before .before .before .before .before .before .records-test .taken) in omega (arith, r .order, r .high)
+records-less-6 c = let r = c .before .before .before .before .before .before .before .before .before .before .before .before .before .before .before .before .before .before .before .before .before .before .before .before .record-at .ensures in let k = r .low (c .before .before .before .before .before .before .before .before .before .before .before .before .before .before .before .before .before .before .before .before .before .before .before .before .before .before .records-test .taken) in omega (arith, r .order, r .high)
 
 records-again-6 : tie.Need-records-again-6 Inv-chunks μ-chunks Inv-records μ-records
-records-again-6 c = let e = c .before .before .before .before .before .before .before .before .before .before .before .before .before .change-to-markdown-style3 .kept .0 ∙ c .before .before .before .before .before .before .before .before .before .before .before .before .before .before .before .before .before .before .before .before .before .before .before .records .inv .same in on-done _ _ _ (c .before .before .before .before .before .before .before .before .before .before .before .before .before .before .before .before .before .before .before .before .before .before .before .records .inv) (c .before .before .before .before .before .before .before .before .before .before .before .before .before .before .before .before .before .before .before .before .record-at .ensures) (c .before .before .before .before .before .before .before .before .before .before .before .before .before .before .before .before .before .before .before .before .before .before .records-test .taken) (c .before .before .before .before .before .before .before .before .before .before .before .before .before .before .before .before .before .before .kind3 .given .1) (c .before .before .before .before .before .before .before .before .chunks .inv .0 ∙ e) (body-at (sym e) (c .before .before .before .before .before .before .before .before .chunks .inv .1)) _ _ _ (c .before .before .put-span3 .kept .0) (span-is _ (codeEnds (c .before .before .before .before .before .before .before .before .chunks .lay)) (c .before .before .before .ends-span2 .result) (c .before .before .before .before .before .before .before .before .before .before .before .before .before .before .before .before .before .before .before .before .before .before .before .before .before .before .before .pre .0) (c .before .before .before .ends-span2 .ensures)) (c .before .before .put-span3 .ensures) (ended _ _ _ (c .before .before .before .before .before .enum-told2 .given .1) (c .before .before .before .before .before .before .before .step-at .ensures))
+records-again-6 c = let e = c .before .before .before .before .before .before .before .before .before .before .before .before .before .before .before .before .before .change-to-markdown-style3 .kept .0 ∙ c .before .before .before .before .before .before .before .before .before .before .before .before .before .before .before .before .before .before .before .before .before .before .before .before .before .before .before .records .inv .same in on-done _ _ _ (c .before .before .before .before .before .before .before .before .before .before .before .before .before .before .before .before .before .before .before .before .before .before .before .before .before .before .before .records .inv) (c .before .before .before .before .before .before .before .before .before .before .before .before .before .before .before .before .before .before .before .before .before .before .before .before .record-at .ensures) (c .before .before .before .before .before .before .before .before .before .before .before .before .before .before .before .before .before .before .before .before .before .before .before .before .before .before .records-test .taken) (c .before .before .before .before .before .before .before .before .before .before .before .before .before .before .before .before .before .before .before .before .before .before .kind3 .given .1) (c .before .before .before .before .before .before .before .before .before .before .put-plain .kept .0 ∙ c .before .before .before .before .before .before .before .before .before .before .before .before .chunks .inv .0 ∙ e) (body-at (sym e) (body-words _ _ _ (c .before .before .before .before .before .before .before .before .before .before .before .before .chunks .inv .1) _ _ _ (c .before .before .before .before .before .before .before .before .before .before .before .before .chunks .inv .0) (c .before .before .before .before .before .before .before .before .before .before .put-plain .ensures))) _ _ _ (c .before .before .put-span3 .kept .0) (span-is _ (codeEnds (c .before .before .before .before .before .before .before .before .before .before .before .before .chunks .lay)) (c .before .before .before .ends-span2 .result) (c .before .before .before .before .before .before .before .before .before .before .before .before .before .before .before .before .before .before .before .before .before .before .before .before .before .before .before .before .before .before .before .pre .0) (c .before .before .before .ends-span2 .ensures)) (c .before .before .put-span3 .ensures) (ended _ _ _ (c .before .before .before .before .before .enum-told2 .given .1) (c .before .before .before .before .before .before .before .step-at .ensures))
 
 change-to-markdown-style-requires-4 : tie.Need-change-to-markdown-style-requires-4 Inv-chunks μ-chunks Inv-records μ-records
 change-to-markdown-style-requires-4 c κs = c .before .before .before .before .before .before .pre .0
@@ -176,6 +182,7 @@ walk-spec =
     part-body-start
     part-body-end
     chunks-holds
+    put-plain-requires
     (λ c κs. search needs)
     (λ c. search needs)
     (λ c. search needs)

@@ -1,0 +1,103 @@
+-- Words that go out as they stand: one, one after another, and as the walk sees them. Assumes nothing.
+use Prim.Native.Nat.{ℕ, _+_, _-_, _≤_, _<_}
+use mathlib.Core.Path.{_≡_, refl, sym, ap, _∙_}
+use mathlib.Core.Bool.{Bool, true, false}
+use mathlib.Core.List.{List, [], _++_, append-nil}
+use lib.ListN.{length, take, drop, length-drop}
+use lib.Seq.{length-take-le}
+use native.Mathlib.Omega.{arith}
+use borrow.Author.Tests.{ne-eqb, le-ltb}
+use Rattle.base.specs.Result.{Result, gives, _>>=_}
+use Rattle.base.proofs.Choice.{if-false}
+use Rattle.utf8.specs.Utf8.{bytes}
+use Rattle.room.proofs.Laws.{extended-in}
+use Rattle.splitter.specs.Split.{raw}
+use Rattle.splitter.specs.declared.Code.{Code}
+use Rattle.splitter.specs.declared.Code.the-variants as code
+use Rattle.walk.specs.Walk.{page, write, shown}
+use Rattle.words.specs.Copies.{Copies}
+use Rattle.words.specs.declared.Word.{Word}
+use Rattle.words.proofs.Follow.{shown-stays, word-follows}
+use Rattle.html_rules.specs.Markdown.{State, fenced, wordText, codeStops, rawChunk, chunk}
+use Rattle.html_rules.specs.declared.Markdown.{Markdown}
+use Rattle.markdown.specs.Onward.{onward, Plain, Onward, Ready, Ahead, Moves}
+
+-- a text that is written where it fits
+write-in : (limit : ℕ) (x : List ℕ) (s : State) → length (s .out) + length x ≤ limit → write limit x s ≡ gives (page (s .kept) (s .lay) (s .out ++ x))
+unfolding write _>>=_
+write-in limit x s h = rw (extended-in limit x (s .out) h)
+
+-- A word where words go out as they stand.
+module _ (limit : ℕ) (x : List ℕ) (w : ℕ) (kept : List ℕ) (lay : Markdown) (out : List ℕ) (q : Plain lay) (h : length out + length x ≤ limit) (k : w ≤ 32_768) where
+  abbrev here : State
+  here = page kept lay out
+
+  nothing-stops : write limit (codeStops lay) here ≡ gives here
+  unfolding bytes
+  nothing-stops =
+      ap (λ (y : List ℕ). write limit y here) (if-false _ _ (q .fenced)) ∙ write-in limit [] here (omega arith) ∙ ap (λ (y : List ℕ). gives (page kept lay y)) (append-nil out)
+
+  word-there : write limit (wordText lay x) (page kept (fenced false lay) out) ≡ gives (page kept lay (out ++ x))
+  word-there =
+      ap (λ (y : List ℕ). write limit y (page kept (fenced false lay) out)) (if-false _ _ (le-ltb 0 (lay .mono) (q .mono)))
+      ∙ write-in limit x (page kept (fenced false lay) out) h
+      ∙ ap (λ (b : Bool). gives (page kept (fenced b lay) (out ++ x))) (sym (q .fenced))
+
+  raw-there : rawChunk limit x w here ≡ gives (page kept lay (out ++ x))
+  unfolding rawChunk _>>=_
+  raw-there =
+      if-false _ _ (ne-eqb w 1_000_001 (λ e. omega arith))
+      ∙ if-false _ _ (ne-eqb w 1_000_000 (λ e. omega arith))
+      ∙ rw nothing-stops word-there
+
+-- One word after another.
+
+pub onward-start : (x old : List ℕ) (len at : ℕ) → Onward x old len at old len at
+onward-start x old len at = record { size = refl; order = omega arith; within = λ l. l; same = λ full kept lay q. refl }
+
+module _ (x old : List ℕ) (len at : ℕ) (new : List ℕ) (len′ at′ : ℕ) (o : Onward x old len at new len′ at′)
+    (new′ : List ℕ) (w : Word) (c : Copies x at′ len′ new new′ w) (size : length new′ ≡ length new) where
+  pub onward-same : Onward x old len at new′ len′ at′
+  onward-same = record {
+    size = size ∙ o .size;
+    order = o .order;
+    within = o .within;
+    same = λ full kept lay q.
+        ap (λ (r : Result State). r >>= onward full (length old) x at′ code.No) (shown-stays new new′ len′ size (c .stays) kept lay) ∙ o .same full kept lay q;
+  }
+
+  module _ (h : at′ < w .to) (few : length x ≤ 32_768) where
+    abbrev text : List ℕ
+    text = take (w .to - at′) (drop at′ x)
+
+    long : length text ≡ w .to - at′
+    long = length-take-le (w .to - at′) (drop at′ x) (omega (arith, length-drop at′ x, c .within h))
+
+    pub onward-next : Onward x old len at new′ (len′ + (w .to - at′)) (w .to)
+    unfolding chunk
+    onward-next =
+        let n : length (take len′ new) ≡ len′ = length-take-le len′ new (omega (arith, c .fits h)) in
+        record {
+          size = size ∙ o .size;
+          order = omega (arith, o .order);
+          within = λ l. omega (arith, c .within h);
+          same = λ full kept lay q.
+              rw (← o .size)
+              (word-follows full (chunk (length new) full) x new new′ text len′ (w .to - at′) at′ (w .to) (w .width) kept lay lay size (c .fits h) (c .copied h) (c .next h)
+              (raw-there (length new) text (w .width) kept lay (take len′ new) q (omega (arith, c .fits h, long)) (omega (arith, c .narrow h, c .within h)))
+              ∙ rw (o .size) (o .same full kept lay q));
+        }
+
+-- As the walk sees them.
+
+pub moves-none : (lay : Markdown) (x : List ℕ) (c : Code) (old : List ℕ) (len at : ℕ) → Moves lay x c old len at old len at
+moves-none lay x c old len at = record { order = omega arith; within = λ l. l; same = λ full kept. refl }
+
+pub moves-on : (lay : Markdown) (x : List ℕ) (c : Code) (old : List ℕ) (len at : ℕ) (new : List ℕ) (len′ at′ : ℕ) (b : Bool) → b ≡ true → Ahead lay c b
+    → Onward x old len at new len′ at′ → Moves lay x c old len at new len′ at′
+moves-on lay x c old len at new len′ at′ b e a o =
+    let r : Ready lay c = rw e at a in
+    record { order = o .order; within = o .within; same = λ full kept. rw (r .outside) (o .same full kept lay (r .plain)) }
+
+pub ready : (l : Markdown) (c : Code) → l .mono ≤ 0 → l .fenced ≡ false → c ≡ code.No → Ready l c
+ready l c m f e = record { plain = record { mono = m; fenced = f }; outside = e }

@@ -1,0 +1,46 @@
+-- What the functions that copy words promise the walk; no rule of 01 stands here.
+use Prim.Native.Nat.{ℕ, _+_, _≤_}
+use mathlib.Core.Path.{_≡_}
+use mathlib.Core.Bool.{Bool, true, false}
+use mathlib.Core.List.{List}
+use lib.ListN.{length}
+use Rattle.base.specs.Result.{Result, _>>=_}
+use Rattle.splitter.specs.Answers.{chunksFrom, cursor}
+use Rattle.splitter.specs.declared.Code.{Code}
+use Rattle.splitter.specs.declared.Code.the-variants as code
+use Rattle.walk.specs.Walk.{shown, body}
+use Rattle.html_rules.specs.Markdown.{State, chunk}
+use Rattle.html_rules.specs.declared.Markdown.{Markdown}
+
+-- the chunks of a body from a cursor on, as Markdown writes them
+abbrev pub onward : Bool → ℕ → List ℕ → ℕ → Code → State → Result State
+onward full limit x at c = body full (chunk limit full) (chunksFrom x (cursor at c))
+
+-- words go out as they stand
+pub record Plain (l : Markdown) : Type 0 where
+  pub mono : l .mono ≤ 0
+  pub fenced : l .fenced ≡ false
+
+-- Where words go out as they stand, the chunks from one place on give what those from another do, with the text as it is there.
+pub record Onward (x old : List ℕ) (len at : ℕ) (new : List ℕ) (len′ at′ : ℕ) : Type 0 where
+  pub size : length new ≡ length old
+  pub order : at ≤ at′
+  pub within : at ≤ length x + 1 → at′ ≤ length x + 1
+  pub same : (full : Bool) (kept : List ℕ) (lay : Markdown) → Plain lay
+      → (shown new len′ kept lay >>= onward full (length old) x at′ code.No) ≡ (shown old len kept lay >>= onward full (length old) x at code.No)
+
+-- what a test for that says
+pub record Ready (l : Markdown) (c : Code) : Type 0 where
+  pub plain : Plain l
+  pub outside : c ≡ code.No
+
+abbrev pub Ahead : Markdown → Code → Bool → Type 0
+Ahead l c true = Ready l c
+Ahead l c false = Unit {0}
+
+-- the chunks from the new place on give what those from the old one did
+pub record Moves (lay : Markdown) (x : List ℕ) (c : Code) (old : List ℕ) (len at : ℕ) (new : List ℕ) (len′ at′ : ℕ) : Type 0 where
+  pub order : at ≤ at′
+  pub within : at ≤ length x + 1 → at′ ≤ length x + 1
+  pub same : (full : Bool) (kept : List ℕ)
+      → (shown new len′ kept lay >>= onward full (length old) x at′ c) ≡ (shown old len kept lay >>= onward full (length old) x at c)

@@ -1,0 +1,36 @@
+-- A word that was copied, for every renderer: the chunks after it give what all gave. Assumes nothing.
+use Prim.Native.Nat.{ℕ, _+_, _≤_, _<_}
+use mathlib.Core.Path.{_≡_, refl, sym, ap, _∙_}
+use mathlib.Core.Bool.{Bool}
+use mathlib.Core.Logic.{⊎-elim}
+use mathlib.Core.List.{List, _∷_, _++_}
+use lib.ListN.{length, take}
+use native.Mathlib.Omega.{arith}
+use Rattle.base.specs.Choice.{if_then_else_}
+use Rattle.base.specs.Result.{Result, gives, _>>=_}
+use Rattle.base.proofs.Choice.{le-or-lt}
+use Rattle.splitter.specs.Split.{Chunk, raw}
+use Rattle.splitter.specs.Answers.{chunksFrom, cursor}
+use Rattle.splitter.specs.declared.Code.the-variants as code
+use Rattle.walk.specs.Walk.{Page, page, shown, body}
+use Rattle.walk.proofs.Shown.{shown-in, shown-out}
+
+module _ {L : Type 0} where
+  -- a room whose bytes up to a length are as they were shows what it showed
+  pub shown-stays : (old new : List ℕ) (len : ℕ) → length new ≡ length old → take len new ≡ take len old
+      → (kept : List ℕ) (lay : L) → shown new len kept lay ≡ shown old len kept lay
+  shown-stays old new len size same kept lay =
+      ⊎-elim
+      (λ (h : len ≤ length old). shown-in new len kept lay (omega arith) ∙ ap (λ (y : List ℕ). gives (page kept lay y)) same ∙ sym (shown-in old len kept lay h))
+      (λ (h : length old < len). shown-out new len kept lay (omega arith) ∙ sym (shown-out old len kept lay h))
+      (le-or-lt len (length old))
+
+  -- the next chunk is a text that a renderer writes as it stands
+  pub word-follows : (full : Bool) (chunk : Chunk → Page L → Result (Page L)) (x old new text : List ℕ) (len k at to w : ℕ) (kept : List ℕ) (lay lay′ : L)
+      → length new ≡ length old → len + k ≤ length old → take (len + k) new ≡ take len old ++ text
+      → chunksFrom x (cursor at code.No) ≡ raw text w ∷ chunksFrom x (cursor to code.No)
+      → chunk (raw text w) (page kept lay (take len old)) ≡ gives (page kept lay′ (take len old ++ text))
+      → (shown new (len + k) kept lay′ >>= body full chunk (chunksFrom x (cursor to code.No))) ≡ (shown old len kept lay >>= body full chunk (chunksFrom x (cursor at code.No)))
+  unfolding body _>>=_ if_then_else_
+  word-follows full chunk x old new text len k at to w kept lay lay′ size fits copied next e =
+      rw (shown-in new (len + k) kept lay′ (omega arith), shown-in old len kept lay (omega arith), copied, next) (rw e refl)
