@@ -1,19 +1,24 @@
 -- Paragraphs, the pieces of a body, and the last line end. Assumes nothing.
 use mathlib.Core.Path.{_≡_, refl, sym, ap, _∙_}
-use mathlib.Core.Bool.{true, false, _||_}
+use mathlib.Core.Bool.{true, false, false≢true, _||_}
 use mathlib.Core.List.{List, [], _∷_}
-use Prim.Native.Nat.{ℕ}
-use lib.ListN.{length}
+use Prim.Native.Nat.{ℕ, _+_, _-_, _≤_}
+use native.Mathlib.Omega.{arith}
+use lib.ListN.{length, drop, length-take}
 use Rattle.base.specs.Result.{Result, gives, _>>=_}
 use Rattle.base.proofs.Choice.{if-true, if-false}
 use Rattle.walk.specs.Walk.{withLay, write}
 use Rattle.base.proofs.Results.{bind-end, bind-same}
 use Rattle.walk.proofs.Shown.{shown-then, shown-changed}
 use Rattle.splitter.specs.Split.{Chunk, raw, paragraph, lineBreak}
+use Rattle.splitter.specs.Answers.{chunkOf, PieceWithin}
+use Rattle.splitter.specs.declared.Piece.{Piece}
+use Rattle.splitter.specs.declared.Piece.the-variants.{Raw, Space, Paragraph, LineBreak}
 use Rattle.console_rules.specs.Console.{State, skip, lineEnd, rawChunk, chunk, finish}
 use Rattle.console_rules.specs.declared.Settings.{Settings}
 use Rattle.console_parts.specs.declared.Mark.{Mark}
 use Rattle.console_parts.specs.Shown.{held}
+use Rattle.console_parts.specs.Pieces.{isText, textOr, widthOf}
 use Rattle.console_parts.proofs.Pages.{bind-two}
 
 -- a paragraph, and what becomes of the skip counter
@@ -44,6 +49,27 @@ module _ (set : Settings) (limit margin at : ℕ) (x r : Result State) (c : Chun
   pub chunk-break : c ≡ lineBreak → r ≡ (x >>= lineEnd limit) → r ≡ (x >>= chunk length set limit margin at c)
   unfolding chunk
   chunk-break e f = f ∙ rw e (bind-same x _ _ (λ s. refl))
+
+-- a piece that is a text
+module _ (body : List ℕ) where
+  pub piece-raw : (p : Piece) → isText p ≡ true → chunkOf body p ≡ raw (textOr body (0x20 ∷ []) p) (widthOf p)
+  piece-raw (Raw from to width) e = refl
+  piece-raw Space e = refl
+  piece-raw Paragraph e = absurd (false≢true e)
+  piece-raw LineBreak e = absurd (false≢true e)
+
+  -- its text is short and its width small
+  pub piece-short : (p : Piece) → PieceWithin (length body) p → length (textOr body (0x20 ∷ []) p) ≤ length body + 1
+  piece-short (Raw from to width) w = omega (arith, length-take (to - from) (drop from body), w .0, w .1)
+  piece-short Space w = omega arith
+  piece-short Paragraph w = omega arith
+  piece-short LineBreak w = omega arith
+
+  pub piece-narrow : (p : Piece) → PieceWithin (length body) p → widthOf p ≤ length body + 1_000_001
+  piece-narrow (Raw from to width) w = w .2
+  piece-narrow Space w = omega arith
+  piece-narrow Paragraph w = omega arith
+  piece-narrow LineBreak w = omega arith
 
 -- the last line end
 module _ (set : Settings) (room kept : List ℕ) (m : Mark) where

@@ -1,3 +1,4 @@
 pub mod Shown
 pub mod Blocks
 pub mod Counted
+pub mod Pieces

@@ -1,6 +1,6 @@
 // The parts of the console renderer (src/buffer/console.rs): chunks, blocks, and what is looked up in the records.
 ghost use mathlib.Core.Path.{_≡_};
-ghost use mathlib.Core.Bool.{_||_};
+ghost use mathlib.Core.Bool.{false, _||_};
 ghost use mathlib.Core.List.{List};
 ghost use Prim.Native.Nat.{ℕ, _+_, _-_, _≤_, _<_, _^_, min, max};
 ghost use lib.ListN.{length, take};
@@ -17,6 +17,7 @@ ghost use Rattle.console_rules.specs.declared.Settings as settings;
 ghost use Rattle.console_parts.specs.Shown.{held, told, Near, Nearby, Shallow, Changed};
 ghost use Rattle.console_parts.specs.Blocks.{tickIf, startLay, endLay, pushes, startMore};
 ghost use Rattle.console_parts.specs.Counted.{termsOf};
+ghost use Rattle.console_parts.specs.Pieces.{isText, textOr, widthOf};
 use console_rules::Bytes;
 use console_rules::Columns;
 use console_rules::Lay;
@@ -505,6 +506,56 @@ fn put_paragraph(room: &mut [u8], m: Mark, set: Settings) -> Mark
     skipping(a)
 }
 
+// Whether a piece is a text, a part of the body or one space.
+fn is_text(piece: Piece) -> bool
+    ensures { λ r. ⌜ r ≡ isText piece ⌝ }
+{
+    match piece {
+        Piece::Raw(_, _, _) => true,
+        Piece::Space => true,
+        Piece::Paragraph => false,
+        Piece::LineBreak => false,
+    }
+}
+
+// The text of a piece: a part of the body, or the space that is lent.
+fn text_or<'a>(body: &'a [u8], space: &'a [u8], piece: Piece) -> &'a [u8]
+    requires { ⌜ PieceWithin (length (now body)) piece ⌝ }
+    ensures { λ r. ⌜ now r ≡ textOr (now (body .entry)) (now (space .entry)) piece ⌝ }
+{
+    match piece {
+        Piece::Raw(from, to, _) => &body[from..to],
+        Piece::Space => space,
+        Piece::Paragraph => space,
+        Piece::LineBreak => space,
+    }
+}
+
+// Its width.
+fn width_of(piece: Piece) -> usize
+    ensures { λ r. ⌜ r ≡ widthOf piece ⌝ }
+{
+    match piece {
+        Piece::Raw(_, _, width) => width,
+        Piece::Space => 1,
+        Piece::Paragraph => 1,
+        Piece::LineBreak => 1,
+    }
+}
+
+// A paragraph or a line break.
+fn put_break(room: &mut [u8], m: Mark, piece: Piece, set: Settings) -> Placed
+    ensures { λ r. ⌜ (isText piece ≡ false → (body : List ℕ) (margin at : ℕ) (kept : List ℕ) → told (now (room .exit)) kept r ≡ bind (held (now (room .entry)) kept m) (chunk length set (length (now (room .entry))) margin at (chunkOf body piece))) ⌝ }
+    ensures near { λ r. ⌜ Nearby 0 (m .lay) r ⌝ }
+{
+    match piece {
+        Piece::Raw(_, _, _) => Placed::At(m),
+        Piece::Space => Placed::At(m),
+        Piece::Paragraph => Placed::At(put_paragraph(room, m, set)),
+        Piece::LineBreak => Placed::At(line_end(room, m)),
+    }
+}
+
 // A chunk of the body of the text record at `at`, at a margin. The column and the margin are asked to be as small as at the start of a
 // block, and the piece is what the splitter gave; a body is part of a document of at most 32,768 bytes, so a chunk's width is at most
 // 1,032,769.
@@ -521,20 +572,18 @@ pub fn put_piece(
     ensures { λ r. ⌜ ((kept : List ℕ) → told (now (room .exit)) kept r ≡ bind (held (now (room .entry)) kept m) (chunk length set (length (now (room .entry))) margin at (chunkOf (now (body .entry)) piece))) ⌝ }
     ensures near { λ r. ⌜ Nearby (margin + 1_032_771) (m .lay) r ⌝ }
 {
-    match piece {
-        Piece::Raw(from, to, width) => place_chunk(
+    if is_text(piece) {
+        return place_chunk(
             room,
             m,
             margin,
             at,
-            &body[from..to],
-            width,
+            text_or(body, b" ", piece),
+            width_of(piece),
             set,
-        ),
-        Piece::Space => place_chunk(room, m, margin, at, b" ", 1, set),
-        Piece::Paragraph => Placed::At(put_paragraph(room, m, set)),
-        Piece::LineBreak => Placed::At(line_end(room, m)),
+        );
     }
+    put_break(room, m, piece, set)
 }
 
 // Whether the walk of a body ends with a chunk.

@@ -15,7 +15,7 @@ use Rattle.splitter.specs.Answers.{chunksFrom, cursor, told, firstChunk}
 use Rattle.splitter.specs.declared.Code.the-variants as code
 use Rattle.splitter.specs.declared.Piece.the-variants.{Raw, Space}
 use Rattle.splitter.specs.declared.Step.the-variants.{Take}
-use Rattle.splitter.proofs.Before.{before-stop, space-ends, line-ends}
+use Rattle.splitter.proofs.Before.{before-stop, space-ends, line-ends, neither-ends}
 use Rattle.splitter.proofs.Words.{Reading, reading-start, reading-stop, reading-end, reading-one, reading-none}
 use Rattle.splitter.proofs.Steps.{chunks-take}
 use Rattle.splitter.proofs.Answers.{plain-word, plain-space, answers-some}
@@ -25,6 +25,10 @@ use Rattle.words.specs.declared.Word.{Word}
 -- the byte at a place of a body, as a byte after another place
 getD-after : (x : List ℕ) (at to : ℕ) → at ≤ to → getD (drop at x) (to - at) 0 ≡ getD x to 0
 getD-after x at to h = getD-drop at x (to - at) 0 ∙ ap (λ (k : ℕ). getD x k 0) (omega arith)
+
+-- what ends a word is not above a space
+pub above-space : (b : ℕ) → 0x20 < b → isLineEndOrSpace b ≡ false
+above-space b h = neither-ends b (λ e. omega arith) (λ e. omega arith)
 
 -- a word from `at` on is read up to `to` and copied after the first `len` bytes
 pub record Copying (x : List ℕ) (at len : ℕ) (old new : List ℕ) (to width : ℕ) : Type 0 where

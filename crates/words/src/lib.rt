@@ -1,6 +1,8 @@
 // Words and spaces that go into a room as they stand, copied in the same pass that finds their end.
-ghost use Prim.Native.Nat.{_<_, _≤_};
+ghost use mathlib.Core.Path.{_≡_};
+ghost use Prim.Native.Nat.{_-_, _<_, _≤_};
 ghost use lib.ListN.{length};
+ghost use Rattle.splitter.specs.Split.{isLineEndOrSpace};
 ghost use Rattle.words.specs.Copies.{Copies};
 
 // Where a word or a space ends, and its width.
@@ -9,30 +11,51 @@ pub struct Word {
     pub width: usize,
 }
 
-// Copies the word at a place of a body into a room, byte by byte as it is read; none where it does not fit.
+// Whether a byte ends a word.
+fn ends_word(x: u8) -> bool
+    ensures { λ r. ⌜ r ≡ isLineEndOrSpace x ⌝ }
+{
+    if x == b'\n' {
+        return true;
+    }
+    x == b' '
+}
+
+// How far a copy that starts at a place may go: to an end, or as far as there is room left.
+fn last_place(at: usize, end: usize, left: usize) -> usize
+    requires { ⌜ at ≤ end ⌝ }
+    ensures { λ r. ⌜ (at ≤ r) × (r ≤ end) × (r - at ≤ left) ⌝ }
+{
+    if end - at <= left {
+        return end;
+    }
+    at + left
+}
+
+// Copies the word at a place of a body into a room, byte by byte as it is read; none where it does not fit. What ends a word is not
+// above a space, so that most bytes take one test.
 fn copy_word(room: &mut [u8], len: usize, body: &[u8], at: usize) -> Word
     requires { ⌜ (len ≤ length (now room)) × (at < length (now body)) ⌝ }
     ensures { λ r. ⌜ Copies (now (body .entry)) at len (now (room .entry)) (now (room .exit)) r ⌝ }
 {
     let mut to = at;
     let mut width: usize = 0;
-    while to < body.len() {
+    let limit = last_place(at, body.len(), room.len() - len);
+    while to < limit {
         let x = body[to];
-        if x == b' ' {
-            return Word { to, width };
+        if x <= b' ' {
+            if ends_word(x) {
+                return Word { to, width };
+            }
         }
-        if x == b'\n' {
-            return Word { to, width };
-        }
-        let n = to - at;
-        if room.len() - len <= n {
-            return Word { to: at, width: 0 };
-        }
-        room[len + n] = x;
+        room[len + (to - at)] = x;
         if x >> 6 != 2 {
             width += 1;
         }
         to += 1;
+    }
+    if to < body.len() {
+        return Word { to: at, width: 0 };
     }
     Word { to, width }
 }
