@@ -1,0 +1,422 @@
+//! Help text of stored documents: a safe interface to `libsefgrunn.a`.
+//!
+//! A stored document is bytes: text in five styles, and starts and ends of blocks. A [`Builder`]
+//! makes one; [`check`] says whether bytes are one; [`console`], [`html`], [`html_strict`],
+//! [`markdown`] and [`roff`] write its text into a room that the caller lends, and the functions
+//! whose names end in `_string` do so into a `String`. Whatever the bytes, the width and the room
+//! are, the answer is a text or one [`Refusal`].
+//!
+//! ```
+//! use sefgrunn::{Block, Builder, Settings, Style};
+//!
+//! # fn main() -> Result<(), sefgrunn::Refusal> {
+//! let mut page = Builder::new();
+//! page.open(Block::DefinitionList)?;
+//! page.open(Block::ItemTerm)?.write(Style::Literal, "-p")?.close(Block::ItemTerm)?;
+//! page.open(Block::ItemBody)?.write(Style::Text, "port")?.close(Block::ItemBody)?;
+//! page.close(Block::DefinitionList)?;
+//! let document = page.finish()?;
+//! assert_eq!(sefgrunn::console_string(&document, Settings::default())?, "    -p  port");
+//! # Ok(())
+//! # }
+//! ```
+
+use std::error::Error;
+use std::fmt;
+
+mod linked;
+
+/// The most bytes that a document may have.
+pub const MOST_BYTES: usize = 32_768;
+/// The largest width of console text, in columns.
+pub const MOST_WIDTH: usize = 10_000;
+/// The largest room that a function whose name ends in `_string` tries: 1 MiB.
+pub const MOST_ROOM: usize = 1 << 20;
+
+/// The room that such a function tries first; each next one is twice as large.
+const FIRST_ROOM: usize = 4_096;
+
+// ---------------------------------------------------------------------------------------------
+// Refusals
+
+/// Why a call was refused, by the numbers of `include/sefgrunn.h`.
+#[derive(Debug, Clone, Copy, PartialEq, Eq, Hash, PartialOrd, Ord)]
+#[repr(u32)]
+pub enum Number {
+    /// The document is over 32,768 bytes. Place 0.
+    TooLong = 1,
+    /// Under 6 bytes are left, or a body is longer than what is left. Place of the record.
+    CutShort = 2,
+    /// A record's kind is unknown. Place of the record.
+    UnknownKind = 3,
+    /// A block record has a body. Place of the record.
+    BlockWithBody = 4,
+    /// A text is not UTF-8 by itself. Place of the record; 0 for text given to [`Builder::write`].
+    NotUtf8 = 5,
+    /// An end is not of the innermost open block. Place of the record.
+    NotInnermost = 6,
+    /// A block starts where 32 are open. Place of the record.
+    TooDeep = 7,
+    /// The document ends with a block open. The place is its length.
+    LeftOpen = 8,
+    /// The width is over 10,000. Place 0.
+    TooWide = 9,
+    /// A chunk misses more than 50 columns to its margin. Place of its text record.
+    MarginTooFar = 10,
+    /// Meta in HTML or Markdown, TermRef in roff. Place of the record.
+    NoSuchBlockHere = 11,
+    /// A roff heading has a byte over 127. Place of its text record.
+    HeadingNotAscii = 12,
+    /// The room is too small. Place 0.
+    NoRoom = 13,
+}
+
+impl Number {
+    /// All of them, in order.
+    pub const ALL: [Number; 13] = [
+        Number::TooLong,
+        Number::CutShort,
+        Number::UnknownKind,
+        Number::BlockWithBody,
+        Number::NotUtf8,
+        Number::NotInnermost,
+        Number::TooDeep,
+        Number::LeftOpen,
+        Number::TooWide,
+        Number::MarginTooFar,
+        Number::NoSuchBlockHere,
+        Number::HeadingNotAscii,
+        Number::NoRoom,
+    ];
+
+    /// 1 to 13.
+    pub fn get(self) -> u32 {
+        self as u32
+    }
+
+    fn meaning(self) -> &'static str {
+        match self {
+            Number::TooLong => "the document is over 32,768 bytes",
+            Number::CutShort => "a record is cut short",
+            Number::UnknownKind => "unknown kind",
+            Number::BlockWithBody => "a block record has a body",
+            Number::NotUtf8 => "text is not UTF-8",
+            Number::NotInnermost => "an end is not of the innermost open block",
+            Number::TooDeep => "more than 32 blocks are open",
+            Number::LeftOpen => "the document ends with a block open",
+            Number::TooWide => "the width is over 10,000",
+            Number::MarginTooFar => "text is more than 50 columns before its margin",
+            Number::NoSuchBlockHere => "this form has no such block",
+            Number::HeadingNotAscii => "a heading has a byte over 127",
+            Number::NoRoom => "no room",
+        }
+    }
+}
+
+impl fmt::Display for Number {
+    fn fmt(&self, f: &mut fmt::Formatter<'_>) -> fmt::Result {
+        f.write_str(self.meaning())
+    }
+}
+
+/// A refused call: why, and where in the document.
+#[derive(Debug, Clone, Copy, PartialEq, Eq, Hash)]
+pub struct Refusal {
+    /// Why the call was refused.
+    pub number: Number,
+    /// The place, in bytes from the document's start; [`Number`] says of what.
+    pub place: usize,
+}
+
+impl fmt::Display for Refusal {
+    fn fmt(&self, f: &mut fmt::Formatter<'_>) -> fmt::Result {
+        write!(f, "refused {} at {}: {}", self.number.get(), self.place, self.number)
+    }
+}
+
+impl Error for Refusal {}
+
+/// What the library answers: 0, or a number from 1 to 13.
+fn accepted(number: u32, place: usize) -> Result<(), Refusal> {
+    if number == 0 {
+        return Ok(());
+    }
+    match Number::ALL.into_iter().find(|known| known.get() == number) {
+        Some(number) => Err(Refusal { number, place }),
+        None => panic!("libsefgrunn.a answered {number}, which is no number of a refusal"),
+    }
+}
+
+// ---------------------------------------------------------------------------------------------
+// Checking and rendering
+
+/// Whether bytes are a stored document: refusals 1 to 8.
+pub fn check(document: &[u8]) -> Result<(), Refusal> {
+    let (number, place) = linked::check(document);
+    accepted(number, place)
+}
+
+/// How console text is laid out.
+#[derive(Debug, Clone, Copy, PartialEq, Eq)]
+pub struct Settings {
+    /// Columns, at most [`MOST_WIDTH`].
+    pub width: usize,
+    /// All of the text, or only up to the first paragraph of each part.
+    pub full: bool,
+}
+
+impl Default for Settings {
+    /// All of the text, 100 columns wide.
+    fn default() -> Self {
+        Settings { width: 100, full: true }
+    }
+}
+
+/// What of a document HTML shows.
+#[derive(Debug, Clone, Copy, PartialEq, Eq)]
+pub struct Html {
+    /// All of the text, or only up to the first paragraph of each part.
+    pub full: bool,
+    /// With the style sheet after it.
+    pub css: bool,
+}
+
+impl Default for Html {
+    /// All of the text, without a style sheet.
+    fn default() -> Self {
+        Html { full: true, css: false }
+    }
+}
+
+/// The text that a call left in a room. Every byte behind it is 0, and all are after a refusal.
+fn text(room: &[u8], (number, at): (u32, usize)) -> Result<&str, Refusal> {
+    accepted(number, at)?;
+    Ok(std::str::from_utf8(&room[..at]).expect("the text of an accepted document is UTF-8"))
+}
+
+/// Monochrome console text. Refusals 1 to 10 and 13.
+///
+/// Every byte of the room is written: the text, then zeros; only zeros where the call is refused.
+pub fn console<'r>(
+    document: &[u8],
+    settings: Settings,
+    room: &'r mut [u8],
+) -> Result<&'r str, Refusal> {
+    let answer = linked::console(document, settings.width, settings.full, room);
+    text(room, answer)
+}
+
+/// HTML. Refusals 1 to 8, 11 and 13. The room as for [`console`].
+pub fn html<'r>(document: &[u8], html: Html, room: &'r mut [u8]) -> Result<&'r str, Refusal> {
+    let answer = linked::html(document, html.full, html.css, room);
+    text(room, answer)
+}
+
+/// HTML in which `&` becomes `&amp;`, except where it already opens `&amp;`, `&lt;` or `&gt;`
+/// within its chunk. Refusals and room as for [`html`].
+pub fn html_strict<'r>(
+    document: &[u8],
+    html: Html,
+    room: &'r mut [u8],
+) -> Result<&'r str, Refusal> {
+    let answer = linked::html_strict(document, html.full, html.css, room);
+    text(room, answer)
+}
+
+/// Markdown. Refusals 1 to 8, 11 and 13. The room as for [`console`].
+pub fn markdown<'r>(document: &[u8], full: bool, room: &'r mut [u8]) -> Result<&'r str, Refusal> {
+    let answer = linked::markdown(document, full, room);
+    text(room, answer)
+}
+
+/// Roff, for man pages. Refusals 1 to 8 and 11 to 13. The room as for [`console`].
+pub fn roff<'r>(document: &[u8], room: &'r mut [u8]) -> Result<&'r str, Refusal> {
+    let answer = linked::roff(document, room);
+    text(room, answer)
+}
+
+/// The text in the first room that is large enough, up to [`MOST_ROOM`].
+fn grown(render: impl Fn(&mut [u8]) -> Result<usize, Refusal>) -> Result<String, Refusal> {
+    let mut room = vec![0; FIRST_ROOM];
+    loop {
+        match render(&mut room) {
+            Ok(length) => {
+                room.truncate(length);
+                return Ok(String::from_utf8(room).expect("what was a &str is UTF-8"));
+            }
+            Err(refusal) if refusal.number == Number::NoRoom && room.len() < MOST_ROOM => {
+                room = vec![0; 2 * room.len()];
+            }
+            Err(refusal) => return Err(refusal),
+        }
+    }
+}
+
+/// [`console`] as a `String`; 13 only where [`MOST_ROOM`] is too small.
+pub fn console_string(document: &[u8], settings: Settings) -> Result<String, Refusal> {
+    grown(|room| console(document, settings, room).map(str::len))
+}
+
+/// [`html`] as a `String`; 13 only where [`MOST_ROOM`] is too small.
+pub fn html_string(document: &[u8], settings: Html) -> Result<String, Refusal> {
+    grown(|room| html(document, settings, room).map(str::len))
+}
+
+/// [`html_strict`] as a `String`; 13 only where [`MOST_ROOM`] is too small.
+pub fn html_strict_string(document: &[u8], settings: Html) -> Result<String, Refusal> {
+    grown(|room| html_strict(document, settings, room).map(str::len))
+}
+
+/// [`markdown`] as a `String`; 13 only where [`MOST_ROOM`] is too small.
+pub fn markdown_string(document: &[u8], full: bool) -> Result<String, Refusal> {
+    grown(|room| markdown(document, full, room).map(str::len))
+}
+
+/// [`roff`] as a `String`; 13 only where [`MOST_ROOM`] is too small.
+pub fn roff_string(document: &[u8]) -> Result<String, Refusal> {
+    grown(|room| roff(document, room).map(str::len))
+}
+
+// ---------------------------------------------------------------------------------------------
+// The builder
+
+/// The style of a text.
+#[derive(Debug, Clone, Copy, PartialEq, Eq, Hash)]
+#[repr(u32)]
+#[allow(missing_docs)]
+pub enum Style {
+    Text = 1,
+    Emphasis = 2,
+    Literal = 3,
+    Metavar = 4,
+    Invalid = 5,
+}
+
+/// A block, which has a start and an end.
+#[derive(Debug, Clone, Copy, PartialEq, Eq, Hash)]
+#[repr(u32)]
+#[allow(missing_docs)]
+pub enum Block {
+    Header = 0,
+    Section2 = 1,
+    Section3 = 2,
+    Section4 = 3,
+    ItemTerm = 4,
+    ItemBody = 5,
+    DefinitionList = 6,
+    Block = 7,
+    InlineBlock = 8,
+    TermRef = 9,
+    Meta = 10,
+    Mono = 11,
+}
+
+/// A document under construction, in a room of [`MOST_BYTES`]. A refused call changes nothing.
+///
+/// Each call checks the document so far, so building is for pages, not for inner loops.
+#[derive(Clone)]
+pub struct Builder {
+    room: Vec<u8>,
+    length: usize,
+}
+
+impl Builder {
+    /// An empty document.
+    pub fn new() -> Self {
+        Builder { room: vec![0; MOST_BYTES], length: 0 }
+    }
+
+    /// The document so far; its blocks may be open.
+    pub fn document(&self) -> &[u8] {
+        &self.room[..self.length]
+    }
+
+    /// Text in a style. Refused: 5 for bytes that are not UTF-8, 13 over 32,768 bytes.
+    pub fn write(&mut self, style: Style, text: impl AsRef<[u8]>) -> Result<&mut Self, Refusal> {
+        let answer = linked::write(&mut self.room, &mut self.length, style as u32, text.as_ref());
+        self.built(answer)
+    }
+
+    /// The start of a block. Refused: 7 where 32 are open, 13 over 32,768 bytes.
+    pub fn open(&mut self, block: Block) -> Result<&mut Self, Refusal> {
+        let answer = linked::open(&mut self.room, &mut self.length, block as u32);
+        self.built(answer)
+    }
+
+    /// The end of a block. Refused: 6 where it is not the innermost open one, 13 over 32,768 bytes.
+    pub fn close(&mut self, block: Block) -> Result<&mut Self, Refusal> {
+        let answer = linked::close(&mut self.room, &mut self.length, block as u32);
+        self.built(answer)
+    }
+
+    /// A document inside an InlineBlock. Refused: 1 to 8 of the document added, with places from its
+    /// own start; 7 where more than 32 blocks would be open; 13 over 32,768 bytes.
+    pub fn doc(&mut self, added: &[u8]) -> Result<&mut Self, Refusal> {
+        let answer = linked::doc(&mut self.room, &mut self.length, added);
+        self.built(answer)
+    }
+
+    /// As [`Builder::doc`], and the first line of a plain document becomes its title.
+    pub fn em_doc(&mut self, added: &[u8]) -> Result<&mut Self, Refusal> {
+        let answer = linked::em_doc(&mut self.room, &mut self.length, added);
+        self.built(answer)
+    }
+
+    /// The finished document. Refused: 8 where a block is open.
+    pub fn finish(mut self) -> Result<Vec<u8>, Refusal> {
+        check(self.document())?;
+        self.room.truncate(self.length);
+        self.room.shrink_to_fit();
+        Ok(self.room)
+    }
+
+    fn built(&mut self, (number, place): (u32, usize)) -> Result<&mut Self, Refusal> {
+        accepted(number, place)?;
+        Ok(self)
+    }
+}
+
+impl Default for Builder {
+    fn default() -> Self {
+        Self::new()
+    }
+}
+
+impl fmt::Debug for Builder {
+    fn fmt(&self, f: &mut fmt::Formatter<'_>) -> fmt::Result {
+        f.debug_struct("Builder").field("document", &self.document()).finish()
+    }
+}
+
+#[cfg(test)]
+mod tests {
+    use super::*;
+
+    #[test]
+    fn numbers_are_those_of_the_header() {
+        for (index, number) in Number::ALL.into_iter().enumerate() {
+            assert_eq!(number.get() as usize, index + 1);
+            assert_eq!(accepted(number.get(), 7), Err(Refusal { number, place: 7 }));
+        }
+        assert_eq!(accepted(0, 7), Ok(()));
+    }
+
+    #[test]
+    fn each_refusal_says_what_it_is() {
+        let said: Vec<String> =
+            Number::ALL.map(|number| Refusal { number, place: 3 }.to_string()).to_vec();
+        assert_eq!(said[5], "refused 6 at 3: an end is not of the innermost open block");
+        for (index, text) in said.iter().enumerate() {
+            assert!(text.starts_with(&format!("refused {} at 3: ", index + 1)), "{text}");
+            assert!(!said[..index]
+                .iter()
+                .any(|other| other.split(": ").nth(1) == text.split(": ").nth(1)));
+        }
+    }
+
+    #[test]
+    #[should_panic(expected = "no number of a refusal")]
+    fn no_other_number_is_passed_on() {
+        let _ = accepted(14, 0);
+    }
+}

@@ -1,0 +1,174 @@
+//! The functions of `include/sefgrunn.h`, each behind a safe one: number, and length or place.
+//!
+//! Every call below meets what the header asks: each pointer is of a live slice (never null, also of
+//! an empty one) or of a local number, with the slice's own length beside it, and no two overlap,
+//! because a `&mut` overlaps with nothing.
+
+mod c {
+    extern "C" {
+        pub fn sefgrunn_check(document: *const u8, n: usize, place: *mut usize) -> u32;
+        pub fn sefgrunn_console(
+            document: *const u8,
+            n: usize,
+            width: usize,
+            full: bool,
+            room: *mut u8,
+            room_len: usize,
+            at: *mut usize,
+        ) -> u32;
+        pub fn sefgrunn_html(
+            document: *const u8,
+            n: usize,
+            full: bool,
+            css: bool,
+            room: *mut u8,
+            room_len: usize,
+            at: *mut usize,
+        ) -> u32;
+        pub fn sefgrunn_html_strict(
+            document: *const u8,
+            n: usize,
+            full: bool,
+            css: bool,
+            room: *mut u8,
+            room_len: usize,
+            at: *mut usize,
+        ) -> u32;
+        pub fn sefgrunn_markdown(
+            document: *const u8,
+            n: usize,
+            full: bool,
+            room: *mut u8,
+            room_len: usize,
+            at: *mut usize,
+        ) -> u32;
+        pub fn sefgrunn_roff(
+            document: *const u8,
+            n: usize,
+            room: *mut u8,
+            room_len: usize,
+            at: *mut usize,
+        ) -> u32;
+        pub fn sefgrunn_write(
+            room: *mut u8,
+            room_len: usize,
+            length: *mut usize,
+            style: u32,
+            text: *const u8,
+            n: usize,
+            place: *mut usize,
+        ) -> u32;
+        pub fn sefgrunn_open(
+            room: *mut u8,
+            room_len: usize,
+            length: *mut usize,
+            block: u32,
+            place: *mut usize,
+        ) -> u32;
+        pub fn sefgrunn_close(
+            room: *mut u8,
+            room_len: usize,
+            length: *mut usize,
+            block: u32,
+            place: *mut usize,
+        ) -> u32;
+        pub fn sefgrunn_doc(
+            room: *mut u8,
+            room_len: usize,
+            length: *mut usize,
+            added: *const u8,
+            n: usize,
+            place: *mut usize,
+        ) -> u32;
+        pub fn sefgrunn_em_doc(
+            room: *mut u8,
+            room_len: usize,
+            length: *mut usize,
+            added: *const u8,
+            n: usize,
+            place: *mut usize,
+        ) -> u32;
+    }
+}
+
+pub fn check(document: &[u8]) -> (u32, usize) {
+    let mut place = 0;
+    // SAFETY: see above.
+    let number = unsafe { c::sefgrunn_check(document.as_ptr(), document.len(), &mut place) };
+    (number, place)
+}
+
+pub fn console(document: &[u8], width: usize, full: bool, room: &mut [u8]) -> (u32, usize) {
+    let (d, n, r, len, mut at) = parts(document, room);
+    // SAFETY: see above.
+    let number = unsafe { c::sefgrunn_console(d, n, width, full, r, len, &mut at) };
+    (number, at)
+}
+
+pub fn html(document: &[u8], full: bool, css: bool, room: &mut [u8]) -> (u32, usize) {
+    let (d, n, r, len, mut at) = parts(document, room);
+    // SAFETY: see above.
+    let number = unsafe { c::sefgrunn_html(d, n, full, css, r, len, &mut at) };
+    (number, at)
+}
+
+pub fn html_strict(document: &[u8], full: bool, css: bool, room: &mut [u8]) -> (u32, usize) {
+    let (d, n, r, len, mut at) = parts(document, room);
+    // SAFETY: see above.
+    let number = unsafe { c::sefgrunn_html_strict(d, n, full, css, r, len, &mut at) };
+    (number, at)
+}
+
+pub fn markdown(document: &[u8], full: bool, room: &mut [u8]) -> (u32, usize) {
+    let (d, n, r, len, mut at) = parts(document, room);
+    // SAFETY: see above.
+    let number = unsafe { c::sefgrunn_markdown(d, n, full, r, len, &mut at) };
+    (number, at)
+}
+
+pub fn roff(document: &[u8], room: &mut [u8]) -> (u32, usize) {
+    let (d, n, r, len, mut at) = parts(document, room);
+    // SAFETY: see above.
+    let number = unsafe { c::sefgrunn_roff(d, n, r, len, &mut at) };
+    (number, at)
+}
+
+pub fn write(room: &mut [u8], length: &mut usize, style: u32, text: &[u8]) -> (u32, usize) {
+    let (t, n, r, len, mut place) = parts(text, room);
+    // SAFETY: see above.
+    let number = unsafe { c::sefgrunn_write(r, len, length, style, t, n, &mut place) };
+    (number, place)
+}
+
+pub fn open(room: &mut [u8], length: &mut usize, block: u32) -> (u32, usize) {
+    let (_, _, r, len, mut place) = parts(&[], room);
+    // SAFETY: see above.
+    let number = unsafe { c::sefgrunn_open(r, len, length, block, &mut place) };
+    (number, place)
+}
+
+pub fn close(room: &mut [u8], length: &mut usize, block: u32) -> (u32, usize) {
+    let (_, _, r, len, mut place) = parts(&[], room);
+    // SAFETY: see above.
+    let number = unsafe { c::sefgrunn_close(r, len, length, block, &mut place) };
+    (number, place)
+}
+
+pub fn doc(room: &mut [u8], length: &mut usize, added: &[u8]) -> (u32, usize) {
+    let (a, n, r, len, mut place) = parts(added, room);
+    // SAFETY: see above.
+    let number = unsafe { c::sefgrunn_doc(r, len, length, a, n, &mut place) };
+    (number, place)
+}
+
+pub fn em_doc(room: &mut [u8], length: &mut usize, added: &[u8]) -> (u32, usize) {
+    let (a, n, r, len, mut place) = parts(added, room);
+    // SAFETY: see above.
+    let number = unsafe { c::sefgrunn_em_doc(r, len, length, a, n, &mut place) };
+    (number, place)
+}
+
+/// Pointers and lengths of what is read and what is written, and a number for the answer.
+fn parts(read: &[u8], room: &mut [u8]) -> (*const u8, usize, *mut u8, usize, usize) {
+    (read.as_ptr(), read.len(), room.as_mut_ptr(), room.len(), 0)
+}

@@ -1,0 +1,160 @@
+//! The samples of document 01 ("01"), through the library, and what a room holds after a call.
+
+use sefgrunn::{Block, Builder, Html, Number, Refusal, Settings, Style, MOST_ROOM};
+
+const PREAMBLE: &str = ".ie \\n(.g .ds Aq \\(aq\n.el .ds Aq '\n";
+
+type Built<'b> = Result<&'b mut Builder, Refusal>;
+
+fn made(write: impl FnOnce(&mut Builder) -> Built<'_>) -> Vec<u8> {
+    let mut builder = Builder::new();
+    write(&mut builder).unwrap();
+    builder.finish().unwrap()
+}
+
+fn text(body: &str) -> Vec<u8> {
+    made(|b| b.write(Style::Text, body))
+}
+
+/// Blocks around one text, the first outermost.
+fn nested(blocks: &[Block], style: Style, body: &str) -> Vec<u8> {
+    made(|b| {
+        blocks.iter().try_for_each(|&block| b.open(block).map(drop))?;
+        b.write(style, body)?;
+        blocks.iter().rev().try_for_each(|&block| b.close(block).map(drop))?;
+        Ok(b)
+    })
+}
+
+fn console(document: &[u8], width: usize) -> String {
+    sefgrunn::console_string(document, Settings { width, full: true }).unwrap()
+}
+
+#[test]
+fn empty_document() {
+    assert_eq!(console(b"", 100), "");
+    assert_eq!(sefgrunn::html_string(b"", Html::default()).unwrap(), "");
+}
+
+#[test]
+fn folding() {
+    assert_eq!(text("a b"), [3, 0, 0, 0, 1, 0, b'a', b' ', b'b']);
+    for (width, shown) in [(3, "a b"), (2, "a\nb"), (0, "a\nb")] {
+        assert_eq!(console(&text("a b"), width), shown);
+    }
+    assert_eq!(console(&text("é é"), 3), "é\né");
+    assert_eq!(console(&text("a\u{A0} b"), 3), "a\nb");
+}
+
+#[test]
+fn paragraph() {
+    let document = text("a\n\nb");
+    assert_eq!(console(&document, 100), "a\nb");
+    let short = Settings { width: 100, full: false };
+    assert_eq!(sefgrunn::console_string(&document, short).unwrap(), "a\n");
+    assert_eq!(sefgrunn::markdown_string(&document, true).unwrap(), "a\n\nb");
+    assert_eq!(sefgrunn::markdown_string(&document, false).unwrap(), "a");
+}
+
+#[test]
+fn options_and_references() {
+    let document = made(|b| {
+        b.open(Block::DefinitionList)?;
+        b.open(Block::ItemTerm)?.write(Style::Literal, "-p")?.close(Block::ItemTerm)?;
+        b.open(Block::ItemBody)?.write(Style::Text, "port")?.close(Block::ItemBody)?;
+        b.close(Block::DefinitionList)
+    });
+    assert_eq!(console(&document, 100), "    -p  port");
+    let document = made(|b| {
+        b.write(Style::Text, "see ")?.open(Block::TermRef)?;
+        b.write(Style::Literal, "-p")?.close(Block::TermRef)
+    });
+    assert_eq!(console(&document, 100), "see `-p`");
+    let document = made(|b| {
+        b.write(Style::Text, "a")?.open(Block::Section2)?.open(Block::TermRef)?;
+        b.write(Style::Text, "b")?.close(Block::TermRef)?.close(Block::Section2)
+    });
+    assert_eq!(console(&document, 100), "a`\nb`");
+}
+
+#[test]
+fn tabstop() {
+    for (count, spaces) in [(24, 30), (25, 6)] {
+        let document = made(|b| {
+            b.open(Block::ItemTerm)?.write(Style::Text, "é".repeat(count))?;
+            b.close(Block::ItemTerm)?.open(Block::ItemBody)?;
+            b.write(Style::Text, "\n y")?.close(Block::ItemBody)
+        });
+        let expected = format!("    {}\n{}y", "é".repeat(count), " ".repeat(spaces));
+        assert_eq!(console(&document, 100), expected);
+    }
+}
+
+#[test]
+fn markup() {
+    let document = made(|b| b.write(Style::Literal, "<p>"));
+    assert_eq!(
+        sefgrunn::html_string(&document, Html::default()).unwrap(),
+        "<tt><b>&lt;p&gt;</b></tt>"
+    );
+    let document = text("& &amp; &am; &<");
+    assert_eq!(sefgrunn::html_string(&document, Html::default()).unwrap(), "& &amp; &am; &&lt;");
+    assert_eq!(
+        sefgrunn::html_strict_string(&document, Html::default()).unwrap(),
+        "&amp; &amp; &amp;am; &amp;&lt;"
+    );
+    let styled = sefgrunn::html_string(&document, Html { full: true, css: true }).unwrap();
+    assert!(styled.starts_with("& &amp; &am; &&lt;\n<style>\n") && styled.ends_with("</style>"));
+}
+
+#[test]
+fn man_pages() {
+    let document = nested(&[Block::ItemTerm], Style::Literal, "-p");
+    let shown = sefgrunn::roff_string(&document).unwrap();
+    assert_eq!(shown, format!("{PREAMBLE}.TP\n\\fB\\-p\\fP\n"));
+    let document = made(|b| {
+        b.open(Block::Header)?.write(Style::Text, "A\n")?.close(Block::Header)?;
+        b.open(Block::Block)?.close(Block::Block)
+    });
+    assert_eq!(sefgrunn::roff_string(&document).unwrap(), format!("{PREAMBLE}.SH A\\ .PP\n"));
+}
+
+/// The text, then zeros; in a room that is too small only zeros.
+#[test]
+fn what_a_room_holds() {
+    let document = text("a\u{A0} ");
+    let settings = Settings { width: 2, full: true };
+    let mut room = [0xEE; 5];
+    assert_eq!(sefgrunn::console(&document, settings, &mut room), Ok("a\n"));
+    assert_eq!(room, *b"a\n\0\0\0");
+    // the text was 3 bytes long before its end was trimmed
+    let mut room = [0xEE; 2];
+    let no_room = Refusal { number: Number::NoRoom, place: 0 };
+    assert_eq!(sefgrunn::console(&document, settings, &mut room), Err(no_room));
+    assert_eq!(room, [0; 2]);
+    let mut room = [0xEE; 8];
+    assert_eq!(sefgrunn::markdown(&text("a b"), true, &mut room), Ok("a b"));
+    assert_eq!(room, *b"a b\0\0\0\0\0");
+    assert_eq!(sefgrunn::html(&text("a"), Html::default(), &mut []), Err(no_room));
+    assert_eq!(sefgrunn::roff(b"", &mut [0; 34]), Err(no_room));
+    assert_eq!(sefgrunn::roff(b"", &mut [0; 35]), Ok(PREAMBLE));
+}
+
+/// Texts far longer than the first room, and the longest that a page of one-letter words makes:
+/// each word on a line of its own, 50 columns in.
+#[test]
+fn strings_grow() {
+    let long = "word ".repeat(6_000);
+    assert!(console(&text(&long), 10_000).replace('\n', " ") == long);
+    assert!(sefgrunn::markdown_string(&text(&long), true).unwrap() == long);
+
+    let mut blocks = vec![Block::Section3];
+    blocks.extend([Block::ItemBody; 8]);
+    let words = 16_326;
+    let document = nested(&blocks, Style::Text, &"a ".repeat(words));
+    assert_eq!(document.len(), 32_766);
+    let shown = console(&document, 0);
+    assert_eq!(shown.lines().count(), words);
+    assert!(shown.lines().all(|line| line.len() == 51 && line.ends_with(" a")));
+    assert!(shown.len() < MOST_ROOM);
+}
