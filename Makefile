@@ -24,4 +24,4 @@ record:
 	@tools/record
 
 clean:
-	rm -rf target oracle/target
+	rm -rf target oracle/target wrapper/target
