@@ -1,46 +1,253 @@
-//! Port and Rust side by side on one page: median times of calls made in turn, in one process.
+//! Port and Rust side by side: median processor times of calls made in turn, in one thread, so that
+//! what else the machine does counts less.
 //!
-//! The port is given bytes: it checks the document and clears the whole room in each call. The Rust
-//! is given its `Doc` ready-made, and allocates the text.
-
-// Unused where the function that a benchmark calls is not linked.
-#![allow(dead_code, unused_imports, unused_variables)]
+//! The port is given bytes: each call checks the document and clears the whole room, and each call of
+//! the builder checks the document so far. The Rust is given its `Doc` ready-made, checks nothing and
+//! allocates.
 
 use std::hint::black_box;
 use std::panic::{catch_unwind, AssertUnwindSafe};
-use std::time::Instant;
 
-use crate::buffer::Color;
-use crate::port::*;
-use crate::stored::{decode, Ending};
+use crate::buffer::{Color, Token};
+use crate::cases::Call;
+use crate::generate::Subject;
+use crate::port::{is_linked, number};
+use crate::rules::{self, Kind, Operation, Record, Renderer};
+use crate::stored::{decode, put_record, Block, Ending, Style, MOST_BYTES};
 use crate::Doc;
 
-/// Median nanoseconds of each of two calls, which take turns.
-fn medians(mut first: impl FnMut(), mut second: impl FnMut()) -> (u128, u128) {
-    let timed = |run: &mut dyn FnMut()| {
-        let start = Instant::now();
-        for _ in 0..16 {
-            run();
-        }
-        start.elapsed().as_nanos() / 16
-    };
+const CONSOLE: Renderer = Renderer::Console { width: 100, full: true };
+const HTML: Renderer = Renderer::Html { full: true, css: false, strict: false };
+const MARKDOWN: Renderer = Renderer::Markdown { full: true };
+
+/// Calls that are timed as one: of a renderer, of `write`.
+const BATCH: usize = 16;
+const WRITES: usize = 64;
+
+/// C's `struct timespec`.
+#[repr(C)]
+struct Timespec {
+    seconds: i64,
+    nanoseconds: i64,
+}
+
+extern "C" {
+    fn clock_gettime(clock: i32, time: *mut Timespec) -> i32;
+}
+
+/// Linux's number of the clock of this thread's processor time.
+const THREAD_CLOCK: i32 = 3;
+
+/// Nanoseconds that this thread has run.
+fn thread_time() -> u128 {
+    let mut time = Timespec { seconds: 0, nanoseconds: 0 };
+    // SAFETY: `time` is live and has C's layout.
+    let status = unsafe { clock_gettime(THREAD_CLOCK, &mut time) };
+    assert_eq!(status, 0, "no clock of processor time");
+    time.seconds as u128 * 1_000_000_000 + time.nanoseconds as u128
+}
+
+/// Nanoseconds of one call, or of one building.
+struct Times {
+    port: u128,
+    rust: u128,
+}
+
+impl Times {
+    fn ratio(&self) -> f64 {
+        self.port as f64 / self.rust as f64
+    }
+}
+
+/// Medians of two measurements, which take turns.
+fn medians(rounds: usize, mut port: impl FnMut() -> u128, mut rust: impl FnMut() -> u128) -> Times {
     let (mut a, mut b) = (Vec::new(), Vec::new());
-    for _ in 0..400 {
-        a.push(timed(&mut first));
-        b.push(timed(&mut second));
+    for _ in 0..rounds {
+        a.push(port());
+        b.push(rust());
     }
     a.sort_unstable();
     b.sort_unstable();
-    (a[200], b[200])
+    Times { port: a[rounds / 2], rust: b[rounds / 2] }
 }
 
-fn row(what: &str, page: &str, bytes: usize, port: u128, rust: u128) {
-    let ratio = port as f64 / rust as f64;
-    println!("{what:<24} {page:<20} {bytes:>6} {port:>9} {rust:>9} {ratio:>6.2}");
+/// Nanoseconds of one of several runs.
+fn batch(runs: usize, mut run: impl FnMut()) -> u128 {
+    let start = thread_time();
+    for _ in 0..runs {
+        run();
+    }
+    (thread_time() - start) / runs as u128
+}
+
+/// The port's call, where no document so far is needed.
+fn port(call: Call, document: &[u8], room: &mut [u8]) -> u32 {
+    number(call, black_box(document), room, &mut 0, &mut 0)
+}
+
+/// UTF-8 validation of the same bodies stands in for the Rust, which has no such check.
+fn check_times(document: &[u8], records: &[Record]) -> Option<Times> {
+    is_linked(Subject::Check).then(|| {
+        medians(
+            400,
+            || batch(BATCH, || assert_eq!(port(Call::Check, document, &mut []), 0)),
+            || {
+                batch(BATCH, || {
+                    for record in black_box(records) {
+                        black_box(std::str::from_utf8(record.body).is_ok());
+                    }
+                })
+            },
+        )
+    })
+}
+
+fn subject(renderer: Renderer) -> Subject {
+    match renderer {
+        Renderer::Console { .. } => Subject::Console,
+        Renderer::Html { .. } => Subject::Html,
+        Renderer::Markdown { .. } => Subject::Markdown,
+        Renderer::Roff => Subject::Roff,
+    }
+}
+
+fn rust_text(renderer: Renderer, doc: &Doc) -> String {
+    match renderer {
+        Renderer::Console { width, full } => {
+            doc.render_console(full, Color::Monochrome, width as usize)
+        }
+        Renderer::Html { full, css, .. } => doc.render_html(full, css),
+        Renderer::Markdown { full } => doc.render_markdown(full),
+        Renderer::Roff => doc.roff(),
+    }
+}
+
+/// In a room of the size given, or else of what the text needs. `None` where a renderer is not linked
+/// or refuses the page.
+fn render_times(
+    renderer: Renderer,
+    document: &[u8],
+    doc: &Doc,
+    room: Option<usize>,
+) -> Option<Times> {
+    if !is_linked(subject(renderer)) {
+        return None;
+    }
+    let text = catch_unwind(AssertUnwindSafe(|| rust_text(renderer, doc))).ok()?;
+    let need = rules::render(renderer, document, usize::MAX).most;
+    let (call, mut room) = (Call::Render(renderer), vec![0; room.unwrap_or(need)]);
+    if port(call, document, &mut room) != 0 {
+        return None;
+    }
+    assert!(room.starts_with(text.as_bytes()));
+    Some(medians(
+        400,
+        || batch(BATCH, || assert_eq!(port(call, document, black_box(&mut room)), 0)),
+        || {
+            batch(BATCH, || {
+                black_box(rust_text(renderer, black_box(doc)));
+            })
+        },
+    ))
+}
+
+// ---------------------------------------------------------------------------------------------
+// The builder
+
+/// What one step of a building adds.
+fn operation(record: &Record) -> Operation {
+    match record.kind {
+        Kind::Text(style) => Operation::Write { style: style as u32 },
+        Kind::Start(block) => Operation::Open { block: block as u32 },
+        Kind::End(block) => Operation::Close { block: block as u32 },
+    }
+}
+
+fn rust_step(doc: &mut Doc, kind: Kind, body: &str) {
+    match kind {
+        Kind::Text(style) => doc.write_str(body, Style::ALL[style - 1].kept()),
+        Kind::Start(block) => doc.token(Token::BlockStart(Block::ALL[block].kept())),
+        Kind::End(block) => doc.token(Token::BlockEnd(Block::ALL[block].kept())),
+    }
+}
+
+/// One `write_str` of eight bytes at the end of a document: `WRITES` of them, from the same document
+/// each time. The first adds a record, the others lengthen it.
+fn write_times(document: &[u8], doc: &Doc) -> Option<Times> {
+    let text = "option, ";
+    let call = Call::Build(Operation::Write { style: 2 });
+    let mut room = document.to_vec();
+    room.resize(document.len() + 6 + WRITES * text.len(), 0);
+    let fits = is_linked(Subject::Builder) && room.len() <= MOST_BYTES;
+    fits.then(|| {
+        medians(
+            400,
+            || {
+                let mut length = document.len();
+                let bytes = text.as_bytes();
+                batch(WRITES, || {
+                    assert_eq!(number(call, bytes, black_box(&mut room), &mut length, &mut 0), 0)
+                })
+            },
+            || {
+                let mut doc = doc.clone();
+                batch(WRITES, || black_box(&mut doc).write_str(text, Style::Emphasis.kept()))
+            },
+        )
+    })
+}
+
+/// A whole document from nothing, record by record.
+fn building_times(document: &[u8], records: &[Record]) -> Option<Times> {
+    if !is_linked(Subject::Builder) {
+        return None;
+    }
+    let bodies: Vec<&str> =
+        records.iter().map(|r| std::str::from_utf8(r.body)).collect::<Result<_, _>>().ok()?;
+    let mut room = vec![0; MOST_BYTES];
+    let times = medians(
+        40,
+        || {
+            let start = thread_time();
+            let mut length = 0;
+            for record in records {
+                let call = Call::Build(operation(record));
+                assert_eq!(number(call, record.body, &mut room, &mut length, &mut 0), 0);
+            }
+            assert_eq!(length, document.len());
+            thread_time() - start
+        },
+        || {
+            let start = thread_time();
+            let mut doc = Doc::default();
+            for (record, body) in records.iter().zip(&bodies) {
+                rust_step(&mut doc, record.kind, body);
+            }
+            black_box(&doc);
+            thread_time() - start
+        },
+    );
+    assert_eq!(&room[..document.len()], document);
+    Some(times)
+}
+
+// ---------------------------------------------------------------------------------------------
+// Tables
+
+/// Reads a page for both sides; `None` where it is refused.
+fn read(document: &[u8]) -> Option<(Doc, Vec<Record<'_>>)> {
+    Some((decode(document, Ending::Closed)?, rules::check(document).ok()?))
+}
+
+fn row(what: &str, page: &str, bytes: usize, times: Option<Times>) {
+    if let Some(t) = times {
+        let ratio = t.ratio();
+        println!("{what:<24} {page:<20} {bytes:>6} {:>9} {:>9} {ratio:>6.2}", t.port, t.rust);
+    }
 }
 
 pub fn head() {
-    println!("median ns of a call; the port checks the document and clears its room each time");
+    println!("median ns of processor time of a call; the port checks the document and clears its room each time");
     println!(
         "{:<24} {:<20} {:>6} {:>9} {:>9} {:>6}",
         "call", "page", "bytes", "port", "rust", "ratio"
@@ -49,124 +256,126 @@ pub fn head() {
 
 /// The rows of one page, for each function that is linked; `None` where the page is refused.
 pub fn page(name: &str, document: &[u8]) -> Option<()> {
-    let doc = decode(document, Ending::Closed)?;
-    #[cfg(feature = "linked-check")]
-    {
-        // UTF-8 validation of the same bodies stands in for the Rust, which has no such check.
-        let records = crate::rules::check(document).ok()?;
-        let (port, rust) = medians(
-            || {
-                let mut place = 0;
-                let document = black_box(document);
-                black_box(unsafe { sefgrunn_check(document.as_ptr(), document.len(), &mut place) });
-            },
-            || {
-                for record in black_box(&records) {
-                    black_box(std::str::from_utf8(record.body).is_ok());
-                }
-            },
-        );
-        row("check (rust: from_utf8)", name, document.len(), port, rust);
+    let (doc, records) = read(document)?;
+    let bytes = document.len();
+    row("check (rust: from_utf8)", name, bytes, check_times(document, &records));
+    let wide = render_times(CONSOLE, document, &doc, Some(65_536));
+    row("console, room 65,536", name, bytes, wide);
+    for (what, renderer) in [
+        ("console, room as needed", CONSOLE),
+        ("html", HTML),
+        ("markdown", MARKDOWN),
+        ("roff", Renderer::Roff),
+    ] {
+        row(what, name, bytes, render_times(renderer, document, &doc, None));
     }
-    #[cfg(feature = "linked-console")]
-    {
-        let need = doc.render_console(true, Color::Monochrome, 100).len() + 64;
-        for (what, size) in [("console, room 65,536", 65_536), ("console, room as needed", need)] {
-            let mut room = vec![0u8; size];
-            let (port, rust) = medians(
-                || {
-                    let mut at = 0;
-                    let document = black_box(document);
-                    let number = unsafe {
-                        sefgrunn_console(
-                            document.as_ptr(),
-                            document.len(),
-                            100,
-                            true,
-                            room.as_mut_ptr(),
-                            room.len(),
-                            &mut at,
-                        )
-                    };
-                    assert_eq!(number, 0);
-                    black_box(&room);
-                },
-                || {
-                    black_box(black_box(&doc).render_console(true, Color::Monochrome, 100));
-                },
-            );
-            row(what, name, document.len(), port, rust);
-        }
-    }
-    #[cfg(feature = "linked-html")]
-    rendering(
-        "html",
-        name,
-        document,
-        || doc.render_html(true, false),
-        |room, at| unsafe {
-            sefgrunn_html(
-                document.as_ptr(),
-                document.len(),
-                true,
-                false,
-                room.as_mut_ptr(),
-                room.len(),
-                at,
-            )
-        },
-    );
-    #[cfg(feature = "linked-markdown")]
-    rendering(
-        "markdown",
-        name,
-        document,
-        || doc.render_markdown(true),
-        |room, at| unsafe {
-            sefgrunn_markdown(
-                document.as_ptr(),
-                document.len(),
-                true,
-                room.as_mut_ptr(),
-                room.len(),
-                at,
-            )
-        },
-    );
-    #[cfg(feature = "linked-roff")]
-    rendering(
-        "roff",
-        name,
-        document,
-        || doc.roff(),
-        |room, at| unsafe {
-            sefgrunn_roff(document.as_ptr(), document.len(), room.as_mut_ptr(), room.len(), at)
-        },
-    );
     Some(())
 }
 
-/// A row for one renderer, in a room of exactly the text's length; none where the Rust or the port refuses the page.
-fn rendering(
-    what: &str,
-    name: &str,
-    document: &[u8],
-    rust: impl Fn() -> String,
-    port: impl Fn(&mut [u8], &mut usize) -> u32,
-) {
-    let Ok(text) = catch_unwind(AssertUnwindSafe(&rust)) else { return };
-    let (mut room, mut at) = (vec![0u8; text.len()], 0);
-    if port(&mut room, &mut at) != 0 {
-        return;
-    }
-    assert_eq!(room, text.as_bytes());
-    let (port, rust) = medians(
-        || {
-            black_box(port(black_box(&mut room), &mut at));
-        },
-        || {
-            black_box(rust());
-        },
+pub fn building_head() {
+    println!();
+    println!("the builder. write: one write_str of 8 bytes at the page's end; the port checks the whole document so far, then writes,");
+    println!("the Rust appends to a String and a Vec. whole page: all of it from nothing, one call for each record, so that what the");
+    println!("port checks grows with the square of the page's size.");
+    println!(
+        "{:<24} {:<20} {:>6} {:>9} {:>9} {:>6}",
+        "call", "page", "bytes", "port", "rust", "ratio"
     );
-    row(what, name, document.len(), port, rust);
+}
+
+/// The builder's rows of one page; `None` where the page is refused.
+pub fn building(name: &str, document: &[u8]) -> Option<()> {
+    let (doc, records) = read(document)?;
+    row("write", name, document.len(), write_times(document, &doc));
+    let what = format!("whole page, {} calls", records.len());
+    row(&what, name, document.len(), building_times(document, &records));
+    Some(())
+}
+
+/// A page of at most `size` bytes: the records of a document, again and again, as long as the ends of
+/// the blocks that are open still fit.
+fn cut(records: &[Record], size: usize) -> Vec<u8> {
+    let mut bytes = Vec::new();
+    let mut open = Vec::new();
+    for record in records.iter().cycle() {
+        let ends = match record.kind {
+            Kind::Text(_) => open.len(),
+            Kind::Start(_) => open.len() + 1,
+            Kind::End(_) => open.len() - 1,
+        };
+        if bytes.len() + 6 + record.body.len() + 6 * ends > size {
+            break;
+        }
+        let kind = match record.kind {
+            Kind::Text(style) => style,
+            Kind::Start(block) => {
+                open.push(block);
+                0x0100 + block
+            }
+            Kind::End(block) => {
+                open.pop();
+                0x0200 + block
+            }
+        };
+        put_record(&mut bytes, kind as u16, record.body);
+    }
+    for block in open.into_iter().rev() {
+        put_record(&mut bytes, 0x0200 + block as u16, b"");
+    }
+    bytes
+}
+
+/// How times grow with pages of 1 to 32 KB that are made of one document's records; `None` where it
+/// is refused or empty.
+pub fn growth(document: &[u8]) -> Option<()> {
+    let (_, records) = read(document).filter(|(_, records)| !records.is_empty())?;
+    println!("median ns of processor time of a call, rooms as needed; the port checks the document and clears its room each time");
+    println!(
+        "{:<24} {:>6} {:>9} {:>9} {:>6} {:>13}",
+        "call", "bytes", "port", "rust", "ratio", "port ns/byte"
+    );
+    let pages: Vec<Vec<u8>> = (10..=15).map(|power| cut(&records, 1 << power)).collect();
+    let calls = [
+        ("check (rust: from_utf8)", None),
+        ("console", Some(CONSOLE)),
+        ("html", Some(HTML)),
+        ("markdown", Some(MARKDOWN)),
+        ("roff", Some(Renderer::Roff)),
+    ];
+    for (what, renderer) in calls {
+        for page in &pages {
+            let (doc, records) = read(page).expect("records of a document, all blocks closed");
+            let times = match renderer {
+                None => check_times(page, &records),
+                Some(renderer) => render_times(renderer, page, &doc, None),
+            };
+            let Some(t) = times else { continue };
+            let (bytes, ratio) = (page.len(), t.ratio());
+            let each = t.port as f64 / bytes as f64;
+            println!("{what:<24} {bytes:>6} {:>9} {:>9} {ratio:>6.2} {each:>13.2}", t.port, t.rust);
+        }
+    }
+    Some(())
+}
+
+#[cfg(test)]
+mod tests {
+    use super::*;
+    use crate::stored::Draft;
+
+    /// Pages have about the size asked for and are accepted, from records that are fewer or more.
+    #[test]
+    fn pages_of_a_size() {
+        let mut draft = Draft::new();
+        draft.within(crate::stored::Block::Block, |d| {
+            d.literal("-p").text(" port, and more").within(crate::stored::Block::Mono, |d| d)
+        });
+        let document = draft.stored();
+        let records = rules::check(&document).unwrap();
+        for size in [6, 30, 100, 1_024, 32_768] {
+            let page = cut(&records, size);
+            assert!(rules::check(&page).is_ok());
+            assert!(page.len() <= size && size - page.len() < 48, "{size}: {}", page.len());
+        }
+    }
 }

@@ -19,6 +19,7 @@ usage: oracle answer console|html|html_strict|markdown|roff
        oracle selfcheck --seed S --cases N [--only SUBJECT,..]
        oracle reach --seed S --cases N
        oracle bench DOCUMENT..
+       oracle growth DOCUMENT
 ";
 
 /// The room and width of 01's program.
@@ -107,6 +108,7 @@ fn main() -> ExitCode {
             "selfcheck" => Arguments::read(arguments, &["seed", "cases", "only"])
                 .and_then(|a| run_selfcheck(&a)),
             "bench" => Ok(run_bench(arguments)),
+            "growth" => Arguments::read(arguments, &[]).and_then(|a| run_growth(&a)),
             "reach" => Arguments::read(arguments, &["seed", "cases"]).and_then(|a| run_reach(&a)),
             _ => Err("a command is missing or unknown".into()),
         };
@@ -126,25 +128,45 @@ fn write_out(bytes: &[u8]) -> ExitCode {
     }
 }
 
-/// Times of the port and of the Rust on stored documents.
-fn run_bench(documents: impl Iterator<Item = String>) -> ExitCode {
-    bench::head();
-    let mut status = ExitCode::SUCCESS;
-    for path in documents {
-        let name = path.rsplit('/').next().unwrap_or(&path);
-        match std::fs::read(&path) {
-            Ok(document) if bench::page(name, &document).is_some() => {}
-            Ok(_) => {
-                eprintln!("oracle: {path}: refused");
-                status = ExitCode::FAILURE;
-            }
-            Err(error) => {
-                eprintln!("oracle: {path}: {error}");
-                status = ExitCode::FAILURE;
-            }
-        }
+/// Runs a benchmark on the document at a path; says whether it was read and accepted.
+fn timed(path: &str, run: impl Fn(&str, &[u8]) -> Option<()>) -> bool {
+    let name = path.rsplit('/').next().unwrap_or(path);
+    let outcome = match std::fs::read(path) {
+        Ok(document) => run(name, &document).ok_or("refused".to_string()),
+        Err(error) => Err(error.to_string()),
+    };
+    if let Err(message) = &outcome {
+        eprintln!("oracle: {path}: {message}");
     }
-    status
+    outcome.is_ok()
+}
+
+fn status(fine: bool) -> ExitCode {
+    if fine {
+        ExitCode::SUCCESS
+    } else {
+        ExitCode::FAILURE
+    }
+}
+
+/// Times of the port and of the Rust on stored documents: rendering, then building.
+fn run_bench(documents: impl Iterator<Item = String>) -> ExitCode {
+    let documents: Vec<String> = documents.collect();
+    bench::head();
+    let mut fine = true;
+    for path in &documents {
+        fine &= timed(path, bench::page);
+    }
+    bench::building_head();
+    for path in &documents {
+        fine &= timed(path, bench::building);
+    }
+    status(fine)
+}
+
+/// Times on pages of 1 to 32 KB that are made from one stored document.
+fn run_growth(arguments: &Arguments) -> Parsed<ExitCode> {
+    Ok(status(timed(arguments.operand()?, |_, document| bench::growth(document))))
 }
 
 /// The text of one document, or the refusal line of 01's program.

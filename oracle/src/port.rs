@@ -9,9 +9,9 @@ use crate::rules::{Operation, Renderer};
 
 extern "C" {
     #[cfg(feature = "linked-check")]
-    pub(crate) fn sefgrunn_check(document: *const u8, n: usize, place: *mut usize) -> u32;
+    fn sefgrunn_check(document: *const u8, n: usize, place: *mut usize) -> u32;
     #[cfg(feature = "linked-console")]
-    pub(crate) fn sefgrunn_console(
+    fn sefgrunn_console(
         document: *const u8,
         n: usize,
         width: usize,
@@ -21,7 +21,7 @@ extern "C" {
         at: *mut usize,
     ) -> u32;
     #[cfg(feature = "linked-html")]
-    pub(crate) fn sefgrunn_html(
+    fn sefgrunn_html(
         document: *const u8,
         n: usize,
         full: bool,
@@ -31,7 +31,7 @@ extern "C" {
         at: *mut usize,
     ) -> u32;
     #[cfg(feature = "linked-html")]
-    pub(crate) fn sefgrunn_html_strict(
+    fn sefgrunn_html_strict(
         document: *const u8,
         n: usize,
         full: bool,
@@ -41,7 +41,7 @@ extern "C" {
         at: *mut usize,
     ) -> u32;
     #[cfg(feature = "linked-markdown")]
-    pub(crate) fn sefgrunn_markdown(
+    fn sefgrunn_markdown(
         document: *const u8,
         n: usize,
         full: bool,
@@ -50,7 +50,7 @@ extern "C" {
         at: *mut usize,
     ) -> u32;
     #[cfg(feature = "linked-roff")]
-    pub(crate) fn sefgrunn_roff(
+    fn sefgrunn_roff(
         document: *const u8,
         n: usize,
         room: *mut u8,
@@ -58,7 +58,7 @@ extern "C" {
         at: *mut usize,
     ) -> u32;
     #[cfg(feature = "linked-builder")]
-    pub(crate) fn sefgrunn_write(
+    fn sefgrunn_write(
         room: *mut u8,
         room_len: usize,
         length: *mut usize,
@@ -68,7 +68,7 @@ extern "C" {
         place: *mut usize,
     ) -> u32;
     #[cfg(feature = "linked-builder")]
-    pub(crate) fn sefgrunn_open(
+    fn sefgrunn_open(
         room: *mut u8,
         room_len: usize,
         length: *mut usize,
@@ -76,7 +76,7 @@ extern "C" {
         place: *mut usize,
     ) -> u32;
     #[cfg(feature = "linked-builder")]
-    pub(crate) fn sefgrunn_close(
+    fn sefgrunn_close(
         room: *mut u8,
         room_len: usize,
         length: *mut usize,
@@ -84,7 +84,7 @@ extern "C" {
         place: *mut usize,
     ) -> u32;
     #[cfg(feature = "linked-builder")]
-    pub(crate) fn sefgrunn_doc(
+    fn sefgrunn_doc(
         room: *mut u8,
         room_len: usize,
         length: *mut usize,
@@ -93,7 +93,7 @@ extern "C" {
         place: *mut usize,
     ) -> u32;
     #[cfg(feature = "linked-builder")]
-    pub(crate) fn sefgrunn_em_doc(
+    fn sefgrunn_em_doc(
         room: *mut u8,
         room_len: usize,
         length: *mut usize,
@@ -148,7 +148,7 @@ pub fn call(case: &Case) -> Result<Answer, String> {
     // no call gives this place or length, so one that gives none is seen
     let mut at = usize::MAX / 3;
     let mut length = case.length as usize;
-    let number = number(case, document.inner(), room.inner(), &mut length, &mut at);
+    let number = number(case.call, document.inner(), room.inner(), &mut length, &mut at);
 
     // design.md says nothing of `*place` after an accepted check or builder call
     let placed = number != 0 || matches!(case.call, Call::Render(_));
@@ -168,9 +168,9 @@ pub fn call(case: &Case) -> Result<Answer, String> {
     Ok(answer)
 }
 
-/// One call through the C interface: the number that it returns.
-fn number(
-    case: &Case,
+/// One call of a function that is linked: the number that it returns.
+pub(crate) fn number(
+    call: Call,
     document: &[u8],
     room: &mut [u8],
     length: &mut usize,
@@ -181,7 +181,7 @@ fn number(
     // SAFETY: every pointer is of a live buffer with the length passed beside it, and no two
     // buffers overlap.
     unsafe {
-        match case.call {
+        match call {
             #[cfg(feature = "linked-check")]
             Call::Check => sefgrunn_check(d, n, at),
             #[cfg(feature = "linked-console")]
