@@ -8,6 +8,7 @@
 //! - [`generate`]: seeded documents, settings, rooms and builder calls.
 //! - [`bench`]: port and kept Rust timed side by side.
 //! - [`port`]: the C interface of the port, where it is linked.
+//! - [`worthless`]: the worthless versions that 01 lists, each as a port.
 //!
 //! "01" in comments is `docs/01-scope.md`.
 
@@ -26,3 +27,4 @@ pub mod kept;
 pub mod port;
 pub mod rules;
 pub mod stored;
+pub mod worthless;

@@ -9,6 +9,7 @@ use oracle::generate::{self, Limits, Subject};
 use oracle::kept::confirm;
 use oracle::port;
 use oracle::rules::{Misreading, Renderer};
+use oracle::worthless::Worthless;
 
 const USAGE: &str = "\
 usage: oracle answer console|html|html_strict|markdown|roff
@@ -317,8 +318,9 @@ fn run_selfcheck(arguments: &Arguments) -> Parsed<ExitCode> {
     })
 }
 
-/// What the generator reaches: each misreading that 01 names must change the console's text, and
-/// each number must be given by each subject that can give it.
+/// What the generator reaches: each misreading that 01 names must change the console's text, each
+/// worthless version must give another answer, and each number must be given by each subject that can
+/// give it.
 fn run_reach(arguments: &Arguments) -> Parsed<ExitCode> {
     arguments.no_operand()?;
     let (seed, cases) = (arguments.number("seed", None)?, arguments.number("cases", None)?);
@@ -327,6 +329,20 @@ fn run_reach(arguments: &Arguments) -> Parsed<ExitCode> {
         let (told, first) = generate::told_apart(misread, seed, cases, Limits::COMPARED);
         complete &= told > 0;
         println!("{misread:?}: told apart by {told} of {cases} cases, first by case {first:?}");
+    }
+    for worthless in Worthless::ALL {
+        let mut caught = Vec::new();
+        for (subject, name) in Subject::ALL {
+            if worthless.concerns(subject) {
+                let first = worthless.first_caught(subject, seed, cases);
+                complete &= first.is_some();
+                caught.push(match first {
+                    Some(index) => format!("{name} {index}"),
+                    None => format!("{name} NOT CAUGHT"),
+                });
+            }
+        }
+        println!("{worthless:?}: first caught by case: {}", caught.join(", "));
     }
     for (subject, name) in Subject::ALL {
         let counts = generate::numbers(subject, seed, cases);

@@ -342,7 +342,8 @@ pub struct Run {
     pub most: usize,
 }
 
-/// The misreadings that 01 warns of; the generator must tell each from 01's own reading.
+/// The misreadings that 01 warns of; the generator must tell each from 01's own reading. The last two
+/// are 01's worthless splitters (see `worthless`).
 #[derive(Debug, Clone, Copy, Eq, PartialEq)]
 pub enum Misreading {
     None,
@@ -351,9 +352,12 @@ pub enum Misreading {
     PopOwnMarginsOnly,
     TrimAsciiOnly,
     HideBackticks,
+    WholeBodyFirst,
+    NoChunk,
 }
 
 impl Misreading {
+    /// 01's list.
     pub const ALL: [Misreading; 5] = {
         use Misreading::*;
         [JoinBodies, FoldByCharacters, PopOwnMarginsOnly, TrimAsciiOnly, HideBackticks]
@@ -417,6 +421,25 @@ fn gap(records: &[Record], start: usize) -> Option<usize> {
     let is = |index: usize, kind| records.get(index).is_some_and(|r| r.kind == kind);
     let end = (start..records.len()).find(|&i| is(i, Kind::End(SECTION4)))?;
     (is(end + 1, Kind::Start(BLOCK)) && is(end + 2, Kind::End(BLOCK))).then_some(end)
+}
+
+/// `step`, or what a worthless splitter does in its place.
+fn misread_step(misread: Misreading, body: &[u8], cursor: Cursor) -> Option<(Chunk, Cursor)> {
+    let (start, end) = (0, body.len());
+    let outside = |at| Cursor { at, ticks: Ticks::Outside };
+    match misread {
+        Misreading::NoChunk => None,
+        // the whole body, then a blank
+        Misreading::WholeBodyFirst => match cursor.at {
+            _ if body.is_empty() => None,
+            at if at == start => Some((part(start, end, characters(body)), outside(end))),
+            at if at == end => {
+                Some((Chunk::Raw { start: None, len: 1, width: 1 }, outside(end + 1)))
+            }
+            _ => None,
+        },
+        _ => step(body, cursor),
+    }
 }
 
 struct Page<'t> {
@@ -535,7 +558,7 @@ fn console(
                     continue;
                 }
                 let mut cursor = Cursor::START;
-                while let Some((chunk, next)) = step(body, cursor) {
+                while let Some((chunk, next)) = misread_step(misread, body, cursor) {
                     cursor = next;
                     match chunk {
                         Chunk::Raw { start, len, width } => {

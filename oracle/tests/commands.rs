@@ -75,6 +75,18 @@ fn selfcheck_ends_with_its_counts() {
     assert_eq!(output.status.code(), Some(0));
 }
 
+/// One case cannot catch every worthless version; the first 300 of a seed do.
+#[test]
+fn reach_says_what_is_not_caught() {
+    let output = oracle(&["reach", "--seed", "7", "--cases", "1"], b"");
+    let said = String::from_utf8_lossy(&output.stdout).into_owned();
+    assert!(said.contains("html NOT CAUGHT") && said.ends_with("reach incomplete\n"), "{said}");
+    assert_eq!(output.status.code(), Some(1));
+    let output = oracle(&["reach", "--seed", "7", "--cases", "300"], b"");
+    let said = String::from_utf8_lossy(&output.stdout).into_owned();
+    assert!(!said.contains("NOT CAUGHT"), "{said}");
+}
+
 #[cfg(not(any(
     feature = "linked-check",
     feature = "linked-console",
