@@ -18,6 +18,7 @@ fn main() {
         "{} does not exist: run 'rt staticlib sefgrunn', or name its directory in SEFGRUNN_LIB_DIR",
         library.display()
     );
+    let dir = dir.canonicalize().expect("a directory that exists has a path");
     println!("cargo:rustc-link-search=native={}", dir.display());
     println!("cargo:rustc-link-lib=static=sefgrunn");
     println!("cargo:rerun-if-changed={}", library.display());
