@@ -283,31 +283,47 @@ pub fn roff_string(document: &[u8]) -> Result<String, Refusal> {
 /// The style of a text.
 #[derive(Debug, Clone, Copy, PartialEq, Eq, Hash)]
 #[repr(u32)]
-#[allow(missing_docs)]
 pub enum Style {
+    /// Plain text.
     Text = 1,
+    /// Words that stand out, as `Usage` does.
     Emphasis = 2,
+    /// What is typed as it stands, as an option's name.
     Literal = 3,
+    /// What stands for something else, as `FILE` does.
     Metavar = 4,
+    /// Input that was wrong.
     Invalid = 5,
 }
 
 /// A block, which has a start and an end.
 #[derive(Debug, Clone, Copy, PartialEq, Eq, Hash)]
 #[repr(u32)]
-#[allow(missing_docs)]
 pub enum Block {
+    /// A heading of the first level.
     Header = 0,
+    /// A heading of the second level.
     Section2 = 1,
+    /// A heading of the third level.
     Section3 = 2,
+    /// As `Section3`; Markdown makes it an item of a list.
     Section4 = 3,
+    /// What an item of a list is about, as an option.
     ItemTerm = 4,
+    /// What is said about it.
     ItemBody = 5,
+    /// A list of terms and bodies.
     DefinitionList = 6,
+    /// A block of text; on the console a blank line follows it.
     Block = 7,
+    /// A document inside another. Where not all of the text is shown, the rest of it after its first
+    /// paragraph is left out.
     InlineBlock = 8,
+    /// A term that is explained elsewhere, in backticks on the console. Roff has none.
     TermRef = 9,
+    /// Metavariables in a man page. HTML and Markdown have none.
     Meta = 10,
+    /// Text in a font of one width, as a usage line.
     Mono = 11,
 }
 
