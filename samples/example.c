@@ -1,6 +1,6 @@
 /* Builds a help page by the calls of sefgrunn.h, checks it, prints it in every form, and shows two refusals.
  *
- *     cc -std=c99 -Iinclude samples/example.c target/staticlib/libsefgrunn.a -o example
+ *     cc -std=c99 -Iinclude samples/example.c target/staticlib/libsefgrunn.a -o target/example
  *
  * Ends with status 1, and says why on standard error, where an answer is not what this page must give. */
 #include "sefgrunn.h"
