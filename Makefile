@@ -1,10 +1,11 @@
 # Targets: test (everything that a change must pass), run (the console program on a sample page), compare (N cases beside the
-# oracle), bench (times beside the Rust), growth (times of pages from 1 to 32 KB), samples and record (make samples/ and the replayed
-# list anew).
-.PHONY: test run compare bench growth samples record clean
+# oracle), bench (times beside the Rust), growth (times of pages from 1 to 32 KB), fuzz (SECONDS of calls on inputs made by chance,
+# between pages that cannot be read), samples and record (make samples/ and the replayed list anew).
+.PHONY: test run compare bench growth fuzz samples record clean
 
 N ?= 1000000
 SEED ?= 1
+SECONDS ?= 60
 
 test:
 	@tools/test
@@ -20,6 +21,9 @@ bench:
 
 growth:
 	@set -e; linked=$$(tools/link); set -- $$linked; "$$1" growth samples/options-30k.doc
+
+fuzz:
+	@tools/fuzz $(SECONDS)
 
 samples:
 	@cd oracle && cargo run --release --offline --quiet --example samples -- ../samples

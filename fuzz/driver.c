@@ -1,0 +1,886 @@
+/* Calls every function of sefgrunn.h on documents, texts, settings and rooms made from one input, and checks each answer.
+ *
+ * Whatever is lent to the library ends at memory that cannot be read or written, and in a second call starts at such memory; what it
+ * may only read is mapped for reading alone. Both calls must give the same answer. An input is a document; all else follows from its
+ * bytes, so that an input that found a fault finds it again.
+ *
+ * Built with libFuzzer, or with -DALONE as a program of its own: driver SECONDS SEED SEED-DOCUMENT.. */
+#define _GNU_SOURCE
+#include "sefgrunn.h"
+
+#include <signal.h>
+#include <stdio.h>
+#include <stdlib.h>
+#include <string.h>
+#include <sys/mman.h>
+#include <time.h>
+#include <ucontext.h>
+#include <unistd.h>
+
+enum { MOST_BYTES = 32768, MOST_WIDTH = 10000, MOST_INPUT = 40000, MOST_ROOM = 1 << 20 };
+/* What a room holds before a call, and what a number holds that the library must write. */
+enum { BEFORE = 0xEE };
+static const size_t UNWRITTEN = (size_t)-1 / 3;
+
+static void fault(const char *what)
+{
+    fprintf(stderr, "fault: %s\n", what);
+    abort();
+}
+
+static void must(int holds, const char *what)
+{
+    if (!holds) {
+        fault(what);
+    }
+}
+
+/* ---- chance ------------------------------------------------------------------------------------------------------------------ */
+
+/* splitmix64 */
+static uint64_t next(uint64_t *state)
+{
+    uint64_t z = (*state += 0x9E3779B97F4A7C15u);
+    z = (z ^ (z >> 30)) * 0xBF58476D1CE4E5B9u;
+    z = (z ^ (z >> 27)) * 0x94D049BB133111EBu;
+    return z ^ (z >> 31);
+}
+
+/* 0 to n - 1 */
+static size_t below(uint64_t *state, size_t n)
+{
+    return (size_t)(next(state) % n);
+}
+
+/* The state that an input gives: all of its bytes count. */
+static uint64_t state_of(const uint8_t *data, size_t n)
+{
+    uint64_t hash = 0xCBF29CE484222325u;
+    for (size_t i = 0; i < n; i++) {
+        hash = (hash ^ data[i]) * 0x100000001B3u;
+    }
+    return hash;
+}
+
+/* ---- fences ------------------------------------------------------------------------------------------------------------------ */
+
+enum { FENCE = 1 << 20 };
+enum placement { ENDS_AT_FENCE, STARTS_AT_FENCE };
+
+/* `size` bytes between two stretches of FENCE bytes that cannot be accessed. */
+struct fenced {
+    uint8_t *lent;    /* what the library sees */
+    uint8_t *written; /* the same bytes, where they can be written */
+    size_t size;
+};
+
+static uint8_t *between_fences(size_t size, int protection, int file)
+{
+    uint8_t *all = mmap(NULL, size + 2 * FENCE, PROT_NONE, MAP_PRIVATE | MAP_ANONYMOUS | MAP_NORESERVE, -1, 0);
+    must(all != MAP_FAILED, "mmap of fences");
+    int flags = MAP_FIXED | (file < 0 ? MAP_PRIVATE | MAP_ANONYMOUS : MAP_SHARED);
+    void *inner = mmap(all + FENCE, size, protection, flags, file, 0);
+    must(inner != MAP_FAILED, "mmap between fences");
+    return inner;
+}
+
+static struct fenced fenced(size_t size)
+{
+    uint8_t *lent = between_fences(size, PROT_READ | PROT_WRITE, -1);
+    return (struct fenced){lent, lent, size};
+}
+
+/* The library sees it for reading alone. */
+static struct fenced fenced_for_reading(size_t size)
+{
+    int file = memfd_create("read", 0);
+    must(file >= 0 && ftruncate(file, (off_t)size) == 0, "memory for reading");
+    uint8_t *written = between_fences(size, PROT_READ | PROT_WRITE, file);
+    return (struct fenced){between_fences(size, PROT_READ, file), written, size};
+}
+
+static size_t offset(const struct fenced *in, size_t n, enum placement placement)
+{
+    must(n <= in->size, "driver: too large to be lent");
+    return placement == ENDS_AT_FENCE ? in->size - n : 0;
+}
+
+/* Bytes to be read. An empty slice may have any pointer: of one that would start at a fence it is null. */
+static const uint8_t *lend(struct fenced *in, const uint8_t *bytes, size_t n, enum placement placement)
+{
+    if (n == 0) {
+        return placement == ENDS_AT_FENCE ? in->lent + in->size : NULL;
+    }
+    memcpy(in->written + offset(in, n, placement), bytes, n);
+    return in->lent + offset(in, n, placement);
+}
+
+static uint8_t *lend_room(struct fenced *in, size_t n, enum placement placement)
+{
+    return n == 0 && placement == STARTS_AT_FENCE ? NULL : in->lent + offset(in, n, placement);
+}
+
+static size_t *lend_number(struct fenced *in, size_t value, enum placement placement)
+{
+    size_t *number = (size_t *)(void *)(in->lent + offset(in, sizeof *number, placement));
+    *number = value;
+    return number;
+}
+
+static struct fenced documents, rooms, places, lengths;
+
+/* ---- what was reached -------------------------------------------------------------------------------------------------------- */
+
+enum function { CHECK, CONSOLE, HTML, HTML_STRICT, MARKDOWN, ROFF, WRITE, OPEN, CLOSE, DOC, EM_DOC, FUNCTIONS };
+static const char *const names[FUNCTIONS] = {"check", "console", "html", "html_strict", "markdown", "roff", "write", "open", "close",
+    "doc", "em_doc"};
+static unsigned long calls[FUNCTIONS], accepts[FUNCTIONS], numbers[14], inputs;
+
+enum { MOST_BLOCKS = 8192, OUTCOMES = 4096 };
+/* libFuzzer keeps an input that sets one of these for the first time. */
+#ifndef ALONE
+__attribute__((section("__libfuzzer_extra_counters")))
+#endif
+static uint8_t features[MOST_BLOCKS + OUTCOMES];
+static uint8_t seen[MOST_BLOCKS + OUTCOMES];
+static int fresh; /* the input set one for the first time */
+
+static void feature(size_t index)
+{
+    features[index] = 1;
+    fresh |= !seen[index];
+    seen[index] = 1;
+}
+
+/* A call's number, and the power of two below its length or place. */
+static void outcome(enum function function, uint32_t number, size_t at)
+{
+    unsigned power = 0;
+
+    must(number <= 13, "a number over 13");
+    calls[function]++;
+    accepts[function] += number == 0;
+    numbers[number]++;
+    while (at > 1 && power < 15) {
+        at >>= 1;
+        power++;
+    }
+    feature(MOST_BLOCKS + ((function * 14u + number) * 16u + power) % OUTCOMES);
+}
+
+/* The library is not instrumented: the first byte of each of its blocks of code becomes a breakpoint that goes when it is met. */
+static struct { uint8_t *at, byte; } blocks[MOST_BLOCKS];
+static size_t block_count, blocks_met;
+
+static void met(int signal_number, siginfo_t *info, void *context)
+{
+    greg_t *rip = &((ucontext_t *)context)->uc_mcontext.gregs[REG_RIP];
+    uint8_t *at = (uint8_t *)*rip - 1;
+    size_t low = 0, high = block_count;
+
+    (void)signal_number;
+    (void)info;
+    while (low < high) {
+        size_t middle = low + (high - low) / 2;
+        if (blocks[middle].at < at) {
+            low = middle + 1;
+        } else {
+            high = middle;
+        }
+    }
+    if (low == block_count || blocks[low].at != at) {
+        fault("a breakpoint that the driver did not set");
+    }
+    *at = blocks[low].byte;
+    *rip -= 1;
+    blocks_met++;
+    feature(low);
+}
+
+/* Reads ascending places, as differences to that of sefgrunn_check, from a file. */
+static void set_blocks(const char *path)
+{
+    FILE *file = fopen(path, "r");
+    long difference;
+    struct sigaction action = {.sa_sigaction = met, .sa_flags = SA_SIGINFO};
+    uintptr_t page = (uintptr_t)sysconf(_SC_PAGESIZE);
+
+    must(file != NULL, "the list of blocks cannot be read");
+    while (fscanf(file, "%ld", &difference) == 1 && block_count < MOST_BLOCKS) {
+        blocks[block_count++].at = (uint8_t *)(uintptr_t)sefgrunn_check + difference;
+    }
+    fclose(file);
+    must(block_count > 0 && sigaction(SIGTRAP, &action, NULL) == 0, "no block to watch");
+    uintptr_t from = (uintptr_t)blocks[0].at / page * page;
+    uintptr_t to = (uintptr_t)blocks[block_count - 1].at + 1;
+    must(mprotect((void *)from, to - from, PROT_READ | PROT_WRITE | PROT_EXEC) == 0, "mprotect of the library's code");
+    for (size_t i = 0; i < block_count; i++) {
+        blocks[i].byte = *blocks[i].at;
+        *blocks[i].at = 0xCC;
+    }
+}
+
+/* ---- checking and rendering -------------------------------------------------------------------------------------------------- */
+
+struct answer {
+    uint32_t number;
+    size_t at;
+};
+
+static struct answer run_check(const uint8_t *document, size_t n)
+{
+    struct answer answers[2];
+    for (int p = ENDS_AT_FENCE; p <= STARTS_AT_FENCE; p++) {
+        const uint8_t *lent = lend(&documents, document, n, p);
+        size_t *place = lend_number(&places, UNWRITTEN, p);
+        uint32_t number = sefgrunn_check(lent, n, place);
+        answers[p] = (struct answer){number, *place};
+        outcome(CHECK, number, *place);
+        must(number <= 8, "check: no number of its own");
+        must(*place <= n && (number != 0 || *place == 0), "check: place");
+    }
+    must(answers[0].number == answers[1].number && answers[0].at == answers[1].at, "check: two answers");
+    return answers[0];
+}
+
+struct settings {
+    enum function function;
+    size_t width;
+    bool full, css;
+};
+
+static uint32_t render(struct settings s, const uint8_t *document, size_t n, uint8_t *room, size_t room_len, size_t *at)
+{
+    switch (s.function) {
+    case CONSOLE:
+        return sefgrunn_console(document, n, s.width, s.full, room, room_len, at);
+    case HTML:
+        return sefgrunn_html(document, n, s.full, s.css, room, room_len, at);
+    case HTML_STRICT:
+        return sefgrunn_html_strict(document, n, s.full, s.css, room, room_len, at);
+    case MARKDOWN:
+        return sefgrunn_markdown(document, n, s.full, room, room_len, at);
+    default:
+        return sefgrunn_roff(document, n, room, room_len, at);
+    }
+}
+
+/* Whether bytes are UTF-8, by the table of well-formed byte sequences of the Unicode standard. */
+static int is_utf8(const uint8_t *s, size_t n)
+{
+    for (size_t i = 0; i < n;) {
+        uint8_t b = s[i], low = 0x80, high = 0xBF;
+        size_t more = b < 0x80 ? 0 : b >= 0xC2 && b <= 0xDF ? 1 : b >= 0xE0 && b <= 0xEF ? 2 : b >= 0xF0 && b <= 0xF4 ? 3 : 4;
+        if (more > 3 || n - i <= more) {
+            return 0;
+        }
+        low = b == 0xE0 ? 0xA0 : b == 0xF0 ? 0x90 : low;
+        high = b == 0xED ? 0x9F : b == 0xF4 ? 0x8F : high;
+        for (size_t k = 1; k <= more; k++) {
+            if (s[i + k] < low || s[i + k] > high) {
+                return 0;
+            }
+            low = 0x80;
+            high = 0xBF;
+        }
+        i += more + 1;
+    }
+    return 1;
+}
+
+static uint8_t zeros[MOST_ROOM];
+static uint8_t text[MOST_ROOM]; /* what the last accepted call left in its room */
+
+/* The numbers that a renderer may give for a document with this verdict. */
+static int may_give(struct settings s, struct answer checked, struct answer got)
+{
+    if (s.function == CONSOLE && s.width > MOST_WIDTH && checked.number != 1) {
+        return got.number == 9 && got.at == 0;
+    }
+    if (checked.number != 0) {
+        return got.number == checked.number && got.at == checked.at;
+    }
+    switch (got.number) {
+    case 0:
+        return 1;
+    case 10:
+        return s.function == CONSOLE;
+    case 11:
+        return s.function != CONSOLE;
+    case 12:
+        return s.function == ROFF;
+    default:
+        return got.number == 13 && got.at == 0;
+    }
+}
+
+/* One rendering, in both placements; the text of an accepted one is left in `text`. */
+static struct answer run_render(struct settings s, const uint8_t *document, size_t n, struct answer checked, size_t room_len)
+{
+    struct answer answers[2];
+    for (int p = ENDS_AT_FENCE; p <= STARTS_AT_FENCE; p++) {
+        const uint8_t *lent = lend(&documents, document, n, p);
+        uint8_t *room = lend_room(&rooms, room_len, p);
+        size_t *at = lend_number(&places, UNWRITTEN, p);
+        if (room_len > 0) {
+            memset(room, BEFORE, room_len);
+        }
+        uint32_t number = render(s, lent, n, room, room_len, at);
+        size_t length = number == 0 ? *at : 0;
+        answers[p] = (struct answer){number, *at};
+        outcome(s.function, number, *at);
+        must(may_give(s, checked, answers[p]), "renderer: not this number or place for this document");
+        must(length <= room_len, "renderer: a length over the room");
+        must(number == 0 || *at <= n, "renderer: a place behind the document");
+        if (room_len > 0) {
+            must(memcmp(room + length, zeros, room_len - length) == 0, "renderer: not 0 behind the text or after a refusal");
+            must(p == ENDS_AT_FENCE || memcmp(text, room, length) == 0, "renderer: two texts");
+            memcpy(text, room, length);
+        }
+    }
+    must(answers[0].number == answers[1].number && answers[0].at == answers[1].at, "renderer: two answers");
+    must(answers[0].number != 0 || is_utf8(text, answers[0].at), "renderer: a text that is not UTF-8");
+    return answers[0];
+}
+
+/* A rendering in a room of some size, then in one of exactly the text's length and in one that is a byte shorter. */
+static void try_render(struct settings s, const uint8_t *document, size_t n, struct answer checked, size_t room_len)
+{
+    static uint8_t kept[MOST_ROOM];
+    struct answer first = run_render(s, document, n, checked, room_len), again;
+
+    if (first.number != 0) {
+        return;
+    }
+    memcpy(kept, text, first.at);
+    again = run_render(s, document, n, checked, first.at);
+    /* only the console trims, so only its text may have been longer before */
+    must(again.number == 0 || (s.function == CONSOLE && again.number == 13), "renderer: refused in a room of its length");
+    must(again.number != 0 || (again.at == first.at && memcmp(kept, text, first.at) == 0), "renderer: another text in another room");
+    if (first.at > 0) {
+        must(run_render(s, document, n, checked, first.at - 1).number == 13, "renderer: accepted in a room below its length");
+    }
+}
+
+/* ---- the builder ------------------------------------------------------------------------------------------------------------- */
+
+struct build {
+    enum function function;
+    uint32_t kind; /* style or block */
+    const uint8_t *added;
+    size_t n;
+};
+
+static uint8_t before[MOST_ROOM];
+
+static uint32_t build(struct build b, const uint8_t *added, uint8_t *room, size_t room_len, size_t *length, size_t *place)
+{
+    switch (b.function) {
+    case WRITE:
+        return sefgrunn_write(room, room_len, length, b.kind, added, b.n, place);
+    case OPEN:
+        return sefgrunn_open(room, room_len, length, b.kind, place);
+    case CLOSE:
+        return sefgrunn_close(room, room_len, length, b.kind, place);
+    case DOC:
+        return sefgrunn_doc(room, room_len, length, added, b.n, place);
+    default:
+        return sefgrunn_em_doc(room, room_len, length, added, b.n, place);
+    }
+}
+
+/* How many bytes an accepted call may add. */
+static int may_grow(struct build b, size_t bytes)
+{
+    switch (b.function) {
+    case WRITE:
+        return bytes == b.n || bytes == b.n + 6;
+    case OPEN:
+    case CLOSE:
+        return bytes == 6;
+    case DOC:
+        return bytes == b.n + 12;
+    default: /* the bracket; a line end may become a Section3 around a second record */
+        return bytes >= 12 && bytes <= b.n + 12 + 17;
+    }
+}
+
+static int differences(const uint8_t *a, const uint8_t *b, size_t n)
+{
+    int count = 0;
+    for (size_t i = 0; i < n; i++) {
+        count += a[i] != b[i];
+    }
+    return count;
+}
+
+/* What an accepted call may have changed: the new records, and for text the four bytes of the last record's size. */
+static void check_built(struct build b, const uint8_t *room, size_t room_len, size_t old, size_t new)
+{
+    must(new <= room_len && new <= MOST_BYTES && new >= old && may_grow(b, new - old), "builder: length");
+    must(memcmp(room + new, before + new, room_len - new) == 0, "builder: a byte behind the document was changed");
+    int changed = memcmp(room, before, old) == 0 ? 0 : differences(room, before, old);
+    must(changed == 0 || (b.function == WRITE && new - old == b.n && changed <= 4), "builder: a byte of the document was changed");
+}
+
+/* One call, in both placements, on the room that `before` holds. The new length, and the room in `before`; 0 after a refusal. */
+static size_t run_build(struct build b, size_t room_len, size_t length)
+{
+    struct answer answers[2];
+    size_t lengths_after[2];
+    uint8_t *room = NULL;
+    for (int p = ENDS_AT_FENCE; p <= STARTS_AT_FENCE; p++) {
+        const uint8_t *added = lend(&documents, b.added, b.n, p);
+        room = lend_room(&rooms, room_len, p);
+        size_t *place = lend_number(&places, UNWRITTEN, p), *len = lend_number(&lengths, length, p);
+        if (room_len > 0) {
+            memcpy(room, before, room_len);
+        }
+        uint32_t number = build(b, added, room, room_len, len, place);
+        answers[p] = (struct answer){number, *place};
+        lengths_after[p] = *len;
+        outcome(b.function, number, *place);
+        must(number <= 8 || number == 13, "builder: no number of its own");
+        must(number == 13 ? *place == 0 : *place <= MOST_BYTES + b.n + 24, "builder: place");
+        if (number == 0) {
+            must(*place == 0, "builder: place of an accepted call");
+            check_built(b, room, room_len, length, *len);
+            must(p == ENDS_AT_FENCE || memcmp(text, room, *len) == 0, "builder: two documents");
+            memcpy(text, room, *len);
+        } else {
+            must(*len == length, "builder: a refused call changed the length");
+            must(room_len == 0 || memcmp(room, before, room_len) == 0, "builder: a refused call changed the room");
+        }
+    }
+    must(answers[0].number == answers[1].number && answers[0].at == answers[1].at && lengths_after[0] == lengths_after[1],
+        "builder: two answers");
+    if (answers[0].number != 0) {
+        return 0;
+    }
+    memcpy(before, room, room_len);
+    struct answer checked = run_check(before, lengths_after[0]);
+    must(checked.number == 0 || checked.number == 8, "builder: what it built is not a document");
+    return lengths_after[0];
+}
+
+/* A few calls, each on what the one before built; the document so far is the input up to `cut`. */
+static void try_builder(uint64_t *state, const uint8_t *data, size_t n, size_t cut)
+{
+    static const size_t spare[] = {0, 1, 5, 6, 7, 12, 40, 500, 40000};
+    size_t length = cut;
+    size_t room_len = cut + spare[below(state, 9)];
+
+    memset(before, BEFORE, room_len);
+    memcpy(before, data, cut);
+    for (int turn = 0; turn < 4; turn++) {
+        struct build b = {WRITE + (enum function)below(state, 5), (uint32_t)below(state, 13), data, n};
+        if (b.function == WRITE) {
+            size_t from = below(state, n + 1);
+            b.added = data + from;
+            b.n = below(state, n - from + 1);
+        } else if (b.function == OPEN || b.function == CLOSE) {
+            b.n = 0;
+        }
+        if (below(state, 40) == 0) {
+            b.kind = (uint32_t)next(state);
+        }
+        size_t given = length;
+        if (below(state, 40) == 0) {
+            given = below(state, 2) == 0 ? (size_t)next(state) : room_len + 1;
+        }
+        size_t new = run_build(b, room_len, given);
+        length = new > 0 ? new : length;
+    }
+}
+
+/* ---- one input --------------------------------------------------------------------------------------------------------------- */
+
+static size_t room_size(uint64_t *state, size_t n)
+{
+    switch (below(state, 12)) {
+    case 0:
+        return 0;
+    case 1:
+    case 2:
+        return below(state, 80);
+    case 3:
+        return n;
+    case 4:
+        return 65536;
+    case 5:
+        return below(state, 8) == 0 ? MOST_ROOM : 2 * n;
+    default:
+        return 6 * n + 700;
+    }
+}
+
+static size_t width(uint64_t *state)
+{
+    static const size_t others[] = {100, 80, 40, 9999, 10000, 10001, (size_t)-1};
+    return below(state, 3) == 0 ? others[below(state, 7)] : below(state, 111);
+}
+
+/* The start of a record chosen among the first 64, so that a document so far ends between records, some blocks open. */
+static size_t record_start(uint64_t *state, const uint8_t *data, size_t n)
+{
+    size_t at = 0;
+    for (size_t left = below(state, 64); left > 0 && n - at >= 6; left--) {
+        size_t size = data[at] | (size_t)data[at + 1] << 8 | (size_t)data[at + 2] << 16 | (size_t)data[at + 3] << 24;
+        if (size > n - at - 6) {
+            break;
+        }
+        at += 6 + size;
+    }
+    return at;
+}
+
+int LLVMFuzzerTestOneInput(const uint8_t *data, size_t n)
+{
+    if (n > MOST_INPUT) {
+        return 0;
+    }
+    uint64_t state = state_of(data, n);
+    struct answer checked = run_check(data, n);
+    inputs++;
+    for (enum function f = CONSOLE; f <= ROFF; f++) {
+        struct settings s = {f, width(&state), below(&state, 3) != 0, below(&state, 4) == 0};
+        try_render(s, data, n, checked, room_size(&state, n));
+    }
+    try_builder(&state, data, n, below(&state, 4) == 0 ? n : record_start(&state, data, n));
+    return 0;
+}
+
+static void report(void)
+{
+    unsigned long all = 0;
+    printf("\n%-12s %14s %14s\n", "function", "calls", "accepted");
+    for (int f = 0; f < FUNCTIONS; f++) {
+        printf("%-12s %14lu %14lu\n", names[f], calls[f], accepts[f]);
+        all += calls[f];
+    }
+    printf("answers 0 to 13:");
+    for (int i = 0; i <= 13; i++) {
+        printf(" %lu", numbers[i]);
+    }
+    printf("\nblocks of the library's code: %zu of %zu met\n", blocks_met, block_count);
+    printf("%lu inputs, %lu calls, no fault\n", inputs, all);
+    fflush(stdout);
+}
+
+static void prepare(void)
+{
+    const char *list = getenv("FUZZ_BLOCKS");
+    documents = fenced_for_reading(MOST_ROOM);
+    rooms = fenced(MOST_ROOM);
+    places = fenced(4096);
+    lengths = fenced(4096);
+    if (list != NULL) {
+        set_blocks(list);
+    }
+}
+
+/* ---- making inputs ----------------------------------------------------------------------------------------------------------- */
+
+struct input {
+    uint8_t *at;
+    size_t n, most;
+};
+
+static const char *const pieces[] = {"a", "b", "of", "port", "-p", "--listen", "UPPER", "longer-word-to-fold", " ", " ", " ", " ", "\n",
+    "\n\n", "\n\n\n", "\n ", "\n    ", "\n\n    ", "\n\n```", "\n\n```\n", "\n```\n", "\n```\n\n", "```", "`", "    ", "\n.", "\n'", "'",
+    "\\", "-", ".", "<", ">", "&", "&amp;", "&lt;", "&gt;", "&am", "[", "]", "*", "_", "#", "\t", "\r", "\v", "\xC2\x85", "\xC2\xA0",
+    "\xE1\x9A\x80", "\xE2\x80\x83", "\xE2\x80\xA8", "\xE3\x80\x80", "\xC3\xA9", "\xE6\xBC\xA2", "\xF0\x9F\x98\x80", "e\xCC\x81",
+    "tttttttttttttttttttttttt", "uuuuuuuuuuuuuuuuuuuuuuuuuuu"};
+enum { PIECES = sizeof pieces / sizeof pieces[0] };
+/* one of these makes a text that is not UTF-8 */
+static const char *const broken[] = {"\x80", "\xC3", "\xC0\x80", "\xE0\x80\x80", "\xED\xA0\x80", "\xF4\x90\x80\x80", "\xFF", "\xE6\xBC"};
+
+/* Makes room for n bytes at a place; says whether they fit. */
+static int make_space(struct input *in, size_t at, size_t n)
+{
+    if (n > in->most - in->n) {
+        return 0;
+    }
+    memmove(in->at + at + n, in->at + at, in->n - at);
+    in->n += n;
+    return 1;
+}
+
+static size_t put_record(struct input *in, size_t at, unsigned kind, const uint8_t *body, size_t n)
+{
+    const uint8_t head[6] = {(uint8_t)n, (uint8_t)(n >> 8), (uint8_t)(n >> 16), (uint8_t)(n >> 24), (uint8_t)kind, (uint8_t)(kind >> 8)};
+    if (!make_space(in, at, 6 + n)) {
+        return 0;
+    }
+    memcpy(in->at + at, head, 6);
+    if (n > 0) {
+        memcpy(in->at + at + 6, body, n);
+    }
+    return 6 + n;
+}
+
+static size_t put_text(struct input *in, size_t at, uint64_t *state)
+{
+    uint8_t body[512];
+    size_t n = 0;
+    for (size_t left = below(state, 10); left > 0; left--) {
+        const char *piece = below(state, 200) == 0 ? broken[below(state, 8)] : pieces[below(state, PIECES)];
+        memcpy(body + n, piece, strlen(piece));
+        n += strlen(piece);
+    }
+    return put_record(in, at, 1 + (unsigned)(below(state, 2) == 0 ? 0 : below(state, 5)), body, n);
+}
+
+/* One piece again and again: up to 2,000 bytes, or up to a document of about 32,768. */
+static size_t put_long_text(struct input *in, size_t at, uint64_t *state)
+{
+    static uint8_t body[MOST_INPUT];
+    const char *piece = pieces[below(state, PIECES)];
+    size_t most = below(state, 2000), n = 0, aim = MOST_BYTES - 8 + below(state, 4);
+    if (below(state, 8) == 0 && in->n < aim) {
+        most = aim - in->n;
+    }
+    while (n + strlen(piece) <= most) {
+        memcpy(body + n, piece, strlen(piece));
+        n += strlen(piece);
+    }
+    return put_record(in, at, 1 + (unsigned)below(state, 5), body, n);
+}
+
+/* A document from nothing: texts and blocks, all closed but for one time in eight. */
+static void make_document(struct input *in, uint64_t *state)
+{
+    unsigned open[40];
+    size_t depth = 0;
+    in->n = 0;
+    for (size_t left = below(state, 48); left > 0; left--) {
+        unsigned block = (unsigned)below(state, 12);
+        switch (below(state, 5)) {
+        case 0:
+        case 1:
+            put_text(in, in->n, state);
+            break;
+        case 2:
+        case 3:
+            for (size_t times = below(state, 12) == 0 ? below(state, 34) : 1; times > 0 && depth < 33; times--) {
+                open[depth] = block;
+                depth += put_record(in, in->n, 0x0100 + block, NULL, 0) > 0;
+            }
+            break;
+        default:
+            if (depth > 0 && put_record(in, in->n, 0x0200 + open[depth - 1], NULL, 0) > 0) {
+                depth--;
+            }
+        }
+    }
+    while (depth > 0 && below(state, 40) != 0) {
+        depth--;
+        put_record(in, in->n, 0x0200 + open[depth], NULL, 0);
+    }
+}
+
+/* A document of what can be kept of an input: kinds and bodies set right, ends made to match, open blocks closed. */
+static size_t repaired(uint8_t *data, size_t n, size_t most)
+{
+    static uint8_t copy[MOST_INPUT];
+    unsigned open[32];
+    size_t depth = 0, at = 0;
+    struct input in = {data, 0, most < MOST_BYTES ? most : MOST_BYTES};
+
+    memcpy(copy, data, n);
+    while (n - at >= 6 && in.n + 6 * depth + 12 <= in.most) {
+        size_t size = copy[at] | (size_t)copy[at + 1] << 8, left = in.most - in.n - 6 * depth - 6;
+        unsigned block = copy[at + 4] % 12u, part = copy[at + 5];
+        const uint8_t *body = copy + at + 6;
+        size = size < n - at - 6 ? size : n - at - 6;
+        at += 6 + size;
+        if (part == 1 && depth < 32) {
+            open[depth++] = block;
+            put_record(&in, in.n, 0x0100 + block, NULL, 0);
+        } else if (part == 2 && depth > 0) {
+            put_record(&in, in.n, 0x0200 + open[--depth], NULL, 0);
+        } else if (size <= left && is_utf8(body, size)) {
+            put_record(&in, in.n, 1 + block % 5, body, size);
+        }
+    }
+    while (depth > 0) {
+        put_record(&in, in.n, 0x0200 + open[--depth], NULL, 0);
+    }
+    return in.n;
+}
+
+size_t LLVMFuzzerMutate(uint8_t *data, size_t n, size_t most);
+
+/* A block around what stands between two records. */
+static size_t put_around(struct input *in, size_t from, size_t to, unsigned block)
+{
+    size_t first = from < to ? from : to, last = from < to ? to : from;
+    if (put_record(in, last, 0x0200 + block, NULL, 0) > 0) {
+        put_record(in, first, 0x0100 + block, NULL, 0);
+    }
+    return in->n;
+}
+
+/* One record taken out, if it is short and there is one. */
+static size_t take_out(struct input *in, size_t at)
+{
+    if (in->n - at >= 6 && in->n - at - 6 >= in->at[at] && in->at[at + 1] == 0) {
+        size_t end = at + 6 + in->at[at];
+        memmove(in->at + at, in->at + end, in->n - end);
+        in->n -= end - at;
+    }
+    return in->n;
+}
+
+static size_t change_kind(struct input *in, size_t at, uint64_t *state)
+{
+    if (in->n - at >= 6) {
+        in->at[at + 4] = (uint8_t)below(state, 13);
+        in->at[at + 5] = (uint8_t)below(state, 3);
+    }
+    return in->n;
+}
+
+/* One change that keeps records whole, or any change of bytes. */
+static size_t changed(uint8_t *data, size_t n, size_t most, uint64_t state)
+{
+    struct input in = {data, n, most};
+    size_t from = record_start(&state, data, n), to = record_start(&state, data, n);
+    switch (below(&state, 11)) {
+    case 0:
+        make_document(&in, &state);
+        return in.n;
+    case 1:
+    case 2:
+        put_text(&in, from, &state);
+        return in.n;
+    case 3:
+        put_long_text(&in, from, &state);
+        return in.n;
+    case 4:
+    case 5:
+        return put_around(&in, from, to, (unsigned)below(&state, 12));
+    case 6:
+        return take_out(&in, from);
+    case 7:
+        return change_kind(&in, from, &state);
+    default:
+        return LLVMFuzzerMutate(data, n, most);
+    }
+}
+
+size_t LLVMFuzzerCustomMutator(uint8_t *data, size_t n, size_t most, unsigned seed)
+{
+    uint64_t state = seed;
+    bool repair = next(&state) % 2 == 0;
+    size_t new = changed(data, n, most, state);
+    return repair && new <= MOST_INPUT ? repaired(data, new, most) : new;
+}
+
+#ifndef ALONE
+
+int LLVMFuzzerInitialize(int *argc, char ***argv)
+{
+    (void)argc;
+    (void)argv;
+    prepare();
+    atexit(report);
+    return 0;
+}
+
+#else
+
+static uint64_t chance;
+
+size_t LLVMFuzzerMutate(uint8_t *data, size_t n, size_t most)
+{
+    struct input in = {data, n, most};
+    size_t at = below(&chance, n + 1);
+    switch (below(&chance, 5)) {
+    case 0:
+        if (make_space(&in, at, 1)) {
+            data[at] = (uint8_t)next(&chance);
+        }
+        return in.n;
+    case 1:
+        return at;
+    case 2:
+        if (at < n) {
+            memmove(data + at, data + at + 1, n - at - 1);
+            return n - 1;
+        }
+        return n;
+    default:
+        if (at < n) {
+            data[at] = below(&chance, 2) == 0 ? (uint8_t)(data[at] ^ 1u << below(&chance, 8)) : (uint8_t)next(&chance);
+        }
+        return n;
+    }
+}
+
+enum { MOST_KEPT = 4096 };
+static struct { uint8_t *at; size_t n; } kept_inputs[MOST_KEPT];
+static size_t kept_count;
+
+static void keep(const uint8_t *data, size_t n)
+{
+    uint8_t *copy = malloc(n + 1);
+    if (copy != NULL && kept_count < MOST_KEPT) {
+        memcpy(copy, data, n);
+        kept_inputs[kept_count].at = copy;
+        kept_inputs[kept_count++].n = n;
+    } else {
+        free(copy);
+    }
+}
+
+/* The input that is being tried, for when a fault ends the program. */
+static uint8_t data[MOST_INPUT];
+static size_t data_n;
+
+static void write_out(int signal_number)
+{
+    FILE *file = fopen("fault.doc", "wb");
+    if (file != NULL) {
+        fwrite(data, 1, data_n, file);
+        fclose(file);
+    }
+    fprintf(stderr, "driver: signal %d; the input is in fault.doc\n", signal_number);
+    _exit(1);
+}
+
+int main(int argc, char **argv)
+{
+    must(argc >= 3, "usage: driver SECONDS SEED DOCUMENT..");
+    time_t end = time(NULL) + atoi(argv[1]);
+    chance = strtoull(argv[2], NULL, 10);
+    prepare();
+    signal(SIGSEGV, write_out);
+    signal(SIGBUS, write_out);
+    signal(SIGABRT, write_out);
+    for (int i = 3; i < argc; i++) {
+        FILE *file = fopen(argv[i], "rb");
+        must(file != NULL, "a seed document cannot be read");
+        data_n = fread(data, 1, sizeof data, file);
+        fclose(file);
+        LLVMFuzzerTestOneInput(data, data_n);
+        keep(data, data_n);
+    }
+    while (time(NULL) < end) {
+        size_t pick = kept_count == 0 ? 0 : below(&chance, kept_count);
+        data_n = kept_count == 0 ? 0 : kept_inputs[pick].n;
+        memcpy(data, kept_count == 0 ? zeros : kept_inputs[pick].at, data_n);
+        for (size_t left = 1 + below(&chance, 4); left > 0; left--) {
+            data_n = LLVMFuzzerCustomMutator(data, data_n, sizeof data, (unsigned)next(&chance));
+        }
+        fresh = 0;
+        LLVMFuzzerTestOneInput(data, data_n);
+        if (fresh) {
+            keep(data, data_n);
+        }
+    }
+    report();
+    return 0;
+}
+
+#endif
