@@ -1,0 +1,23 @@
+// The functions that lend a struct, run: how many chunks some bodies have, and a skip counter's number after an InlineBlock.
+use libc::STDOUT_FILENO;
+
+fn digit(n: usize) -> bool {
+    match n {
+        0 => io::write_all(STDOUT_FILENO, b"0\n"),
+        1 => io::write_all(STDOUT_FILENO, b"1\n"),
+        2 => io::write_all(STDOUT_FILENO, b"2\n"),
+        3 => io::write_all(STDOUT_FILENO, b"3\n"),
+        4 => io::write_all(STDOUT_FILENO, b"4\n"),
+        5 => io::write_all(STDOUT_FILENO, b"5\n"),
+        _ => io::write_all(STDOUT_FILENO, b"more\n"),
+    }
+}
+
+fn main() {
+    digit(splitter_iter::count_chunks(b""));
+    digit(splitter_iter::count_chunks(b"a b"));
+    digit(splitter_iter::count_chunks(b"a\n b\n\n"));
+    digit(splitter_iter::count_chunks(b"\n\n```\n\nx\n```\n"));
+    digit(skip::across_block(0));
+    digit(skip::across_block(3));
+}
