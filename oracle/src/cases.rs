@@ -102,61 +102,69 @@ fn header(call: Call) -> (u8, u64, bool, bool) {
 /// The start that a list gives to the one space of a line end, which is no part of its body.
 const NO_START: u32 = 0xFFFF_FFFF;
 
+/// A number: one byte below 255; or a byte 255 and then four bytes, the least first.
 fn put(out: &mut Vec<u8>, number: u64) {
     let number = u32::try_from(number).expect("a recorded number fits in 32 bits");
-    out.extend_from_slice(&number.to_le_bytes());
+    if number < 255 {
+        out.push(number as u8);
+    } else {
+        out.push(255);
+        out.extend_from_slice(&number.to_le_bytes());
+    }
 }
 
-/// Appends a case and its answer to a list. All numbers are little-endian.
+/// Appends a case and its answer to a list.
+///
+/// A number `n` is one byte below 255, or a byte 255 and then four bytes, the least first.
+/// The pattern has `i * 31 mod 255 + 1` at place `i` of a room.
 ///
 /// ```text
-/// u32  bytes of this case after this field
+/// n    bytes of this case after this number
 /// u8   call: 0 check, 1 console, 2 html, 3 html_strict, 4 markdown, 5 roff,
 ///      6 write, 7 open, 8 close, 9 doc, 10 em_doc, 11 split
-/// u32  width (console), style (write) or block (open, close); else 0
+/// n    width (console), style (write) or block (open, close); else 0
 /// u8   full (console, html, html_strict, markdown); else 0
 /// u8   css (html, html_strict); else 0
-/// u32  room length R
-/// u32  document length D
+/// n    room length R
+/// n    document length D
 /// D    the document; write: the text; doc, em_doc: the document added; split: the body
 /// 6 to 10 only:
-///   u32  length so far
-///   R    the room before the call
+///   n    length so far L (may pass R)
+///   the first L bytes of the room before the call, or R if that is less; the others are the pattern
 /// the answer:
-/// u32  number: 0 accepted, else the refusal
-/// u32  place of a refusal; accepted: length of the text (1 to 5), count of chunks (11), else 0
-/// accepted 1 to 5: the text; the room's other bytes are 0
-/// refused 1 to 5:  nothing; every byte of the room is 0
-/// accepted 6 to 10: u32 new length, then R: the whole room after the call
+/// n    number: 0 accepted, else the refusal
+/// n    place of a refusal; accepted: length of the text (1 to 5), count of chunks (11), else 0
+/// accepted 1 to 5:  the text; the room's other bytes are 0
+/// refused 1 to 5:   nothing; every byte of the room is 0
+/// accepted 6 to 10: n, the new length, and so many bytes; the room's other bytes are the pattern
 /// refused 6 to 10:  nothing; length and room are as before
 /// 11, for each chunk:
 ///   u8   0 raw, 1 paragraph, 2 line break
-///   u32  start in the body; 0xFFFFFFFF for the one space that a line end gives; 0 for tags 1, 2
-///   u32  length in bytes; 0 for tags 1 and 2
-///   u32  width; 0 for tags 1 and 2
+///   n    start in the body; 0xFFFFFFFF for the one space that a line end gives; 0 for tags 1, 2
+///   n    length in bytes; 0 for tags 1 and 2
+///   n    width; 0 for tags 1 and 2
 /// ```
 pub fn list(case: &Case, answer: &Answer, out: &mut Vec<u8>) {
-    let start = out.len();
-    put(out, 0);
+    let mut body = Vec::new();
     let (call, setting, full, css) = header(case.call);
-    out.push(call);
-    put(out, setting);
-    out.extend_from_slice(&[full.into(), css.into()]);
-    put(out, case.room.len() as u64);
-    put(out, case.document.len() as u64);
-    out.extend_from_slice(&case.document);
+    body.push(call);
+    put(&mut body, setting);
+    body.extend_from_slice(&[full.into(), css.into()]);
+    put(&mut body, case.room.len() as u64);
+    put(&mut body, case.document.len() as u64);
+    body.extend_from_slice(&case.document);
     let builds = matches!(case.call, Call::Build(_));
     if builds {
-        put(out, case.length);
-        out.extend_from_slice(&case.room);
+        put(&mut body, case.length);
+        body.extend_from_slice(document_in(&case.room, case.length));
     }
-    put(out, answer.number.into());
-    put(out, answer.at);
+    put(&mut body, answer.number.into());
+    put(&mut body, answer.at);
     if answer.number == 0 && builds {
-        put(out, answer.length);
-        out.extend_from_slice(&answer.room);
+        put(&mut body, answer.length);
+        body.extend_from_slice(document_in(&answer.room, answer.length));
     } else if answer.number == 0 && matches!(case.call, Call::Render(_)) {
-        out.extend_from_slice(&answer.room[..answer.at as usize]);
+        body.extend_from_slice(&answer.room[..answer.at as usize]);
     }
     for chunk in &answer.chunks {
         let (tag, start, len, width) = match *chunk {
@@ -166,18 +174,26 @@ pub fn list(case: &Case, answer: &Answer, out: &mut Vec<u8>) {
             Chunk::Paragraph => (1, 0, 0, 0),
             Chunk::LineBreak => (2, 0, 0, 0),
         };
-        out.push(tag);
-        [start, len as u64, width as u64].into_iter().for_each(|n| put(out, n));
+        body.push(tag);
+        [start, len as u64, width as u64].into_iter().for_each(|n| put(&mut body, n));
     }
-    let size = u32::try_from(out.len() - start - 4).expect("a case is short");
-    out[start..start + 4].copy_from_slice(&size.to_le_bytes());
+    put(out, body.len() as u64);
+    out.extend(body);
+}
+
+/// What a builder's room holds of a document of `length` bytes. The others are the pattern, which a
+/// list leaves out.
+fn document_in(room: &[u8], length: u64) -> &[u8] {
+    let held = length.min(room.len() as u64) as usize;
+    assert!(room[held..].iter().copied().eq(pattern(held, room.len())), "a room holds the pattern");
+    &room[..held]
 }
 
 #[cfg(test)]
 mod tests {
     use super::*;
 
-    /// The list form of three cases, byte for byte.
+    /// The list form of four cases, byte for byte.
     #[test]
     fn list_form() {
         let form = |case: Case| {
@@ -192,33 +208,35 @@ mod tests {
             room: pattern(0, 4).collect(),
             length: 0,
         };
-        let mut expected = vec![39, 0, 0, 0, 1, 2, 0, 0, 0, 1, 0, 4, 0, 0, 0, 9, 0, 0, 0];
+        let mut expected = vec![20, 1, 2, 1, 0, 4, 9];
         expected.extend(&document);
-        expected.extend([0, 0, 0, 0, 3, 0, 0, 0, b'a', b'\n', b'b']);
-        expected[0] = (expected.len() - 4) as u8;
+        expected.extend([0, 3, b'a', b'\n', b'b']);
         assert_eq!(form(case), expected);
 
         let case = Case {
             call: Call::Build(Operation::Close { block: 11 }),
             document: vec![],
-            room: vec![0, 0, 0, 0, 11, 1, 9, 9, 9, 9, 9, 9, 9],
+            room: [0, 0, 0, 0, 11, 1].into_iter().chain(pattern(6, 13)).collect(),
             length: 6,
         };
-        let mut expected = vec![0, 0, 0, 0, 8, 11, 0, 0, 0, 0, 0, 13, 0, 0, 0, 0, 0, 0, 0];
-        expected.extend([6, 0, 0, 0, 0, 0, 0, 0, 11, 1, 9, 9, 9, 9, 9, 9, 9]);
-        expected.extend([0, 0, 0, 0, 0, 0, 0, 0, 12, 0, 0, 0]);
-        expected.extend([0, 0, 0, 0, 11, 1, 0, 0, 0, 0, 11, 2, 9]);
-        expected[0] = (expected.len() - 4) as u8;
+        let mut expected = vec![28, 8, 11, 0, 0, 13, 0, 6, 0, 0, 0, 0, 11, 1];
+        expected.extend([0, 0, 12, 0, 0, 0, 0, 11, 1, 0, 0, 0, 0, 11, 2]);
+        assert_eq!(form(case), expected);
+
+        // numbers over 254, a length that passes the room, and a refusal
+        let case = Case {
+            call: Call::Build(Operation::Doc),
+            document: vec![7],
+            room: pattern(0, 2).collect(),
+            length: 0x0102_0304,
+        };
+        let expected = vec![16, 9, 0, 0, 0, 2, 1, 7, 255, 4, 3, 2, 1, 1, 32, 13, 0];
         assert_eq!(form(case), expected);
 
         let case = Case { call: Call::Split, document: b"a\nb".to_vec(), room: vec![], length: 0 };
-        let mut expected = vec![0, 0, 0, 0, 11, 0, 0, 0, 0, 0, 0, 0, 0, 0, 0, 3, 0, 0, 0];
+        let mut expected = vec![27, 11, 0, 0, 0, 0, 3];
         expected.extend(b"a\nb");
-        expected.extend([0, 0, 0, 0, 3, 0, 0, 0]);
-        expected.extend([0, 0, 0, 0, 0, 1, 0, 0, 0, 1, 0, 0, 0]);
-        expected.extend([0, 255, 255, 255, 255, 1, 0, 0, 0, 1, 0, 0, 0]);
-        expected.extend([0, 2, 0, 0, 0, 1, 0, 0, 0, 1, 0, 0, 0]);
-        expected[0] = (expected.len() - 4) as u8;
+        expected.extend([0, 3, 0, 0, 1, 1, 0, 255, 255, 255, 255, 255, 1, 1, 0, 2, 1, 1]);
         assert_eq!(form(case), expected);
     }
 }

@@ -663,6 +663,11 @@ fn building(rng: &mut Rng, limits: Limits) -> Case {
         6..=7 => Operation::Doc,
         _ => Operation::EmDoc,
     };
+    // what is closed is mostly open
+    let closes = matches!(operation, Operation::Close { .. });
+    if closes && open.is_empty() && !out_of_range && !rng.once_in(3) {
+        put_record(&mut so_far, 0x0100 + block as u16, b"");
+    }
     let mut argument = match operation {
         Operation::Write { .. } => body(rng, palette.ascii).into_bytes(),
         Operation::Doc | Operation::EmDoc => added(rng, palette, limits),

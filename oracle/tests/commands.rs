@@ -61,7 +61,10 @@ fn records_lists() {
         assert_eq!(list, oracle(&arguments, b"").stdout);
         let (mut at, mut cases) = (0, 0);
         while at < list.len() {
-            at += 4 + u32::from_le_bytes(list[at..at + 4].try_into().unwrap()) as usize;
+            at += match list[at] {
+                255 => 5 + u32::from_le_bytes(list[at + 1..at + 5].try_into().unwrap()) as usize,
+                short => 1 + short as usize,
+            };
             cases += 1;
         }
         assert_eq!((at, cases), (list.len(), 50), "{kind}");

@@ -1,84 +1,53 @@
-// Reads a list of calls with the oracle's answers from standard input (its form stands in oracle/src/cases.rs), makes each call and
-// compares, and prints one line with the counts.
+// Reads a list of calls with the oracle's answers from standard input, makes each call and compares, and prints one line with the counts:
+// check, the renderers and the splitter.
 ghost use Prim.Native.Nat.{_<_, _≤_};
-ghost use lib.ListN.{length};
 use console_rules::Settings;
 use document::Checked;
+use recorded::Call;
+use recorded::Next;
 use splitter::Code;
 use splitter::Cursor;
 use splitter::Piece;
 use splitter::Step;
 use walk::Rendered;
 
-fn wide(b: u8) -> usize
-    ensures { λ r. ⌜ r < 256 ⌝ }
-{
-    b as usize
-}
-
-// The byte at a place of a case, 0 past its end.
-fn byte_at(case: &[u8], at: usize) -> u8 {
-    if at < case.len() {
-        return case[at];
-    }
-    0
-}
-
-// The number in the four bytes at a place, the least first; 0 where they are not all there.
-fn number_at(case: &[u8], at: usize) -> usize
-    ensures { λ r. ⌜ r < 0x1_0000_0000 ⌝ }
-{
-    if case.len() <= at {
-        return 0;
-    }
-    if case.len() - at < 4 {
-        return 0;
-    }
-    wide(case[at])
-        + 256 * wide(case[at + 1])
-        + 65536 * wide(case[at + 2])
-        + 16777216 * wide(case[at + 3])
-}
-
-// So many bytes from a place on, or those that are there.
-fn part<'a>(case: &'a [u8], from: usize, n: usize) -> &'a [u8] {
-    let length = case.len();
-    if length <= from {
-        return &case[length..];
-    }
-    if length - from <= n {
-        return &case[from..];
-    }
-    let to = from + n;
-    &case[from..to]
-}
-
-// Whether `check` answers with this number, 0 for accepted, and place.
-fn checks(document: &[u8], number: usize, place: usize) -> bool {
-    let answer = document::check(document);
-    match answer {
-        Checked::Accepted => number == 0,
-        Checked::Refused(a) => {
-            if document::refusal_number(a) as usize != number {
+// Whether `check` answers as a case says.
+fn checks(document: &[u8], answer: &[u8]) -> bool {
+    let number = recorded::number(answer);
+    let place = recorded::number(recorded::past(answer));
+    let checked = document::check(document);
+    match checked {
+        Checked::Accepted => {
+            if number != 0 {
                 return false;
             }
-            document::refusal_place(a) == place
+            place == 0
         }
+        Checked::Refused(a) => recorded::is_refusal(a, number, place),
     }
 }
 
-// Whether a piece of a body is the chunk that is listed at a place: a tag, where it starts, its length and its width.
-fn is_listed(body: &[u8], piece: Piece, case: &[u8], at: usize) -> bool
-    requires { ⌜ at < 0x1_0000_0000_0000 ⌝ }
+// How many bytes the chunk takes that a list begins with: a tag, where it starts, its length and its width.
+fn chunk_size(listed: &[u8]) -> usize
+    ensures { λ r. ⌜ r ≤ 16 ⌝ }
 {
-    let tag = byte_at(case, at);
-    let start = number_at(case, at + 1);
-    let size = number_at(case, at + 5);
-    let width = number_at(case, at + 9);
+    let start = recorded::rest(listed, 1);
+    let length = recorded::past(start);
+    let width = recorded::past(length);
+    1 + recorded::number_size(start) + recorded::number_size(length) + recorded::number_size(width)
+}
+
+// Whether the piece at a place of a body is the chunk that a list begins with.
+fn is_listed(body: &[u8], at: usize, piece: Piece, listed: &[u8]) -> bool {
+    let tag = recorded::byte_or(listed, 0, 255);
+    let numbers = recorded::rest(listed, 1);
+    let start = recorded::number(numbers);
+    let size = recorded::number(recorded::past(numbers));
+    let width = recorded::number(recorded::past(recorded::past(numbers)));
     match piece {
-        Piece::Paragraph => tag == 1,
-        Piece::LineBreak => tag == 2,
-        Piece::Space => is_space(body, tag, start, size, width),
+        Piece::Paragraph => is_mark(1, tag, start, size, width),
+        Piece::LineBreak => is_mark(2, tag, start, size, width),
+        Piece::Space => is_space(body, at, tag, start, size, width),
         Piece::Raw(from, to, w) => {
             if tag != 0 {
                 return false;
@@ -97,8 +66,22 @@ fn is_listed(body: &[u8], piece: Piece, case: &[u8], at: usize) -> bool
     }
 }
 
-// The listed chunk is one space: of a line end, which has no start, or a part of the body.
-fn is_space(body: &[u8], tag: u8, start: usize, size: usize, width: usize) -> bool {
+// The listed chunk is a paragraph or a line break, which have only a tag.
+fn is_mark(expected: u8, tag: u8, start: usize, size: usize, width: usize) -> bool {
+    if tag != expected {
+        return false;
+    }
+    if start != 0 {
+        return false;
+    }
+    if size != 0 {
+        return false;
+    }
+    width == 0
+}
+
+// The listed chunk is one space: a part of the body, or of a line end and without a start.
+fn is_space(body: &[u8], at: usize, tag: u8, start: usize, size: usize, width: usize) -> bool {
     if tag != 0 {
         return false;
     }
@@ -108,53 +91,53 @@ fn is_space(body: &[u8], tag: u8, start: usize, size: usize, width: usize) -> bo
     if width != 1 {
         return false;
     }
-    if start == 0xFFFF_FFFF {
-        return true;
+    if recorded::byte_or(body, at, 0) == b' ' {
+        return start == at;
     }
-    byte_at(body, start) == b' '
+    start == 0xFFFF_FFFF
 }
 
-// Whether a body's chunks are those listed from a place on, so many.
-fn splits(body: &[u8], case: &[u8], from: usize, count: usize) -> bool
-    requires { ⌜ (from < 0x2_0000_0000) × (count < 0x1_0000_0000) ⌝ }
+// Whether a body's chunks are those listed, so many, and the list ends with them.
+fn has_chunks(body: &[u8], listed: &[u8], count: usize) -> bool
+    requires { ⌜ count < 0x1_0000_0000 ⌝ }
 {
     let mut cursor = Cursor {
         at: 0,
         code: Code::No,
     };
     let mut i: usize = 0;
-    let mut at = from;
+    let mut at: usize = 0;
     while i < count {
         let Step::Take(piece, after) = splitter::step_at(body, cursor) else {
             return false;
         };
-        if !is_listed(body, piece, case, at) {
+        if !is_listed(body, cursor.at, piece, recorded::rest(listed, at)) {
             return false;
         }
+        at += chunk_size(recorded::rest(listed, at));
         cursor = after;
         i += 1;
-        at += 13;
     }
     let Step::Take(_, _) = splitter::step_at(body, cursor) else {
-        return true;
+        return at == listed.len();
     };
     false
 }
 
-// A room before a call: no byte is 0.
-fn fill(room: &mut [u8]) {
-    let mut i: usize = 0;
-    while i < room.len() {
-        room[i] = 0xA5;
-        i += 1;
+// Whether the splitter answers as a case says.
+fn splits(body: &[u8], answer: &[u8]) -> bool {
+    if recorded::number(answer) != 0 {
+        return false;
     }
+    let counted = recorded::past(answer);
+    has_chunks(body, recorded::past(counted), recorded::number(counted))
 }
 
 // Whether a room holds a text and then zeros.
 fn holds(room: &[u8], text: &[u8]) -> bool {
     let mut i: usize = 0;
     while i < room.len() {
-        if room[i] != byte_at(text, i) {
+        if room[i] != recorded::byte_or(text, i, 0) {
             return false;
         }
         i += 1;
@@ -162,9 +145,12 @@ fn holds(room: &[u8], text: &[u8]) -> bool {
     text.len() <= room.len()
 }
 
-// Whether an answer has this number, 0 for accepted, and this length or place, and the room holds the text.
-fn is_answer(answer: Rendered, room: &[u8], number: usize, at: usize, text: &[u8]) -> bool {
-    match answer {
+// Whether a renderer's answer has the number, 0 for accepted, and the length or place that a case says, and the room holds the text.
+fn is_rendered(rendered: Rendered, room: &[u8], answer: &[u8]) -> bool {
+    let number = recorded::number(answer);
+    let at = recorded::number(recorded::past(answer));
+    let text = recorded::past(recorded::past(answer));
+    match rendered {
         Rendered::Text(n) => {
             if number != 0 {
                 return false;
@@ -172,102 +158,88 @@ fn is_answer(answer: Rendered, room: &[u8], number: usize, at: usize, text: &[u8
             if n != at {
                 return false;
             }
+            if text.len() != n {
+                return false;
+            }
             holds(room, text)
         }
         Rendered::Refused(a) => {
-            if document::refusal_number(a) as usize != number {
+            if text.len() != 0 {
                 return false;
             }
-            if document::refusal_place(a) != at {
+            if !recorded::is_refusal(a, number, at) {
                 return false;
             }
-            holds(room, part(text, 0, 0))
+            holds(room, text)
         }
     }
 }
 
-// Whether the console answers as a case says, in a room of its size.
-fn renders(
-    case: &[u8],
-    document: &[u8],
-    size: usize,
-    number: usize,
-    at: usize,
-    text: &[u8],
-) -> bool {
+fn render(call: Call, document: &[u8], room: &mut [u8]) -> Rendered {
+    let width = call.setting;
+    let full = call.full;
+    if call.number == 2 {
+        return html::render_html(document, full, call.css, room);
+    }
+    if call.number == 3 {
+        return html::render_html_strict(document, full, call.css, room);
+    }
+    if call.number == 4 {
+        return markdown::render_markdown(document, full, room);
+    }
+    if call.number == 5 {
+        return manpage::render_roff(document, room);
+    }
+    console::render_console(document, Settings { width, full }, room)
+}
+
+// Whether a renderer answers as a case says.
+fn renders(call: Call, document: &[u8], answer: &[u8]) -> bool {
+    let size = call.room;
     let mut space = io::large_buffer();
     if space.len() < size {
         return false;
     }
     let from: usize = 0;
     let room: &mut [u8] = &mut space[from..size];
-    fill(room);
-    let width = number_at(case, 1);
-    let full = byte_at(case, 5) == 1;
-    let answer = console::render_console(document, Settings { width, full }, room);
-    is_answer(answer, room, number, at, text)
+    recorded::fill(room, recorded::part(document, 0));
+    let rendered = render(call, document, room);
+    is_rendered(rendered, room, answer)
 }
 
 // Whether a call answers as its case says.
 fn agrees(case: &[u8]) -> bool {
-    let call = byte_at(case, 0);
-    let size = number_at(case, 11);
-    let document = part(case, 15, size);
-    let answer = 15 + size;
-    let number = number_at(case, answer);
-    let place = number_at(case, answer + 4);
-    if call == 0 {
-        return checks(document, number, place);
+    let call = recorded::call_of(case);
+    let document = recorded::document_of(case);
+    let answer = recorded::answer_of(case);
+    if call.number == 0 {
+        return checks(document, answer);
     }
-    if call == 1 {
-        let text = part(case, answer + 8, place);
-        return renders(case, document, number_at(case, 7), number, place, text);
+    if call.number <= 5 {
+        return renders(call, document, answer);
     }
-    if call == 11 {
-        return splits(document, case, answer + 8, place);
+    if call.number == 11 {
+        return splits(document, answer);
     }
     false
 }
 
-// The next case in a buffer: its length, and that there is one; or that the list ends here, or is faulty.
-enum Next {
-    Case(usize),
-    End,
-    Faulty,
-}
-
-fn next_case(buffer: &mut [u8]) -> Next {
-    let mut head = [0u8; 4];
-    let got = io::read_full(libc::STDIN_FILENO, &mut head);
-    if got == 0 {
-        return Next::End;
-    }
-    if got < 4 {
-        return Next::Faulty;
-    }
-    let n = number_at(&head, 0);
-    if buffer.len() < n {
-        return Next::Faulty;
-    }
-    if io::read_full(libc::STDIN_FILENO, &mut buffer[..n]) < n {
-        return Next::Faulty;
-    }
-    Next::Case(n)
-}
-
-// How many cases there were, how many of them differ, and whether the list was whole.
+// How many calls there were by their number, how many differ, the first that does, and whether the list was whole.
 struct Tally {
-    cases: u64,
+    counts: [u64; 12],
     differences: u64,
+    first: u64,
     whole: bool,
 }
 
 fn replay_all(buffer: &mut [u8]) -> Tally {
+    let mut counts = [0u64; 12];
     let mut cases: u64 = 0;
     let mut differences: u64 = 0;
+    let mut first: u64 = 0;
     let mut whole = true;
     while cases < 1_000_000 {
-        let next = next_case(buffer);
+        let next = recorded::next_case(buffer);
         match next {
             Next::End => {
                 break;
@@ -278,17 +250,33 @@ fn replay_all(buffer: &mut [u8]) -> Tally {
             }
             Next::Case(n) => {
                 cases += 1;
-                if !agrees(part(buffer, 0, n)) {
+                let case = recorded::part(buffer, n);
+                recorded::count(&mut counts, case);
+                if !agrees(case) {
+                    if differences == 0 {
+                        first = cases;
+                    }
                     differences += 1;
                 }
             }
         }
     }
     Tally {
-        cases,
+        counts,
         differences,
+        first,
         whole,
     }
+}
+
+fn print_counts(counts: &[u64; 12]) {
+    recorded::print_count(b"check ", counts[0]);
+    recorded::print_count(b", console ", counts[1]);
+    recorded::print_count(b", html ", counts[2]);
+    recorded::print_count(b", html_strict ", counts[3]);
+    recorded::print_count(b", markdown ", counts[4]);
+    recorded::print_count(b", roff ", counts[5]);
+    recorded::print_count(b", split ", counts[11]);
 }
 
 fn main() {
@@ -298,9 +286,8 @@ fn main() {
         io::write_all(libc::STDOUT_FILENO, b"the list is faulty\n");
         return;
     }
-    io::write_all(libc::STDOUT_FILENO, b"cases ");
-    io::print_decimal(libc::STDOUT_FILENO, tally.cases);
-    io::write_all(libc::STDOUT_FILENO, b" differences ");
-    io::print_decimal(libc::STDOUT_FILENO, tally.differences);
-    io::write_all(libc::STDOUT_FILENO, b"\n");
+    let counts = tally.counts;
+    print_counts(&counts);
+    io::write_all(libc::STDOUT_FILENO, b"; ");
+    recorded::print_differences(tally.differences, tally.first);
 }

@@ -6,10 +6,10 @@ use Rattle.replay.proofs.replay_all.Statement.{statement}
 use Rattle.replay.proofs.replay_all.Tie as tie
 
 abbrev Inv-loop : tie.InvT-loop
-Inv-loop buffer₀ cases₀ differences₀ whole₀ buffer cases differences whole = (length buffer ≡ length buffer₀) × (cases ≤ 1_000_000) × (differences ≤ cases)
+Inv-loop buffer₀ counts₀ cases₀ differences₀ first₀ whole₀ buffer counts cases differences first whole = (length buffer ≡ length buffer₀) × (cases ≤ 1_000_000) × (differences ≤ cases)
 
 abbrev μ-loop : tie.MeasureT-loop
-μ-loop buffer₀ cases₀ differences₀ whole₀ buffer cases differences whole = 1_000_000 - cases
+μ-loop buffer₀ counts₀ cases₀ differences₀ first₀ whole₀ buffer counts cases differences first whole = 1_000_000 - cases
 
 pub replay-all-spec : {M : Type 1} → statement M
 replay-all-spec =
@@ -23,6 +23,7 @@ replay-all-spec =
     (λ c. search needs)
     (λ c. search needs)
     (λ c. search needs)
+    (λ c κs. search needs)
     (λ c κs. search needs)
     (λ c κs. search needs)
     (λ c. search needs)

@@ -3,17 +3,17 @@ use Prim.Native.Nat.{_-_, _≤_}
 use native.Mathlib.Omega.{arith}
 use borrow.Author.Needs.{needs}
 use lib.ListN.{length, length-set}
-use Rattle.replay.proofs.fill.Statement.{statement}
-use Rattle.replay.proofs.fill.Tie as tie
+use Rattle.recorded.proofs.fill.Statement.{statement}
+use Rattle.recorded.proofs.fill.Tie as tie
 
 abbrev Inv-loop : tie.InvT-loop
-Inv-loop room₀ i₀ room i = (length room ≡ length room₀) × (i ≤ length room₀)
+Inv-loop room₀ document i₀ byte₀ room i byte = (length room ≡ length room₀) × (i ≤ length room₀)
 
 abbrev μ-loop : tie.MeasureT-loop
-μ-loop room₀ i₀ room i = length room₀ - i
+μ-loop room₀ document i₀ byte₀ room i byte = length room₀ - i
 
 loop-again : tie.Need-loop-again Inv-loop μ-loop
-loop-again c = (simp length-set (c .before .loop .inv .0), omega arith)
+loop-again c = (simp length-set (c .before .before .before .loop .inv .0), omega arith)
 
 pub fill-spec : {M : Type 1} → statement M
 fill-spec =
@@ -22,7 +22,9 @@ fill-spec =
     Inv-loop
     μ-loop
     (λ c. search needs)
+    (λ c κs. search needs)
     (λ c. search needs)
+    (λ c κs. search needs)
     (λ c. search needs)
     (λ c. search needs)
     loop-again
