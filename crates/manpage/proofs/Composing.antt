@@ -1,11 +1,12 @@
 -- Pushed bytes and control lines, as what a room shows. Assumes nothing.
 use Prim.Native.Nat.{ℕ}
 use mathlib.Core.Path.{_≡_, refl, sym, ap, _∙_}
-use mathlib.Core.Bool.{true, false}
+use mathlib.Core.Bool.{true, false, not, and-false}
 use mathlib.Core.List.{List, [], _∷_}
 use lib.ListN.{length}
 use Rattle.base.specs.Choice.{if_then_else_}
 use Rattle.base.specs.Result.{Result, gives, _>>=_}
+use Rattle.base.proofs.Choice.{pick, if-false}
 use Rattle.base.proofs.Results.{bind-assoc, bind-end}
 use Rattle.utf8.specs.Utf8.{encode, bytes}
 use Rattle.room.specs.Room.{seen, extended}
@@ -48,6 +49,11 @@ module _ (limit : ℕ) (mode : Escape) (kept : List ℕ) (lay : Flags) where
       shown-write (withLay (fresh true)) kept kept lay (fresh true lay) (λ x. refl) limit old new len r (0x0A ∷ []) w
       ∙ sym (shown-then old len kept lay (newLine limit mode) (λ s. write limit (0x0A ∷ []) (withLay (fresh true) s)) (λ x. rw (e, f)))
 
+-- a mode that asks for none
+pub line-unasked : (limit : ℕ) (mode : Escape) (s : State) → atNewline mode ≡ false → newLine limit mode s ≡ gives s
+unfolding newLine
+line-unasked limit mode s e = if-false _ _ (rw e (and-false (not (s .lay .fresh))))
+
 -- Bytes in a mode
 
 module _ (mode : Escape) (x : List ℕ) (kept : List ℕ) (lay : Flags) where
@@ -58,16 +64,15 @@ module _ (mode : Escape) (x : List ℕ) (kept : List ℕ) (lay : Flags) where
       shown-write (withLay (fresh (lineStart mode (lay .fresh) x))) kept kept lay (fresh (lineStart mode (lay .fresh) x) lay) (λ y. refl) (length old) old new len r (escape mode (lay .fresh) x) e
       ∙ shown-then old len kept lay _ (put (length old) mode x) (λ y. refl)
 
-  -- stripped of line ends, or not
-  pub plaintext-strip : (limit : ℕ) (room : List ℕ) (len : ℕ) → lay .strip ≡ true
-      → (shown room len kept lay >>= push limit specialNoNewline x) ≡ (shown room len kept lay >>= plaintext limit x)
-  unfolding plaintext if_then_else_
-  plaintext-strip limit room len e = shown-then room len kept lay _ _ (λ y. rw e)
-
-  pub plaintext-whole : (limit : ℕ) (room : List ℕ) (len : ℕ) → lay .strip ≡ false
-      → (shown room len kept lay >>= push limit special x) ≡ (shown room len kept lay >>= plaintext limit x)
-  unfolding plaintext if_then_else_
-  plaintext-whole limit room len e = shown-then room len kept lay _ _ (λ y. rw e)
+  -- in the mode that is picked for text; no line end goes before it
+  pub plaintext-shown : mode ≡ (if lay .strip then specialNoNewline else special) → (old new : List ℕ) (len r : ℕ)
+      → seen new r ≡ (seen old len >>= extended (length old) (escape mode (lay .fresh) x))
+      → shown new r kept (fresh (lineStart mode (lay .fresh) x) lay) ≡ (shown old len kept lay >>= plaintext (length old) x)
+  unfolding plaintext push _>>=_
+  plaintext-shown e old new len r w =
+      let none : atNewline mode ≡ false = ap atNewline e ∙ pick (λ m. atNewline m ≡ false) (lay .strip) (λ _. refl) (λ _. refl) in
+      put-shown old new len r w
+      ∙ shown-then old len kept lay (put (length old) mode x) (plaintext (length old) x) (λ y. rw (← e, line-unasked (length old) mode (page kept lay y) none) refl)
 
 -- the same bytes
 pub push-same : (limit : ℕ) (mode : Escape) (x y : List ℕ) (s₀ s₁ : Result State) → y ≡ x → s₁ ≡ (s₀ >>= push limit mode x) → s₁ ≡ (s₀ >>= push limit mode y)

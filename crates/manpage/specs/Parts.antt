@@ -1,8 +1,10 @@
 -- What the functions inside this crate promise each other; no rule of 01 stands here.
-use Prim.Native.Nat.{ℕ}
-use mathlib.Core.Bool.{Bool, true, false}
+use Prim.Native.Nat.{ℕ, _+_, _-_, _≤_, _<_}
+use mathlib.Core.Path.{_≡_}
+use mathlib.Core.Bool.{Bool, true, false, not, _&&_, _||_}
 use mathlib.Core.List.{List, [], _∷_, _++_}
 use lib.Dec.{leb, ltb, eqb}
+use lib.ListN.{length, take, drop}
 use Rattle.base.specs.Choice.{if_then_else_}
 use Rattle.base.specs.Result.{Result}
 use Rattle.document.specs.Document.{Token, tokensFrom, index}
@@ -10,8 +12,36 @@ use Rattle.document.specs.declared.Block.{Block}
 use Rattle.document.specs.declared.Kind.{Kind}
 use Rattle.document.specs.declared.Kind.the-variants as kind
 use Rattle.walk.specs.Walk.{shown}
+use Rattle.manpage.specs.declared.escape.Escape.{Escape}
 use Rattle.manpage.specs.declared.roff.Mark.{Mark}
+use Rattle.manpage.specs.Escape.{unescapedAtNewline, spaces, special, specialNoNewline, unescaped}
 use Rattle.manpage.specs.Roff.{State, Flags}
+
+-- a byte that text leaves as it is anywhere but at the start of a line
+unfoldable pub plain : ℕ → Bool
+plain c = not (eqb c 0x0A || eqb c 0x27 || eqb c 0x2D || eqb c 0x5C)
+
+-- bytes that are all plain
+unfoldable pub allPlain : List ℕ → Bool
+allPlain [] = true
+allPlain (c ∷ x) = plain c && allPlain x
+
+-- plain bytes stay as they are here: in text, and not at the start of a line
+abbrev pub plainHere : Escape → Bool → Bool
+plainHere mode true = false
+plainHere unescapedAtNewline false = false
+plainHere spaces false = false
+plainHere special false = true
+plainHere specialNoNewline false = true
+plainHere unescaped false = false
+
+-- The bytes of x from `at` up to `to`, all plain, were copied after the first `len` bytes of a room, which stay; where there are any, they fit.
+pub record Copies (x : List ℕ) (at len : ℕ) (old new : List ℕ) (to : ℕ) : Type 0 where
+  pub order : at ≤ to
+  pub within : at ≤ length x → to ≤ length x
+  pub fits : at < to → len + (to - at) ≤ length old
+  pub copied : take (len + (to - at)) new ≡ take len old ++ take (to - at) (drop at x)
+  pub plains : allPlain (take (to - at) (drop at x)) ≡ true
 
 -- a mark's flags, with capture on or off
 abbrev pub flags : Bool → Mark → Flags

@@ -7,6 +7,7 @@ ghost use Rattle.base.specs.Result.{_>>=_ as bind};
 ghost use Rattle.room.specs.Room.{seen, extended};
 ghost use Rattle.manpage.specs.Escape.{guard, backslash, replaced, specialByte, spacesByte, escapeByte, startsLine, escape, lineStart, spaces};
 ghost use Rattle.manpage.specs.Roff.{upper};
+ghost use Rattle.manpage.specs.Parts.{plain, plainHere, Copies};
 
 // Escaping rules.
 pub enum Escape {
@@ -130,6 +131,87 @@ pub(crate) fn escape_bytes(
     let mut fresh = start;
     let mut i: usize = 0;
     while i < bytes.len() {
+        let c = bytes[i];
+        n = put_byte(room, n, mode, fresh, c);
+        fresh = starts_line(mode, c);
+        i += 1;
+    }
+    Line { len: n, fresh }
+}
+
+// A byte that text leaves as it is, save at the start of a line.
+fn is_plain(c: u8) -> bool
+    ensures { λ r. ⌜ r ≡ plain c ⌝ }
+{
+    match c {
+        b'\n' => false,
+        b'\'' => false,
+        b'-' => false,
+        b'\\' => false,
+        _ => true,
+    }
+}
+
+// Whether plain bytes stay as they are here: in text, and not at the start of a line.
+fn plain_here(mode: Escape, fresh: bool) -> bool
+    ensures { λ r. ⌜ r ≡ plainHere mode fresh ⌝ }
+{
+    if fresh {
+        return false;
+    }
+    match mode {
+        Escape::UnescapedAtNewline => false,
+        Escape::Spaces => false,
+        Escape::Special => true,
+        Escape::SpecialNoNewline => true,
+        Escape::Unescaped => false,
+    }
+}
+
+// Copies the plain bytes from a place on, as many as fit; says where it stopped.
+fn copy_plain(room: &mut [u8], len: usize, bytes: &[u8], at: usize) -> usize
+    ensures { λ r. ⌜ Copies (now (bytes .entry)) at len (now (room .entry)) (now (room .exit)) r ⌝ }
+{
+    let mut i = at;
+    let mut n = len;
+    while i < bytes.len() {
+        let c = bytes[i];
+        if !is_plain(c) {
+            return i;
+        }
+        if room.len() <= n {
+            return i;
+        }
+        room[n] = c;
+        n += 1;
+        i += 1;
+    }
+    i
+}
+
+// Some bytes of text, as `escape_bytes` writes them; most are plain, and those are copied by runs.
+pub(crate) fn escape_text(
+    room: &mut [u8],
+    len: usize,
+    mode: Escape,
+    start: bool,
+    bytes: &[u8],
+) -> Line
+    ensures text { λ r. ⌜ seen (now (room .exit)) (r .len) ≡ bind (seen (now (room .entry)) len) (extended (length (now (room .entry))) (escape mode start (now (bytes .entry)))) ⌝ }
+    ensures line { λ r. ⌜ r .fresh ≡ lineStart mode start (now (bytes .entry)) ⌝ }
+{
+    let mut n = len;
+    let mut fresh = start;
+    let mut i: usize = 0;
+    while i < bytes.len() {
+        if plain_here(mode, fresh) {
+            let k = copy_plain(room, n, bytes, i);
+            n += k - i;
+            i = k;
+            if bytes.len() <= i {
+                return Line { len: n, fresh };
+            }
+        }
         let c = bytes[i];
         n = put_byte(room, n, mode, fresh, c);
         fresh = starts_line(mode, c);

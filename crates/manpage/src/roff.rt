@@ -110,10 +110,16 @@ fn put_font(room: &mut [u8], m: Mark, font: Font) -> Mark
 fn plaintext(room: &mut [u8], m: Mark, bytes: &[u8]) -> Mark
     ensures { λ r. ⌜ ((kept : List ℕ) (capture : Bool) → marked kept capture (now (room .exit)) r ≡ bind (marked kept capture (now (room .entry)) m) (plaintext (length (now (room .entry))) (now (bytes .entry)))) ⌝ }
 {
+    let mut mode = Escape::Special;
     if m.strip {
-        return push_str(room, m, Escape::SpecialNoNewline, bytes);
+        mode = Escape::SpecialNoNewline;
     }
-    push_str(room, m, Escape::Special, bytes)
+    let line = crate::escape::escape_text(room, m.len, mode, m.fresh, bytes);
+    Mark {
+        len: line.len,
+        fresh: line.fresh,
+        strip: m.strip,
+    }
 }
 
 // Text in a font.
