@@ -1,16 +1,17 @@
 -- The steps of a chunk, by the tests that the code makes. Assumes nothing.
 use mathlib.Core.Path.{_≡_, refl, sym, _∙_}
 use mathlib.Core.List.{List, [], _∷_}
+use mathlib.Core.Logic.{⊎-elim}
 use mathlib.Core.Bool.{true, false, _||_, and-false}
 use Prim.Native.Nat.{ℕ, zero, suc, _+_, _-_, _≤_, _<_}
 use native.Mathlib.Omega.{arith}
 use lib.ListN.{length, take, getD, replicate}
-use lib.Dec.{eqb}
+use lib.Dec.{eqb, ltb}
 use borrow.Author.Tests.{le-leb, lt-leb, le-ltb, lt-ltb}
 use Rattle.base.specs.Result.{Result, gives, refused, _>>=_}
 use Rattle.base.specs.Choice.{if_then_else_}
 use Rattle.base.specs.Bytes.{endsWith}
-use Rattle.base.proofs.Choice.{if-true, if-false}
+use Rattle.base.proofs.Choice.{if-true, if-false, le-or-lt}
 use Rattle.utf8.specs.White.{trim}
 use Rattle.room.specs.Room.{seen}
 use Rattle.walk.specs.Walk.{page, withOut, withLay, write, empty, shown}
@@ -80,6 +81,14 @@ module _ (limit : ℕ) (s : State) where
         → put limit margin at x w s ≡ (reach limit margin s >>= λ t. gap2 limit (margin - s .lay .column .0) t >>= place limit x w)
     unfolding put pad
     put-near h = rw (if-false (refused 10 at) (reach limit margin s) (le-ltb 50 (margin - s .lay .column .0) h))
+
+-- the fold test, made without a sum
+pub fold-test : (width used bytes : ℕ) → used ≤ width → ltb (width - used) bytes ≡ ltb width (used + bytes)
+fold-test width used bytes h =
+    ⊎-elim
+    (λ (k : bytes ≤ width - used). le-ltb (width - used) bytes k ∙ sym (le-ltb width (used + bytes) (omega arith)))
+    (λ (k : width - used < bytes). lt-ltb (width - used) bytes k ∙ sym (lt-ltb width (used + bytes) (omega arith)))
+    (le-or-lt bytes (width - used))
 
 pub space-one : (x : List ℕ) → length x ≡ 1 → eqb (getD x 0 0) 0x20 ≡ isSpace x
 unfolding isSpace

@@ -232,11 +232,14 @@ fn bytes_of(text: &[u8]) -> Bytes
 }
 
 // The fold test, the one place where columns and bytes are added.
-fn folds_at(width: usize, column: Columns, bytes: Bytes) -> bool
-    requires { ⌜ column .0 + bytes .0 ≤ 2 ^ 63 ⌝ }
+pub fn folds_at(width: usize, column: Columns, bytes: Bytes) -> bool
     ensures { λ r. ⌜ r ≡ folds width column bytes ⌝ }
 {
-    width < column.0 + bytes.0
+    let used = column.0;
+    if width < used {
+        return true;
+    }
+    width - used < bytes.0
 }
 
 // A chunk of the text record at a place, at a margin.

@@ -115,7 +115,7 @@ module _ (width : ℕ) (x old : List ℕ) (len col at : ℕ) (new : List ℕ) (l
   }
 
   -- a word that fits
-  module _ (h : at′ < w .to) (thin : w .to - at′ ≤ width - col′) (low : col′ < width) where
+  module _ (h : at′ < w .to) (thin : col′ + (w .to - at′) ≤ width) where
     abbrev text : List ℕ
     text = take (w .to - at′) (drop at′ x)
 

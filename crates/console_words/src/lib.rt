@@ -4,6 +4,7 @@ ghost use Prim.Native.Nat.{_<_, _≤_};
 ghost use lib.ListN.{length};
 ghost use Rattle.console_words.specs.Onward.{Onward, Ahead, Moves};
 use console_parts::Mark;
+use console_rules::Bytes;
 use console_rules::Columns;
 use console_rules::Lay;
 use splitter::Code;
@@ -11,7 +12,7 @@ use splitter::Code;
 // How far the text, the column and the walk of a body have come.
 struct Line {
     len: usize,
-    column: usize,
+    column: Columns,
     at: usize,
 }
 
@@ -19,31 +20,38 @@ struct Line {
 fn fill_line(
     room: &mut [u8],
     len: usize,
-    column: usize,
+    column: Columns,
     body: &[u8],
     from: usize,
     width: usize,
 ) -> Line
     requires { ⌜ (0 < len) × (len ≤ length (now room)) ⌝ }
-    ensures { λ r. ⌜ Onward width (now (body .entry)) (now (room .entry)) len column from (now (room .exit)) (r .len) (r .column) (r .at) ⌝ }
+    ensures { λ r. ⌜ Onward width (now (body .entry)) (now (room .entry)) len (column .0) from (now (room .exit)) (r .len) (r .column .0) (r .at) ⌝ }
 {
     let mut len = len;
-    let mut column = column;
+    let mut used = column.0;
     let mut at = from;
-    while column < width {
+    loop {
         let w = words::copy_next(room, len, body, at);
         let n = w.to - at;
         if n == 0 {
-            return Line { len, column, at };
+            return Line {
+                len,
+                column: Columns(used),
+                at,
+            };
         }
-        if width - column < n {
-            return Line { len, column, at };
+        if console_parts::folds_at(width, Columns(used), Bytes(n)) {
+            return Line {
+                len,
+                column: Columns(used),
+                at,
+            };
         }
         len += n;
-        column += w.width;
+        used += w.width;
         at = w.to;
     }
-    Line { len, column, at }
 }
 
 // Whether a word would follow on the line at once: something is written, nothing is due, no column is missing to the margin.
@@ -95,19 +103,22 @@ pub fn put_words(
         return Run { mark: m, at: from };
     }
     let lay = m.lay;
-    let line = fill_line(room, m.len, lay.column.0, body, from, width);
+    let column = lay.column;
+    let line = fill_line(room, m.len, column, body, from, width);
     let at = line.at;
-    let mark = Mark {
-        len: line.len,
-        lay: Lay {
-            column: Columns(line.column),
-            newline: lay.newline,
-            blank: lay.blank,
-            gutter: lay.gutter,
-            skip: lay.skip,
-            gap: lay.gap,
-            passing: lay.passing,
-        },
+    let len = line.len;
+    let column = line.column;
+    let lay = Lay {
+        column,
+        newline: lay.newline,
+        blank: lay.blank,
+        gutter: lay.gutter,
+        skip: lay.skip,
+        gap: lay.gap,
+        passing: lay.passing,
     };
-    Run { mark, at }
+    Run {
+        mark: Mark { len, lay },
+        at,
+    }
 }

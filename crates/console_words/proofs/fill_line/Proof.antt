@@ -1,7 +1,8 @@
-use mathlib.Core.Path.{_∙_}
+use mathlib.Core.Path.{sym, _∙_}
 use Prim.Native.Nat.{_+_, _-_, _≤_}
 use native.Mathlib.Omega.{arith}
 use borrow.Author.Needs.{needs}
+use borrow.Author.Tests.{ltb-false}
 use denote.Ref.{now}
 use lib.ListN.{length}
 use Rattle.console_words.proofs.fill_line.Statement.{statement}
@@ -10,70 +11,63 @@ use Rattle.console_words.specs.Onward.{Onward}
 use Rattle.console_words.proofs.Onward.{onward-start, onward-same, onward-next}
 
 abbrev Inv-loop : tie.InvT-loop
-Inv-loop room₀ len₀ column₀ body from width len₁ column₁ at₀ room len column at = Onward width body room₀ len₀ column₀ from room len column at
+Inv-loop room₀ len body from width len₀ used₀ at₀ room len′ used at = Onward width body room₀ len used₀ from room len′ used at
 
 abbrev μ-loop : tie.MeasureT-loop
-μ-loop room₀ len₀ column₀ body from width len₁ column₁ at₀ room len column at = length body - at
+μ-loop room₀ len body from width len₀ used₀ at₀ room len′ used at = length body - at
 
 loop-holds : tie.Need-loop-holds Inv-loop μ-loop
 loop-holds c =
     let a = c .before .before .args in
-    onward-start (a .width) (now (a .body)) (now (a .room)) (a .len) (a .column) (a .from) (c .before .before .pre .0) (c .before .before .pre .1)
+    onward-start (a .width) (now (a .body)) (now (a .room)) (a .len) (a .column .0) (a .from) (c .before .before .pre .0) (c .before .before .pre .1)
 
 sub-n : tie.Need-sub-n Inv-loop μ-loop
 sub-n c = c .before .before .before .copy-next .ensures .order
 
 same-length : tie.Need-same-length Inv-loop μ-loop
-same-length c = c .before .before .before .before .copy-next .kept .0 ∙ c .before .before .before .before .before .before .before .loop .inv .size
+same-length c = c .before .before .before .before .copy-next .kept .0 ∙ c .before .before .before .before .before .before .loop .inv .size
 
 returns : tie.Need-returns Inv-loop μ-loop
 returns c =
     let g = c .before .before .before .before .copy-next in
-    let l = c .before .before .before .before .before .before .before .loop in
-    let a = c .before .before .before .before .before .before .before .before .before .before .args in
-    onward-same (a .width) (now (a .body)) (now (a .room)) (a .len) (a .column) (a .from) (l .room) (l .len) (l .column) (l .at) (l .inv) (g .last .0) (g .result) (g .ensures) (g .kept .0)
-
-sub-if2 : tie.Need-sub-if2 Inv-loop μ-loop
-sub-if2 c = search needs
+    let l = c .before .before .before .before .before .before .loop in
+    let a = c .before .before .before .before .before .before .before .before .before .args in
+    onward-same (a .width) (now (a .body)) (now (a .room)) (a .len) (a .column .0) (a .from) (l .room) (l .len) (l .used) (l .at) (l .inv) (g .last .0) (g .result) (g .ensures) (g .kept .0)
 
 same-length-2 : tie.Need-same-length-2 Inv-loop μ-loop
-same-length-2 c = c .before .before .before .before .before .copy-next .kept .0 ∙ c .before .before .before .before .before .before .before .before .loop .inv .size
+same-length-2 c = c .before .before .before .before .before .before .copy-next .kept .0 ∙ c .before .before .before .before .before .before .before .before .loop .inv .size
 
 returns-2 : tie.Need-returns-2 Inv-loop μ-loop
 returns-2 c =
-    let g = c .before .before .before .before .before .copy-next in
+    let g = c .before .before .before .before .before .before .copy-next in
     let l = c .before .before .before .before .before .before .before .before .loop in
     let a = c .before .before .before .before .before .before .before .before .before .before .before .args in
-    onward-same (a .width) (now (a .body)) (now (a .room)) (a .len) (a .column) (a .from) (l .room) (l .len) (l .column) (l .at) (l .inv) (g .last .0) (g .result) (g .ensures) (g .kept .0)
+    onward-same (a .width) (now (a .body)) (now (a .room)) (a .len) (a .column .0) (a .from) (l .room) (l .len) (l .used) (l .at) (l .inv) (g .last .0) (g .result) (g .ensures) (g .kept .0)
 
 add-len : tie.Need-add-len Inv-loop μ-loop
 add-len c =
-    let e = c .before .before .before .before .before .copy-next .ensures in
+    let e = c .before .before .before .before .before .before .copy-next .ensures in
     let l = c .before .before .before .before .before .before .before .before .loop in
-    let f : l .len + (c .before .before .before .before .before .copy-next .result .to - l .at) ≤ length (now (c .before .before .before .before .before .before .before .before .before .before .before .args .room)) = omega (arith, e .fits (omega (arith, e .order)), l .inv .size) in
+    let f : l .len + (c .before .before .before .before .before .before .copy-next .result .to - l .at) ≤ length (now (c .before .before .before .before .before .before .before .before .before .before .before .args .room)) = omega (arith, e .fits (omega (arith, e .order)), l .inv .size) in
     search needs
 
-add-column : tie.Need-add-column Inv-loop μ-loop
-add-column c =
-    let e = c .before .before .before .before .before .before .copy-next .ensures in
+add-used : tie.Need-add-used Inv-loop μ-loop
+add-used c =
+    let e = c .before .before .before .before .before .before .before .copy-next .ensures in
     let f = e .narrow (omega (arith, e .order)) in
-    omega (arith, f, c .before .if2 .left, c .before .before .before .before .before .before .before .before .loop-test .taken, c .before .before .before .before .before .before .before .before .before .before .before .before .fits .width)
+    let l = c .before .before .before .before .before .before .before .before .before .loop in
+    let t = ltb-false (c .before .before .before .before .before .before .before .before .before .before .before .before .args .width) (l .used + (c .before .before .before .before .before .before .before .copy-next .result .to - l .at)) (sym (c .before .before .folds-at .ensures) ∙ c .before .if2 .left) in
+    omega (arith, f, t, c .before .before .before .before .before .before .before .before .before .before .before .before .fits .width)
 
 loop-less : tie.Need-loop-less Inv-loop μ-loop
-loop-less c = let e = c .before .before .before .before .before .before .copy-next .ensures in omega (arith, e .order, e .within (omega (arith, e .order)))
+loop-less c = let e = c .before .before .before .before .before .before .before .copy-next .ensures in omega (arith, e .order, e .within (omega (arith, e .order)))
 
 loop-again : tie.Need-loop-again Inv-loop μ-loop
 loop-again c =
-    let g = c .before .before .before .before .before .before .copy-next in
+    let g = c .before .before .before .before .before .before .before .copy-next in
     let l = c .before .before .before .before .before .before .before .before .before .loop in
     let a = c .before .before .before .before .before .before .before .before .before .before .before .before .args in
-    onward-next (a .width) (now (a .body)) (now (a .room)) (a .len) (a .column) (a .from) (l .room) (l .len) (l .column) (l .at) (l .inv) (g .last .0) (g .result) (g .ensures) (g .kept .0) (omega (arith, g .ensures .order)) (c .before .if2 .left) (c .before .before .before .before .before .before .before .before .loop-test .taken)
-
-same-length-3 : tie.Need-same-length-3 Inv-loop μ-loop
-same-length-3 c = c .before .loop .inv .size
-
-returns-3 : tie.Need-returns-3 Inv-loop μ-loop
-returns-3 c = c .before .loop .inv
+    onward-next (a .width) (now (a .body)) (now (a .room)) (a .len) (a .column .0) (a .from) (l .room) (l .len) (l .used) (l .at) (l .inv) (g .last .0) (g .result) (g .ensures) (g .kept .0) (omega (arith, g .ensures .order)) (ltb-false _ _ (sym (c .before .before .folds-at .ensures) ∙ c .before .if2 .left))
 
 pub fill-line-spec : {M : Type 1} → statement M
 fill-line-spec =
@@ -86,12 +80,10 @@ fill-line-spec =
     sub-n
     same-length
     returns
-    sub-if2
+    (λ c κs. search needs)
     same-length-2
     returns-2
     add-len
-    add-column
+    add-used
     loop-less
-    loop-again
-    same-length-3
-    returns-3)
+    loop-again)
