@@ -19,7 +19,7 @@ use Rattle.document.specs.Answers.{part, Read}
 use Rattle.document.specs.declared.Head.{Head}
 use Rattle.document.specs.declared.Style.{Style}
 use Rattle.document.specs.declared.Style.the-variants as style
-use Rattle.document.proofs.Reading.{read-past, read-whole}
+use Rattle.document.proofs.Reading.{fits-room, read-past, read-whole}
 use Rattle.utf8.specs.Utf8.{utf8}
 use Rattle.utf8.proofs.Text.{valid-both}
 use Rattle.splitter.specs.Split.{line}
@@ -30,13 +30,13 @@ use Rattle.buffer.proofs.Titles.{length-text, length-title, length-more
 use Rattle.document.specs.declared.Block.{Block}
 use Rattle.document.specs.declared.Block.the-variants as block
 use Rattle.document.specs.declared.Kind.the-variants as kind
-use Rattle.document.proofs.Tokens.{tokens-step}
+use Rattle.document.proofs.Tokens.{tokens-some, reads-some}
 use Rattle.document.proofs.Opening.{index-small}
 use Rattle.document.proofs.Walks.{openAfter, accept-gives, first-gives, check-gives}
 use Rattle.buffer.specs.Builder.{isText, oneText, written, writes, soFar, fit, add, emphasised, opensBlock, closesBlock, addsAs, addsDoc, addsEmDoc}
 use Rattle.buffer.specs.Text.{joined, textOf}
 use Rattle.buffer.proofs.Pasting.{length-stored}
-use Rattle.buffer.proofs.Records.{Holds, Holds-kind, Holds-size, number-small, reads-text, reads-some, same-size, same-token, same-first, fits-room, size-before, token-before, stored-body, stored-after, reads-before, reads-start, reads-finish}
+use Rattle.buffer.proofs.Records.{Holds, Holds-kind, Holds-size, number-small, reads-text, same-size, same-token, same-first, size-before, token-before, stored-body, stored-after, reads-before, reads-start, reads-finish}
 use Rattle.buffer.proofs.Answering.{soFar-gives}
 use Rattle.buffer.proofs.Nesting.{accept-over, accept-deep}
 use Rattle.buffer.proofs.Adding.{around-shut, around-deep, around-given}
@@ -69,16 +69,12 @@ unfolding textOf
 text-append a b p stack left e =
     joined-anywhere (a ++ b) 0 p 0 ∙ joined-append a b p 0 stack left (omega arith) e ∙ ap (λ (l : List ℕ). l ++ textOf b) (joined-anywhere a p 0 0)
 
-tokens-some : (l : List ℕ) → 1 ≤ length l → tokens 0 0 l ≡ tokenAt 0 l ∷ tokens (0 + (6 + size l)) 0 (drop (6 + size l) l)
-tokens-some [] h = let z : ⊥ = omega arith in absurd z
-tokens-some (b ∷ s) h = tokens-step b s 0
-
 -- of a record, and others after it
 pub text-stored : (k : ℕ) (body rest : List ℕ) → Holds 2 k → Holds 4 (length body) → textOf (stored k body ++ rest) ≡ body ++ textOf rest
 unfolding textOf joined
 text-stored k body rest hk hn =
     let l = stored k body ++ rest in
-    ap joined (tokens-some l (omega (arith, length-append (stored k body) rest, length-stored k body)))
+    ap joined (tokens-some l 0 (omega (arith, length-append (stored k body) rest, length-stored k body)))
     ∙ ap₂ _++_ (stored-body 0 k body rest hk hn) (joined-anywhere _ _ 0 0 ∙ ap (λ (t : List ℕ). joined (tokens 0 0 t)) (stored-after 0 k body rest hk hn))
 
 text-block : (k : ℕ) → k < 65536 → (rest : List ℕ) → textOf (stored k [] ++ rest) ≡ textOf rest

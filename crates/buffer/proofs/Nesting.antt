@@ -19,7 +19,7 @@ use Rattle.document.proofs.Tokens.{nextAt}
 use Rattle.document.proofs.Reading.{read-token}
 use Rattle.document.proofs.Walks.{Sane, Allowed, openAfter, Accepted-at, open-fits, open-whole, open-sane-here, open-allowed, open-next, open-done}
 use Rattle.buffer.specs.Parts.{countAfter, Nests}
-use Rattle.buffer.proofs.Records.{reads-some}
+use Rattle.document.proofs.Tokens.{reads-some}
 
 -- A stack on another
 

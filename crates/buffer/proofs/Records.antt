@@ -22,7 +22,8 @@ use Rattle.document.specs.declared.Block.{Block}
 use Rattle.document.specs.declared.Block.the-variants as block
 use Rattle.document.specs.declared.Kind.{Kind}
 use Rattle.document.specs.declared.Kind.the-variants as kind
-use Rattle.document.proofs.Tokens.{reads-step, reads-stop}
+use Rattle.document.proofs.Reading.{fits-room}
+use Rattle.document.proofs.Tokens.{reads-some}
 use Rattle.document.proofs.Opening.{index-small}
 use Rattle.buffer.proofs.Pasting.{length-stored}
 
@@ -77,22 +78,6 @@ kind-closes block.InlineBlock = refl
 kind-closes block.TermRef = refl
 kind-closes block.Meta = refl
 kind-closes block.Mono = refl
-
--- The first record is checked, and then those from its end on
-
-reads-first : (b : ℕ) (s : List ℕ) (p : ℕ) (stack : List ℕ)
-    → reads p 0 stack (b ∷ s) ≡ (first p stack (b ∷ s) >>= λ after. reads (p + (6 + size (b ∷ s))) 0 after (drop (6 + size (b ∷ s)) (b ∷ s)))
-unfolding _>>=_
-reads-first b s p stack = go (first p stack (b ∷ s)) refl
-  where
-    go : (r : Result (List ℕ)) → first p stack (b ∷ s) ≡ r → reads p 0 stack (b ∷ s) ≡ (r >>= λ after. reads (p + (6 + size (b ∷ s))) 0 after (drop (6 + size (b ∷ s)) (b ∷ s)))
-    go (gives after) e = reads-step b s p stack after e
-    go (refused n q) e = reads-stop b s p stack n q e
-
-pub reads-some : (l : List ℕ) (p : ℕ) (stack : List ℕ) → 1 ≤ length l
-    → reads p 0 stack l ≡ (first p stack l >>= λ after. reads (p + (6 + size l)) 0 after (drop (6 + size l) l))
-reads-some [] p stack h = let z : ⊥ = omega arith in absurd z
-reads-some (b ∷ s) p stack h = reads-first b s p stack
 
 -- A stored record before others
 
@@ -176,12 +161,6 @@ module _ (p : ℕ) (b : Block) (stack : List ℕ) where
   reads-finish = ap (λ (l : List ℕ). reads p 0 stack l) (sym (append-nil (end b))) ∙ reads-closing p b [] stack ∙ bind-end (closes p (index b) stack)
 
 -- Records after others
-
-pub fits-room : (s : List ℕ) → fits s ≡ true → 6 + size s ≤ length s
-unfolding fits
-fits-room s e =
-    let a = leb-true 6 (length s) (and-left (leb 6 (length s)) _ e) in
-    let b = leb-true (size s) (length s - 6) (and-right (leb 6 (length s)) _ e) in omega arith
 
 module _ (p : ℕ) (s b : List ℕ) (e : fits s ≡ true) where
   pub size-before : size (s ++ b) ≡ size s

@@ -19,6 +19,7 @@ use Rattle.document.specs.declared.Kind.{Kind}
 use Rattle.document.specs.declared.Kind.the-variants as kind
 use Rattle.document.proofs.Tokens.{tokens-end}
 use Rattle.walk.specs.Walk.{isStart, isEnd}
+use Rattle.splitter.proofs.Answers.{count-short}
 use Rattle.console_rules.specs.Console.{Terms, termStart, termEnd, term, terms, emptyBlock, gapAhead}
 
 -- A record that was read comes first
@@ -103,13 +104,6 @@ module _ (st : Style) (x : List ℕ) (t : Terms) where
   unfolding term
   text-passed e = rw (if-false (t .counted + characters x) (t .counted) e)
 
--- a character has a byte at least
-pub characters-short : (x : List ℕ) → characters x ≤ length x
-characters-short [] = omega arith
-characters-short (b ∷ x) =
-    let h = characters-short x in
-    pick (λ (n : ℕ). n + characters x ≤ length (b ∷ x)) (leb 0x80 b && leb b 0xBF) (λ e. omega arith) (λ e. omega arith)
-
 -- How far the count goes in a record: the widest stays at most 24, and no more than the body's bytes are counted.
 
 start-bounds : (b : Block) (t : Terms) → ((termStart b t) .widest ≤ t .widest) × ((termStart b t) .counted ≤ t .counted)
@@ -125,7 +119,7 @@ end-bounds b t h = pick (λ (u : Terms). (u .widest ≤ 24) × (u .counted ≤ t
 
 pub term-bounds : (k : Kind) (x : List ℕ) (t : Terms) → t .widest ≤ 24 → ((term k x t) .widest ≤ 24) × ((term k x t) .counted ≤ t .counted + length x)
 unfolding term
-term-bounds (kind.Text st) x t h = (h, pick (λ (c : ℕ). c ≤ t .counted + length x) (t .counting) (λ e. omega (arith, characters-short x)) (λ e. omega arith))
+term-bounds (kind.Text st) x t h = (h, pick (λ (c : ℕ). c ≤ t .counted + length x) (t .counting) (λ e. omega (arith, count-short x)) (λ e. omega arith))
 term-bounds (kind.Start b) x t h = let u = start-bounds b t in (omega (arith, u .0), omega (arith, u .1))
 term-bounds (kind.End b) x t h = let u = end-bounds b t h in (u .0, omega (arith, u .1))
 term-bounds kind.Unknown x t h = (h, omega arith)

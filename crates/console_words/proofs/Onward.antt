@@ -12,7 +12,6 @@ use borrow.Author.Tests.{le-ltb, le-leb, lt-leb}
 use Rattle.base.specs.Result.{Result, gives, _>>=_}
 use Rattle.base.proofs.Choice.{if-false, le-or-lt}
 use Rattle.room.specs.Room.{extended}
-use Rattle.room.proofs.Laws.{extended-in}
 use Rattle.splitter.specs.Split.{Chunk, raw}
 use Rattle.splitter.specs.Answers.{chunksFrom, cursor}
 use Rattle.splitter.specs.declared.Code.{Code}
@@ -25,13 +24,8 @@ use Rattle.console_parts.proofs.Chunks.{line-idle, blank-idle, gap-no, put-near
 use Rattle.console_parts.specs.declared.Mark.{Mark}
 use Rattle.console_words.specs.Onward.{Quiet, onward, Onward, Ready, Ahead, Moves}
 use Rattle.words.specs.Copies.{Copies}
-use Rattle.words.proofs.Follow.{shown-stays, word-follows}
+use Rattle.words.proofs.Follow.{write-in, shown-stays, word-follows}
 use Rattle.words.specs.declared.Word.{Word}
-
--- a text that is written where it fits
-write-in : (limit : ℕ) (x : List ℕ) (s : State) → length (s .out) + length x ≤ limit → write limit x s ≡ gives (page (s .kept) (s .lay) (s .out ++ x))
-unfolding write _>>=_
-write-in limit x s h = rw (extended-in limit x (s .out) h)
 
 -- A chunk that fits on its line, where nothing is due: it is written, and the column goes on by its width.
 module _ (limit margin p : ℕ) (x : List ℕ) (w : ℕ) (kept : List ℕ) (lay : Lay) (out : List ℕ) (q : Quiet margin lay) (h : length out + length x ≤ limit) where

@@ -90,7 +90,8 @@ token-eq {p} e f = λ i. record { place = p; kind = e i; body = f i }
 part-none : (s : List ℕ) (a : ℕ) → part s a a ≡ []
 part-none s a = let e : a - a ≡ 0 = omega arith in rw e
 
-fits-room : (s : List ℕ) → fits s ≡ true → 6 + size s ≤ length s
+-- a record that lies whole in some bytes
+pub fits-room : (s : List ℕ) → fits s ≡ true → 6 + size s ≤ length s
 unfolding fits
 fits-room s e =
     let a = leb-true 6 (length s) (and-left (leb 6 (length s)) _ e) in

@@ -32,7 +32,7 @@ tokens-step b s p =
     let e : p + 1 + (5 + n) ≡ p + (6 + n) = omega arith in
     ap (λ (ts : List Token). tokenAt p (b ∷ s) ∷ ts) (tokens-pass s (p + 1) (5 + n) ∙ ap₂ (λ (k : ℕ) (l : List ℕ). tokens k 0 l) e (sym (drop-past n b s)))
 
-tokens-some : (l : List ℕ) (p : ℕ) → 1 ≤ length l → tokens p 0 l ≡ tokenAt p l ∷ tokens (p + (6 + size l)) 0 (drop (6 + size l) l)
+pub tokens-some : (l : List ℕ) (p : ℕ) → 1 ≤ length l → tokens p 0 l ≡ tokenAt p l ∷ tokens (p + (6 + size l)) 0 (drop (6 + size l) l)
 tokens-some [] p h = let z : ⊥ = omega arith in absurd z
 tokens-some (b ∷ s) p h = tokens-step b s p
 
@@ -44,7 +44,7 @@ reads-pass (b ∷ s) p zero stack = simp add-zero
 reads-pass (b ∷ s) p (suc pass) stack = reads-pass s (p + 1) pass stack ∙ ap (λ (k : ℕ). reads k 0 stack (drop pass s)) (omega arith)
 
 -- the first record is checked, and then those from its end on
-reads-some : (l : List ℕ) (p : ℕ) (stack : List ℕ) → 1 ≤ length l
+pub reads-some : (l : List ℕ) (p : ℕ) (stack : List ℕ) → 1 ≤ length l
     → reads p 0 stack l ≡ (first p stack l >>= λ after. reads (p + (6 + size l)) 0 after (drop (6 + size l) l))
 unfolding reads
 reads-some [] p stack h = let z : ⊥ = omega arith in absurd z

@@ -10,22 +10,16 @@ use borrow.Author.Tests.{ne-eqb, le-ltb}
 use Rattle.base.specs.Result.{Result, gives, _>>=_}
 use Rattle.base.proofs.Choice.{if-false}
 use Rattle.utf8.specs.Utf8.{bytes}
-use Rattle.room.proofs.Laws.{extended-in}
 use Rattle.splitter.specs.Split.{raw}
 use Rattle.splitter.specs.declared.Code.{Code}
 use Rattle.splitter.specs.declared.Code.the-variants as code
 use Rattle.walk.specs.Walk.{page, write, shown}
 use Rattle.words.specs.Copies.{Copies}
 use Rattle.words.specs.declared.Word.{Word}
-use Rattle.words.proofs.Follow.{shown-stays, word-follows}
+use Rattle.words.proofs.Follow.{write-in, shown-stays, word-follows}
 use Rattle.html_rules.specs.Markdown.{State, fenced, wordText, codeStops, rawChunk, chunk}
 use Rattle.html_rules.specs.declared.Markdown.{Markdown}
 use Rattle.markdown.specs.Onward.{onward, Plain, Onward, Ready, Ahead, Moves}
-
--- a text that is written where it fits
-write-in : (limit : ℕ) (x : List ℕ) (s : State) → length (s .out) + length x ≤ limit → write limit x s ≡ gives (page (s .kept) (s .lay) (s .out ++ x))
-unfolding write _>>=_
-write-in limit x s h = rw (extended-in limit x (s .out) h)
 
 -- A word where words go out as they stand.
 module _ (limit : ℕ) (x : List ℕ) (w : ℕ) (kept : List ℕ) (lay : Markdown) (out : List ℕ) (q : Plain lay) (h : length out + length x ≤ limit) (k : w ≤ 32_768) where

@@ -33,7 +33,8 @@ use Rattle.splitter.proofs.Steps.{first-none, first-some, from-moves, n
 adds-most : (b : ℕ) → (if continues b then 0 else 1) ≤ 1
 adds-most b = pick (λ (n : ℕ). n ≤ 1) (continues b) (λ _. omega arith) (λ _. omega arith)
 
-count-short : (s : List ℕ) → characters s ≤ length s
+-- a character has a byte at least
+pub count-short : (s : List ℕ) → characters s ≤ length s
 count-short [] = omega arith
 count-short (b ∷ s) = let h = count-short s in let k = adds-most b in omega arith
 

@@ -12,10 +12,16 @@ use Rattle.base.proofs.Choice.{le-or-lt}
 use Rattle.splitter.specs.Split.{Chunk, raw}
 use Rattle.splitter.specs.Answers.{chunksFrom, cursor}
 use Rattle.splitter.specs.declared.Code.the-variants as code
-use Rattle.walk.specs.Walk.{Page, page, shown, body}
+use Rattle.room.proofs.Laws.{extended-in}
+use Rattle.walk.specs.Walk.{Page, page, write, shown, body}
 use Rattle.walk.proofs.Shown.{shown-in, shown-out}
 
 module _ {L : Type 0} where
+  -- a text that is written where it fits
+  pub write-in : (limit : ℕ) (x : List ℕ) (s : Page L) → length (s .out) + length x ≤ limit → write limit x s ≡ gives (page (s .kept) (s .lay) (s .out ++ x))
+  unfolding write _>>=_
+  write-in limit x s h = rw (extended-in limit x (s .out) h)
+
   -- a room whose bytes up to a length are as they were shows what it showed
   pub shown-stays : (old new : List ℕ) (len : ℕ) → length new ≡ length old → take len new ≡ take len old
       → (kept : List ℕ) (lay : L) → shown new len kept lay ≡ shown old len kept lay

@@ -6,12 +6,13 @@ use borrow.Author.Tests.{eq-eqb, ne-eqb}
 use denote.Ref.{now}
 use Rattle.console_parts.proofs.term_on.Statement.{statement}
 use Rattle.console_parts.proofs.term_on.Tie as tie
+use Rattle.splitter.proofs.Answers.{count-short}
 use Rattle.console_rules.specs.Console.{term}
 use Rattle.console_parts.specs.Counted.{termsOf}
-use Rattle.console_parts.proofs.Scans.{text-counted, text-passed, characters-short}
+use Rattle.console_parts.proofs.Scans.{text-counted, text-passed}
 
 add-r : tie.Need-add-r
-add-r c = omega (arith, c .before .count .ensures, characters-short (now (c .before .before .before .before .before .before .before .args .body)), c .before .before .before .before .before .before .before .pre)
+add-r c = omega (arith, c .before .count .ensures, count-short (now (c .before .before .before .before .before .before .before .args .body)), c .before .before .before .before .before .before .before .pre)
 
 returns : tie.Need-returns
 returns c =
