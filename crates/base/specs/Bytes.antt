@@ -1,9 +1,13 @@
--- Bytes at the start, and at the end, of others.
+-- Bytes out of others, at their start, and at their end.
 use Prim.Native.Nat.{ℕ, _-_}
 use mathlib.Core.Bool.{Bool, true, false, _&&_}
 use mathlib.Core.List.{List, [], _∷_}
 use lib.Dec.{leb, eqb}
-use lib.ListN.{length, drop}
+use lib.ListN.{length, take, drop}
+
+-- the bytes from a place up to another
+abbrev pub part : List ℕ → ℕ → ℕ → List ℕ
+part s a e = take (e - a) (drop a s)
 
 -- s starts with some bytes
 unfoldable pub startsWith : List ℕ → List ℕ → Bool

@@ -9,7 +9,7 @@ use lib.Seq.{length-take-le}
 use native.Mathlib.Omega.{arith}
 use borrow.Author.Tests.{le-leb, lt-leb, leb-true, ltb-false, le-ltb, lt-ltb}
 use Rattle.base.specs.Choice.{if_then_else_}
-use Rattle.base.specs.Result.{Result, gives, refused, _>>=_}
+use Rattle.base.specs.Result.{Result, gives, refused, _>>=_, measured}
 use Rattle.base.proofs.Choice.{if-true, if-false, and-left, same-test}
 use Rattle.base.proofs.Results.{bind-gives, if-gives, else-gives, gives-same}
 use Rattle.document.specs.Document.{number, openBlocks, short}
@@ -21,7 +21,7 @@ use Rattle.document.proofs.Walks.{verdict-gives, verdict-refused}
 use Rattle.utf8.specs.Utf8.{utf8}
 use Rattle.document.specs.declared.Style.{Style}
 use Rattle.buffer.specs.Builder.{written, soFar, fit, writes}
-use Rattle.buffer.specs.Answers.{builtAs, measured, kept}
+use Rattle.buffer.specs.Answers.{builtAs, kept}
 use Rattle.buffer.specs.declared.Built.the-variants as built
 use Rattle.buffer.specs.Parts.{pasted, longer, Accepted, Goes}
 use Rattle.buffer.proofs.Pasting.{kept-pasted, front}

@@ -8,6 +8,7 @@ use lib.Dec.{leb, eqb}
 use lib.ListN.{length, take, drop, length-append}
 use native.Mathlib.Omega.{arith}
 use borrow.Author.Tests.{leb-true, eqb-true}
+use Rattle.base.specs.Bytes.{part}
 use Rattle.base.specs.Result.{Result, gives, refused, _>>=_}
 use Rattle.base.specs.Stack.{pushed, popped}
 use Rattle.base.proofs.Choice.{and-left, and-right, if-true, pick, le-or-lt, eq-or-not}
@@ -15,7 +16,7 @@ use Rattle.base.proofs.Stack.{length-pushed}
 use Rattle.base.proofs.Results.{refused-gives, bind-gives, if-gives, gives-same}
 use Rattle.document.specs.Document.{Token, number, index, size, tokenAt, tokens, bodiless, accept, first, reads, openBlocks, check}
 use Rattle.document.specs.Stored.{stored, text, start, end, around}
-use Rattle.document.specs.Answers.{part, Read}
+use Rattle.document.specs.Answers.{Read}
 use Rattle.document.specs.declared.Head.{Head}
 use Rattle.document.specs.declared.Style.{Style}
 use Rattle.document.specs.declared.Style.the-variants as style

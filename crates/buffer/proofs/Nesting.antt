@@ -6,12 +6,13 @@ use lib.ListN.{length, drop, length-append, length-drop, drop-of-length-le}
 use lib.Seq.{take-append-add, getD-append-add, drop-drop}
 use native.Mathlib.Omega.{arith}
 use borrow.Author.Tests.{le-leb, lt-leb, lt-ltb, le-ltb, eq-eqb}
+use Rattle.base.specs.Bytes.{part}
 use Rattle.base.specs.Result.{Result, gives, refused, _>>=_}
 use Rattle.base.specs.Stack.{top, pushed, popped}
 use Rattle.base.proofs.Choice.{if-true, if-false, and-both}
 use Rattle.base.proofs.Stack.{length-pushed, length-popped}
 use Rattle.document.specs.Document.{Token, index, size, tokenAt, opens, closes, bodiless, accept, first, reads}
-use Rattle.document.specs.Answers.{part, Read}
+use Rattle.document.specs.Answers.{Read}
 use Rattle.document.specs.declared.Kind.{Kind}
 use Rattle.document.specs.declared.Kind.the-variants as kind
 use Rattle.document.specs.declared.Head.{Head}

@@ -22,6 +22,7 @@ use Rattle.document.specs.declared.Block.{Block}
 use Rattle.document.specs.declared.Block.the-variants as block
 use Rattle.document.specs.declared.Kind.{Kind}
 use Rattle.document.specs.declared.Kind.the-variants as kind
+use Rattle.document.proofs.Tables.{kind-style, kind-opens, kind-closes}
 use Rattle.document.proofs.Reading.{fits-room}
 use Rattle.document.proofs.Tokens.{reads-some}
 use Rattle.document.proofs.Opening.{index-small}
@@ -38,46 +39,6 @@ little-bytes : (k n : ℕ) → Holds k n → little (littleBytes k n) ≡ n
 unfolding little littleBytes
 little-bytes zero n e = sym e
 little-bytes (suc k) n e = rw (little-bytes k (n / 256) e) (omega (arith, div-add-mod' n 256))
-
--- Kinds
-
-pub kind-style : (st : Style) → kindOf (number st) ≡ kind.Text st
-unfolding kindOf styles if_then_else_
-kind-style style.Text = refl
-kind-style style.Emphasis = refl
-kind-style style.Literal = refl
-kind-style style.Metavar = refl
-kind-style style.Invalid = refl
-
-pub kind-opens : (b : Block) → kindOf (0x0100 + index b) ≡ kind.Start b
-unfolding kindOf blocks if_then_else_
-kind-opens block.Header = refl
-kind-opens block.Section2 = refl
-kind-opens block.Section3 = refl
-kind-opens block.Section4 = refl
-kind-opens block.ItemTerm = refl
-kind-opens block.ItemBody = refl
-kind-opens block.DefinitionList = refl
-kind-opens block.Block = refl
-kind-opens block.InlineBlock = refl
-kind-opens block.TermRef = refl
-kind-opens block.Meta = refl
-kind-opens block.Mono = refl
-
-pub kind-closes : (b : Block) → kindOf (0x0200 + index b) ≡ kind.End b
-unfolding kindOf blocks if_then_else_
-kind-closes block.Header = refl
-kind-closes block.Section2 = refl
-kind-closes block.Section3 = refl
-kind-closes block.Section4 = refl
-kind-closes block.ItemTerm = refl
-kind-closes block.ItemBody = refl
-kind-closes block.DefinitionList = refl
-kind-closes block.Block = refl
-kind-closes block.InlineBlock = refl
-kind-closes block.TermRef = refl
-kind-closes block.Meta = refl
-kind-closes block.Mono = refl
 
 -- A stored record before others
 

@@ -7,6 +7,7 @@ use lib.ListN.{length, take, drop, getD, length-append, length-drop, take-append
 use lib.Seq.{length-take-le, take-take, drop-drop}
 use native.Mathlib.Omega.{arith}
 use borrow.Author.Tests.{eq-eqb, ne-eqb, eqb-true}
+use Rattle.base.specs.Bytes.{part}
 use Rattle.base.specs.Choice.{if_then_else_}
 use Rattle.base.specs.Result.{gives, refused}
 use Rattle.base.specs.Stack.{pushed}
@@ -19,7 +20,7 @@ use Rattle.utf8.proofs.Laws.{adds-low, one-at}
 use Rattle.splitter.specs.Split.{before, isLineEnd, line}
 use Rattle.splitter.proofs.Before.{before-short, before-take}
 use Rattle.document.specs.Document.{Token, size, tokenAt, reads, check}
-use Rattle.document.specs.Answers.{part, Read}
+use Rattle.document.specs.Answers.{Read}
 use Rattle.document.specs.Stored.{stored, text, start, end, around}
 use Rattle.document.specs.declared.Style.the-variants as style
 use Rattle.document.specs.declared.Block.the-variants as block

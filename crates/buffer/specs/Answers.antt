@@ -12,11 +12,6 @@ abbrev pub builtAs : Built → Result ℕ
 builtAs (built.Length n) = gives n
 builtAs (built.Refused r) = refused (refusalNumber r) (refusalPlace r)
 
--- a document's length, or its refusal
-abbrev pub measured : Result (List ℕ) → Result ℕ
-measured (gives x) = gives (length x)
-measured (refused n p) = refused n p
-
 -- 'Accepted, only the new records and one lengthened last record differ': the document, and beyond it the room's old bytes; a refused
 -- call leaves every byte as it was
 abbrev pub kept : List ℕ → Result (List ℕ) → List ℕ

@@ -5,11 +5,11 @@ use mathlib.Core.Bool.{true}
 use mathlib.Core.List.{List, [], _++_}
 use lib.Dec.{ltb}
 use lib.ListN.{length, take, drop}
+use Rattle.base.specs.Bytes.{part}
 use Rattle.base.specs.Choice.{if_then_else_}
-use Rattle.base.specs.Result.{gives, refused}
+use Rattle.base.specs.Result.{gives, refused, measured}
 use Rattle.document.specs.Document.{number, reads, openBlocks}
 use Rattle.document.specs.Stored.{stored, littleBytes, text, start, end, around}
-use Rattle.document.specs.Answers.{part}
 use Rattle.document.specs.declared.Style.the-variants as style
 use Rattle.utf8.specs.Utf8.{utf8}
 use Rattle.document.specs.declared.Style.{Style}
@@ -17,7 +17,7 @@ use Rattle.document.specs.declared.Kind.{Kind}
 use Rattle.document.specs.declared.Kind.the-variants as kind
 use Rattle.document.specs.declared.Block.the-variants as block
 use Rattle.buffer.specs.Builder.{written, add}
-use Rattle.buffer.specs.Answers.{builtAs, measured, kept}
+use Rattle.buffer.specs.Answers.{builtAs, kept}
 use Rattle.buffer.specs.declared.Built.{Built}
 
 -- the first six bytes of a record

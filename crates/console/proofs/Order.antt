@@ -7,19 +7,19 @@ use lib.Seq.{take-append-seam}
 use native.Mathlib.Omega.{arith}
 use borrow.Author.Tests.{lt-ltb, le-ltb}
 use Rattle.base.specs.Choice.{if_then_else_}
-use Rattle.base.specs.Result.{Result, gives, refused, _>>=_}
+use Rattle.base.specs.Result.{Result, gives, refused, _>>=_, measured}
 use Rattle.utf8.specs.White.{printing}
 use Rattle.document.specs.Document.{tokens, short, check}
 use Rattle.document.specs.Answers.{refusalNumber, refusalPlace}
 use Rattle.document.specs.declared.Refusal.{Refusal}
 use Rattle.room.specs.Room.{padded}
-use Rattle.walk.specs.Rendered.{answered, measured, standing, filled}
+use Rattle.walk.specs.Rendered.{answered, standing, filled}
 use Rattle.walk.specs.declared.Rendered.{Rendered}
 use Rattle.walk.specs.declared.Rendered.the-variants as rendered
-use Rattle.console_rules.specs.Console.{tabstop, narrow, consoleBy, console}
+use Rattle.console_rules.specs.Console.{tabstop, narrow, textBy, consoleBy, console}
 use Rattle.console_rules.specs.declared.Settings.{Settings}
 use Rattle.console_rules.proofs.Printed.{console-prints}
-use Rattle.console.specs.Answers.{textBy, Stands, Demand3}
+use Rattle.console.specs.Answers.{Stands, Demand3}
 
 module _ (set : Settings) (room : ℕ) (s : List ℕ) where
   pub console-long : 32_768 < length s → console set room s ≡ refused 1 0
@@ -36,7 +36,7 @@ module _ (set : Settings) (room : ℕ) (s : List ℕ) where
       unfolding console consoleBy short narrow _>>=_ if_then_else_
       console-refused n p e = rw (le-ltb 32_768 (length s) few, le-ltb 10_000 (set .width) low, e)
 
-      pub console-text : (x : List ℕ) → check s ≡ gives x → console set room s ≡ textBy set room (tabstop (tokens 0 0 s)) s
+      pub console-text : (x : List ℕ) → check s ≡ gives x → console set room s ≡ textBy length set room (tabstop (tokens 0 0 s)) s
       unfolding console consoleBy short narrow _>>=_ if_then_else_
       console-text x e = rw (le-ltb 32_768 (length s) few, le-ltb 10_000 (set .width) low, e)
 
@@ -53,17 +53,14 @@ pub cleared-room : (before here after : List ℕ) (answer : Rendered) (r : Resul
 cleared-room before here after answer r s e f = f ∙ rw (s .same, e)
 
 -- Demand 3 follows from the answer and the room.
-text-of-answer : (answer : Rendered) (n : ℕ) → answered answer ≡ gives n → answer ≡ rendered.Text n
-text-of-answer (rendered.Text m) n e = let z : m ≡ n = cc in ap rendered.Text z
-text-of-answer (rendered.Refused a) n e = let z : _≡_ {A = ℕ} 0 1 = cc in let w : ⊥ = omega arith in absurd w
-
-pub demand3 : (set : Settings) (document before after : List ℕ) (answer : Rendered) → answered answer ≡ measured (console set (length before) document)
+pub demand3 : (set : Settings) (document before after : List ℕ) (answer : Result ℕ)
+    → ((text : List ℕ) → console set (length before) document ≡ gives text → answer ≡ gives (length text))
     → after ≡ filled (length before) (console set (length before) document) → Demand3 set document before after answer
-unfolding measured _>>=_ padded
+unfolding padded
 demand3 set document before after answer a f = record {
   printed = λ full text e.
-      let g : answered answer ≡ gives (length text) = a ∙ rw e in
       let h : after ≡ padded (length before) text = f ∙ rw e in
       let t : take (length text) after ≡ text = ap (take (length text)) h ∙ take-append-seam text _ in
-      (length text, text-of-answer answer (length text) g, t, ap printing t ∙ console-prints set (length before) document text full e .2);
+      let p = console-prints set (length before) document text full e in
+      (length text, a text e, t, p .1, ap printing t ∙ p .2);
 }

@@ -7,12 +7,13 @@ use mathlib.Core.List.{List, []}
 use lib.ListN.{length, take, drop, replicate, length-take, length-replicate, getD-replicate, List·getD-eq-default}
 use native.Mathlib.Omega.{arith}
 use borrow.Author.Tests.{lt-ltb, le-ltb}
+use Rattle.base.specs.Bytes.{part}
 use Rattle.base.specs.Result.{Result, gives, refused, _>>=_}
 use Rattle.base.specs.Stack.{top}
 use Rattle.base.proofs.Choice.{if-true, if-false, le-or-lt}
 use Rattle.base.proofs.Results.{bind-assoc, bind-end}
 use Rattle.document.specs.Document.{tokensFrom, check}
-use Rattle.document.specs.Answers.{Read, part, refusalNumber, refusalPlace}
+use Rattle.document.specs.Answers.{Read, refusalNumber, refusalPlace}
 use Rattle.document.specs.declared.Refusal.{Refusal}
 use Rattle.document.specs.declared.Refusal.the-variants as refusal
 use Rattle.document.specs.declared.Head.{Head}
@@ -31,7 +32,7 @@ use Rattle.walk.specs.declared.Rendered.{Rendered}
 use Rattle.walk.specs.declared.Rendered.the-variants as rendered
 use Rattle.walk.proofs.Shown.{shown-in, shown-out}
 use Rattle.walk.proofs.Leads.{Leads, leads-start, leads-on, leads-out, leads-refused, leads-shown, records, turned, walk-record, walk-end, chunksThen, body-chunk, body-last, body-end}
-use Rattle.console_rules.specs.Console.{State, initial, blankLay, gapAhead, started, ended, chunk, turn, finish}
+use Rattle.console_rules.specs.Console.{State, initial, blankLay, gapAhead, started, ended, chunk, turn, finish, textBy}
 use Rattle.console_rules.specs.declared.Settings.{Settings}
 use Rattle.console_rules.specs.declared.Lay.{Lay}
 use Rattle.console_parts.specs.Shown.{held, told, Near, Nearby, Shallow, Changed}
@@ -40,12 +41,12 @@ use Rattle.console_parts.specs.declared.Placed.the-variants as placed
 use Rattle.console_parts.specs.declared.Mark.{Mark}
 use Rattle.console_parts.proofs.Margins.{top-shallow}
 use Rattle.console_words.specs.Onward.{onward, Moves}
-use Rattle.console.specs.Answers.{textBy, textAfter, Stands}
+use Rattle.console.specs.Answers.{textAfter, Stands}
 
 module _ (document : List ℕ) (set : Settings) (tab limit : ℕ) where
   -- what is left to do after the last record, and from a place on
   abbrev pub ending : State → Result (List ℕ)
-  ending s = finish length set limit s >>= λ t. gives (t .out)
+  ending s = finish limit s >>= λ t. gives (t .out)
 
   abbrev pub rest : ℕ → State → Result (List ℕ)
   rest at s = records (turn length set limit tab) document at s >>= ending
@@ -254,17 +255,17 @@ stand-first document set tab room margins m e f s z y = record {
 }
 
 module _ (document : List ℕ) (set : Settings) (tab limit : ℕ) where
-  text-whole : whole document set tab limit ≡ textBy set limit tab document
-  text-whole = bind-assoc _ (finish length set limit) (λ t. gives (t .out))
+  text-whole : whole document set tab limit ≡ textBy length set limit tab document
+  text-whole = bind-assoc _ (finish limit) (λ t. gives (t .out))
 
   -- a refusal that the rules give
   pub stands-refused : (room : List ℕ) (a : Refusal) → whole document set tab limit ≡ refused (refusalNumber a) (refusalPlace a)
-      → Stands room (rendered.Refused a) (textBy set limit tab document)
+      → Stands room (rendered.Refused a) (textBy length set limit tab document)
   stands-refused room a e = record { same = sym (sym text-whole ∙ e); fits = λ n f. let z : _≡_ {A = ℕ} 0 1 = cc in let w : ⊥ = omega arith in absurd w }
 
   -- what is due at the end has been written
   pub stands-done : (room room′ margins : List ℕ) (count : ℕ) (m : Mark) (at : ℕ) (r : Rendered) → Standing document set tab limit room margins count m at
-      → length document ≤ at → Stands room′ r (textAfter set room (take count margins) m) → Stands room′ r (textBy set limit tab document)
+      → length document ≤ at → Stands room′ r (textAfter room (take count margins) m) → Stands room′ r (textBy length set limit tab document)
   stands-done room room′ margins count m at r w l s = record {
     same = s .same ∙ ap (λ (n : ℕ). held room (take count margins) m >>= ending document set tab n) (w .size) ∙ stand-done document set tab limit room margins count m at w l ∙ text-whole;
     fits = s .fits;
@@ -344,18 +345,18 @@ module _ (document : List ℕ) (set : Settings) (tab limit : ℕ) (room margins 
         (f ∙ ap (λ (n : ℕ). held room′ (take count margins) m′ >>= chunk length set n margin at (chunkOf Body p)) (v .size)) (last (set .full) (chunkOf Body p)) refl
 
 -- The last line end: what stands then, and the answer
-module _ (set : Settings) (room room′ kept : List ℕ) (m m′ : Mark) (e : held room′ kept m′ ≡ (held room kept m >>= finish length set (length room))) (f : length room′ ≡ length room) where
-  finished : (held room′ kept m′ >>= λ t. gives (t .out)) ≡ textAfter set room kept m
-  finished = ap (λ (x : Result State). x >>= λ t. gives (t .out)) e ∙ sym (bind-assoc (held room kept m) (finish length set (length room)) (λ t. gives (t .out)))
+module _ (room room′ kept : List ℕ) (m m′ : Mark) (e : held room′ kept m′ ≡ (held room kept m >>= finish (length room))) (f : length room′ ≡ length room) where
+  finished : (held room′ kept m′ >>= λ t. gives (t .out)) ≡ textAfter room kept m
+  finished = ap (λ (x : Result State). x >>= λ t. gives (t .out)) e ∙ sym (bind-assoc (held room kept m) (finish (length room)) (λ t. gives (t .out)))
 
-  pub finish-over : length room′ < m′ .len → Stands room′ (rendered.Refused refusal.NoRoom) (textAfter set room kept m)
+  pub finish-over : length room′ < m′ .len → Stands room′ (rendered.Refused refusal.NoRoom) (textAfter room kept m)
   unfolding _>>=_
   finish-over h = record {
     same = sym (sym finished ∙ ap (λ (x : Result State). x >>= λ t. gives (t .out)) (shown-out room′ (m′ .len) kept (m′ .lay) h));
     fits = λ n q. let z : _≡_ {A = ℕ} 0 1 = cc in let w : ⊥ = omega arith in absurd w;
   }
 
-  pub finish-text : m′ .len ≤ length room′ → Stands room′ (rendered.Text (m′ .len)) (textAfter set room kept m)
+  pub finish-text : m′ .len ≤ length room′ → Stands room′ (rendered.Text (m′ .len)) (textAfter room kept m)
   unfolding _>>=_
   finish-text h = record {
     same = sym (sym finished ∙ ap (λ (x : Result State). x >>= λ t. gives (t .out)) (shown-in room′ (m′ .len) kept (m′ .lay) h));

@@ -4,26 +4,21 @@ use mathlib.Core.Path.{_≡_}
 use mathlib.Core.Bool.{Bool, true}
 use mathlib.Core.List.{List}
 use lib.ListN.{length, take}
-use Rattle.base.specs.Result.{Result, gives, refused, _>>=_}
+use Rattle.base.specs.Result.{Result, gives, _>>=_}
+use Rattle.utf8.specs.Utf8.{utf8}
 use Rattle.utf8.specs.White.{printing}
-use Rattle.document.specs.Document.{tokens, printingOrder}
-use Rattle.walk.specs.Walk.{walk}
+use Rattle.document.specs.Document.{printingOrder}
 use Rattle.walk.specs.Rendered.{standing}
 use Rattle.walk.specs.declared.Rendered.{Rendered}
 use Rattle.walk.specs.declared.Rendered.the-variants as rendered
-use Rattle.console_rules.specs.Console.{initial, turn, finish, console}
+use Rattle.console_rules.specs.Console.{finish, console}
 use Rattle.console_rules.specs.declared.Settings.{Settings}
 use Rattle.console_parts.specs.Shown.{held}
 use Rattle.console_parts.specs.declared.Mark.{Mark}
 
--- the text of an accepted document, with its tabstop
-abbrev pub textBy : Settings → ℕ → ℕ → List ℕ → Result (List ℕ)
-textBy set room tab document =
-    walk (turn length set room tab) (tokens 0 0 document) initial >>= finish length set room >>= λ s. gives (s .out)
-
 -- what is left to do after the last record with what stands in a room
-abbrev pub textAfter : Settings → List ℕ → List ℕ → Mark → Result (List ℕ)
-textAfter set room kept m = held room kept m >>= λ s. finish length set (length room) s >>= λ t. gives (t .out)
+abbrev pub textAfter : List ℕ → List ℕ → Mark → Result (List ℕ)
+textAfter room kept m = held room kept m >>= λ s. finish (length room) s >>= λ t. gives (t .out)
 
 -- `Doc::monochrome` 'only fixes the width at 100'
 abbrev pub wide : Bool → Settings
@@ -35,7 +30,8 @@ pub record Stands (room : List ℕ) (answer : Rendered) (text : Result (List ℕ
   pub fits : (n : ℕ) → answer ≡ rendered.Text n → n ≤ length room
 
 -- 01: 'Demand 3 is one claim about the whole text ..: with `full` on, where these rules refuse nothing, the room's bytes up to the length
--- are the text that the console rules write, and the printing characters of that text equal the document's printing order.'
-pub record Demand3 (set : Settings) (document before after : List ℕ) (answer : Rendered) : Type 0 where
+-- are the text that the console rules write, and the printing characters of that text equal the document's printing order.' The text is
+-- UTF-8, so that it has characters.
+pub record Demand3 (set : Settings) (document before after : List ℕ) (answer : Result ℕ) : Type 0 where
   pub printed : set .full ≡ true → (text : List ℕ) → console set (length before) document ≡ gives text
-      → (n : ℕ) × (answer ≡ rendered.Text n) × (take n after ≡ text) × (printing (take n after) ≡ printingOrder document)
+      → (n : ℕ) × (answer ≡ gives n) × (take n after ≡ text) × (utf8 text ≡ true) × (printing (take n after) ≡ printingOrder document)

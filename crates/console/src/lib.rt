@@ -3,11 +3,11 @@ ghost use mathlib.Core.Path.{_≡_};
 ghost use mathlib.Core.List.{List, []};
 ghost use Prim.Native.Nat.{ℕ, _≤_};
 ghost use lib.ListN.{length};
-ghost use Rattle.base.specs.Result.{gives};
+ghost use Rattle.base.specs.Result.{gives, measured};
 ghost use Rattle.document.specs.Document.{check};
-ghost use Rattle.walk.specs.Rendered.{answered, measured, filled};
-ghost use Rattle.console_rules.specs.Console.{blankLay, console};
-ghost use Rattle.console.specs.Answers.{textBy, textAfter, Stands, Demand3, wide};
+ghost use Rattle.walk.specs.Rendered.{answered, filled};
+ghost use Rattle.console_rules.specs.Console.{blankLay, textBy, console};
+ghost use Rattle.console.specs.Answers.{textAfter, Stands, Demand3, wide};
 use console_parts::Mark;
 use console_parts::Placed;
 use console_rules::Columns;
@@ -26,7 +26,7 @@ use walk::Skip;
 pub fn monochrome(document: &[u8], full: bool, room: &mut [u8]) -> Rendered
     ensures answer { λ r. ⌜ answered r ≡ measured (console (wide full) (length (now (room .entry))) (now (document .entry))) ⌝ }
     ensures room { λ _. ⌜ now (room .exit) ≡ filled (length (now (room .entry))) (console (wide full) (length (now (room .entry))) (now (document .entry))) ⌝ }
-    ensures demand3 { λ r. ⌜ Demand3 (wide full) (now (document .entry)) (now (room .entry)) (now (room .exit)) r ⌝ }
+    ensures demand3 { λ r. ⌜ Demand3 (wide full) (now (document .entry)) (now (room .entry)) (now (room .exit)) (answered r) ⌝ }
 {
     render_console(document, Settings { width: 100, full }, room)
 }
@@ -35,7 +35,7 @@ pub fn monochrome(document: &[u8], full: bool, room: &mut [u8]) -> Rendered
 pub fn render_console(document: &[u8], set: Settings, room: &mut [u8]) -> Rendered
     ensures answer { λ r. ⌜ answered r ≡ measured (console set (length (now (room .entry))) (now (document .entry))) ⌝ }
     ensures room { λ _. ⌜ now (room .exit) ≡ filled (length (now (room .entry))) (console set (length (now (room .entry))) (now (document .entry))) ⌝ }
-    ensures demand3 { λ r. ⌜ Demand3 set (now (document .entry)) (now (room .entry)) (now (room .exit)) r ⌝ }
+    ensures demand3 { λ r. ⌜ Demand3 set (now (document .entry)) (now (room .entry)) (now (room .exit)) (answered r) ⌝ }
 {
     let answer = rendered(document, set, room);
     walk::clear_after(room, answer);
@@ -81,8 +81,8 @@ fn first_mark() -> Mark
 }
 
 // What is due at the end.
-fn finish(room: &mut [u8], m: Mark, set: Settings) -> Rendered
-    ensures { λ r. ⌜ ((kept : List ℕ) → Stands (now (room .exit)) r (textAfter set (now (room .entry)) kept m)) ⌝ }
+fn finish(room: &mut [u8], m: Mark) -> Rendered
+    ensures { λ r. ⌜ ((kept : List ℕ) → Stands (now (room .exit)) r (textAfter (now (room .entry)) kept m)) ⌝ }
 {
     let a = console_parts::last_line(room, m);
     if room.len() < a.len {
@@ -94,7 +94,7 @@ fn finish(room: &mut [u8], m: Mark, set: Settings) -> Rendered
 // The walk over the records of an accepted document.
 fn text_of(document: &[u8], set: Settings, tab: usize, room: &mut [u8]) -> Rendered
     requires { ⌜ (length (now document) ≤ 32_768) × (tab ≤ 28) × (check (now document) ≡ gives []) ⌝ }
-    ensures { λ r. ⌜ Stands (now (room .exit)) r (textBy set (length (now (room .entry))) tab (now (document .entry))) ⌝ }
+    ensures { λ r. ⌜ Stands (now (room .exit)) r (textBy length set (length (now (room .entry))) tab (now (document .entry))) ⌝ }
 {
     let mut margins: [usize; 32] = [0; 32];
     let mut count: usize = 0;
@@ -167,7 +167,7 @@ fn text_of(document: &[u8], set: Settings, tab: usize, room: &mut [u8]) -> Rende
                             m = p;
                         }
                     }
-                    if console_parts::stops_at(piece, set.full) {
+                    if walk::ends_body(piece, set.full) {
                         continue 'records;
                     }
                     from = after.at;
@@ -176,5 +176,5 @@ fn text_of(document: &[u8], set: Settings, tab: usize, room: &mut [u8]) -> Rende
             }
         }
     }
-    finish(room, m, set)
+    finish(room, m)
 }

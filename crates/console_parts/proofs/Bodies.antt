@@ -72,11 +72,11 @@ module _ (body : List ℕ) where
   piece-narrow LineBreak w = omega arith
 
 -- the last line end
-module _ (set : Settings) (room kept : List ℕ) (m : Mark) where
-  pub last-due : (m .lay .newline || m .lay .blank) ≡ true → (held room kept m >>= write (length room) (0x0A ∷ [])) ≡ (held room kept m >>= finish length set (length room))
+module _ (room kept : List ℕ) (m : Mark) where
+  pub last-due : (m .lay .newline || m .lay .blank) ≡ true → (held room kept m >>= write (length room) (0x0A ∷ [])) ≡ (held room kept m >>= finish (length room))
   unfolding finish
   last-due e = shown-then room (m .len) kept (m .lay) _ _ (λ x. sym (if-true _ _ e))
 
-  pub last-none : (m .lay .newline || m .lay .blank) ≡ false → held room kept m ≡ (held room kept m >>= finish length set (length room))
+  pub last-none : (m .lay .newline || m .lay .blank) ≡ false → held room kept m ≡ (held room kept m >>= finish (length room))
   unfolding finish
   last-none e = sym (bind-end (held room kept m)) ∙ shown-then room (m .len) kept (m .lay) gives _ (λ x. sym (if-false _ _ e))

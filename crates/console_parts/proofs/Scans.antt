@@ -7,11 +7,12 @@ use native.Mathlib.Omega.{arith}
 use lib.Dec.{leb, ltb, eqb}
 use lib.ListN.{length}
 use borrow.Author.Tests.{leb-true, eq-eqb, ne-eqb, lt-ltb, le-ltb, le-leb, lt-leb}
+use Rattle.base.specs.Bytes.{part}
 use Rattle.base.specs.Choice.{if_then_else_}
 use Rattle.base.proofs.Choice.{pick, if-true, if-false, and-right}
 use Rattle.utf8.specs.Utf8.{characters}
 use Rattle.document.specs.Document.{index, tokensFrom}
-use Rattle.document.specs.Answers.{Read, part, tokenOf}
+use Rattle.document.specs.Answers.{Read, tokenOf}
 use Rattle.document.specs.declared.Head.{Head}
 use Rattle.document.specs.declared.Style.{Style}
 use Rattle.document.specs.declared.Block.{Block}

@@ -1,4 +1,5 @@
--- The starts and ends of blocks by their index, in three parts: the backtick, the flags, the margins.
+-- The starts and ends of blocks by their index, in three parts: the backtick, the flags, the margins. No rule of 01 stands here: the
+-- promises are equations with `started` and `ended` of console_rules, and what is quoted says which part of these is meant.
 use Prim.Native.Nat.{ℕ, _+_}
 use mathlib.Core.Bool.{Bool, true, false, _||_}
 use mathlib.Core.List.{List}

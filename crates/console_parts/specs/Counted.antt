@@ -1,4 +1,4 @@
--- The running count of the tabstop, seen as the rules' count.
+-- The running count of the tabstop, seen as the rules' count; no rule of 01 stands here.
 use lib.Dec.{eqb}
 use Rattle.console_rules.specs.Console as rules
 use Rattle.console_parts.specs.declared.Terms.{Terms}

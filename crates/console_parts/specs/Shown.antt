@@ -1,4 +1,4 @@
--- What the code holds, seen as the rules' state.
+-- What the code holds, seen as the rules' state, and bounds of it; no rule of 01 stands here.
 use Prim.Native.Nat.{ℕ, _+_, _≤_, max}
 use mathlib.Core.List.{List}
 use lib.ListN.{getD}
@@ -19,8 +19,8 @@ abbrev pub told : List ℕ → List ℕ → Placed → Result State
 told room kept (At m) = held room kept m
 told room kept (Deep p) = refused 10 p
 
--- What the equations leave open once the room is too small: the column went on by some columns at most, and the skip counter is as it
--- was or 1.
+-- Bounds that hold even once the room is too small, where the equations say nothing of the lay: the column is not past the old one by
+-- more than some columns, and the skip counter is at most the old one or 1.
 abbrev pub Near : ℕ → Lay → Lay → Type 0
 Near n old new = (new .column .0 ≤ old .column .0 + n) × (new .skip ≤ max (old .skip) 1)
 
@@ -32,7 +32,7 @@ Nearby n old (Deep p) = Unit {0}
 pub record Shallow (n : ℕ) (margins : List ℕ) : Type 0 where
   pub each : (i : ℕ) → getD margins i 0 ≤ n
 
--- a block moved the column and the skip counter by one at most, and no margin lies deeper by more than 30
+-- bounds after a block: column and skip counter are at most one past the old ones, and no margin lies deeper by more than 30
 pub record Changed (old new : Lay) (margins margins′ : List ℕ) : Type 0 where
   pub column : new .column .0 ≤ old .column .0 + 1
   pub skip : new .skip ≤ old .skip + 1

@@ -10,10 +10,9 @@ ghost use Rattle.utf8.specs.White.{trim};
 ghost use Rattle.splitter.specs.Split.{paragraph};
 ghost use Rattle.splitter.specs.Answers.{chunkOf, PieceWithin};
 ghost use Rattle.document.specs.Document.{tokens, tokensFrom};
-ghost use Rattle.walk.specs.Walk.{withOut, isStart, isEnd, last};
+ghost use Rattle.walk.specs.Walk.{withOut, isStart, isEnd};
 ghost use Rattle.console_rules.specs.Console.{termStart, termEnd, term, tabstop, emptyBlock, gapAhead, isSpace, folds, column, skip, lineEnd, dueLine, dueBlank, reach, gap2, place, put, tick, rawChunk, chunk, finish};
 ghost use Rattle.console_rules.specs.Console.{started as startedBy, ended as endedBy};
-ghost use Rattle.console_rules.specs.declared.Settings as settings;
 ghost use Rattle.console_parts.specs.Shown.{held, told, Near, Nearby, Shallow, Changed};
 ghost use Rattle.console_parts.specs.Blocks.{tickIf, startLay, endLay, pushes, startMore};
 ghost use Rattle.console_parts.specs.Counted.{termsOf};
@@ -134,7 +133,7 @@ fn reach_margin(room: &mut [u8], m: Mark, margin: usize) -> Mark
     Mark { len, lay }
 }
 
-// Two columns before an item's body that starts past the widest tabstop.
+// At least two columns before an item's body that starts at column 28, the widest tabstop, or past it.
 fn gap_two(room: &mut [u8], m: Mark, padded: usize) -> Mark
     requires { ⌜ m .lay .column .0 ≤ 2 ^ 60 ⌝ }
     ensures { λ r. ⌜ ((kept : List ℕ) → held (now (room .exit)) kept r ≡ bind (held (now (room .entry)) kept m) (gap2 (length (now (room .entry))) padded)) ⌝ }
@@ -589,26 +588,14 @@ pub fn put_piece(
     put_break(room, m, piece, set)
 }
 
-// Whether the walk of a body ends with a chunk.
-pub fn stops_at(piece: Piece, full: bool) -> bool
-    ensures { λ r. ⌜ ((body : List ℕ) → r ≡ last full (chunkOf body piece)) ⌝ }
-{
-    match piece {
-        Piece::Raw(_, _, _) => false,
-        Piece::Space => false,
-        Piece::Paragraph => !full,
-        Piece::LineBreak => false,
-    }
-}
-
 // The last line end.
 pub fn last_line(room: &mut [u8], m: Mark) -> Mark
-    ensures { λ r. ⌜ ((set : settings.Settings) (kept : List ℕ) → held (now (room .exit)) kept r ≡ bind (held (now (room .entry)) kept m) (finish length set (length (now (room .entry))))) ⌝ }
+    ensures { λ r. ⌜ ((kept : List ℕ) → held (now (room .exit)) kept r ≡ bind (held (now (room .entry)) kept m) (finish (length (now (room .entry))))) ⌝ }
 {
     let lay = m.lay;
     if either(lay.newline, lay.blank) {
-        let len = room::put(room, m.len, b'\n');
-        return Mark { len, lay };
+        let end = room::put(room, m.len, b'\n');
+        return Mark { len: end, lay };
     }
     m
 }

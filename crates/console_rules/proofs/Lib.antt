@@ -1,1 +1,2 @@
+pub mod PassedOver
 pub mod Printed

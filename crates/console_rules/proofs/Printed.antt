@@ -193,7 +193,7 @@ module _ (measure : List ℕ → ℕ) (set : Settings) (room : ℕ) where
     turn-shows tab p (kind.End b) y ts x s v h = ended-shows room b p y x s h
     turn-shows tab p kind.Unknown y ts x s v h = same room x s h
 
-    finish-shows : (x : List ℕ) (s : State) → Shows room x s → All (Shows room x) (finish measure set room s)
+    finish-shows : (x : List ℕ) (s : State) → Shows room x s → All (Shows room x) (finish room s)
     unfolding finish
     finish-shows x s h = pick (All (Shows room x)) _ (λ _. write-blank room (0x0A ∷ []) x s line-blank h) (λ _. given h)
 
@@ -210,7 +210,7 @@ consoleBy-prints measure set room s t full e =
     let P : List ℕ → Type 0 = λ x. (length x ≤ room) × (Valid x) × (printing x ≡ order (tokens 0 0 s)) in
     let h : All P (consoleBy measure set room s) =
     all-bind (λ _. Unit {0}) P (short s) _ (always _ tt) λ _ _.
-    all-bind (λ _. Unit {0}) P (narrow measure set room) _ (always _ tt) λ _ _.
+    all-bind (λ _. Unit {0}) P (narrow (set .width)) _ (always _ tt) λ _ _.
     all-bind (λ _. Sanes (tokens 0 0 s)) P _ _ (check-sane s) λ _ v.
     let Q : State → Type 0 = Shows room (order (tokens 0 0 s)) in
     all-bind Q P _ _

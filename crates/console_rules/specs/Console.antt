@@ -1,7 +1,7 @@
 -- The console (01, 'Port order', src/buffer/console.rs): the text of a document for a width, in a room of some bytes.
 use Prim.Native.Nat.{ℕ, _+_, _-_, max}
 use mathlib.Core.Bool.{Bool, true, false, not, _&&_, _||_}
-use mathlib.Core.List.{List, [], _∷_, _++_}
+use mathlib.Core.List.{List, [], _∷_}
 use lib.Dec.{leb, ltb, eqb}
 use lib.ListN.{length, replicate}
 use Rattle.base.specs.Choice.{if_then_else_}
@@ -16,7 +16,7 @@ use Rattle.document.specs.declared.Block.the-variants as block
 use Rattle.document.specs.declared.Kind.{Kind}
 use Rattle.document.specs.declared.Kind.the-variants as kind
 use Rattle.splitter.specs.Split.{Chunk, raw, paragraph, lineBreak, split}
-use Rattle.walk.specs.Walk.{Page, withOut, withKept, withLay, write, empty, skipStart, skipEnd, isStart, isEnd, Turn, walk, body}
+use Rattle.walk.specs.Walk.{Page, withOut, withKept, withLay, write, empty, hides, skipParagraph, skipStart, skipEnd, isStart, isEnd, Turn, walk, body}
 use Rattle.console_rules.specs.declared.Settings.{Settings}
 use Rattle.console_rules.specs.declared.Columns.{Columns}
 use Rattle.console_rules.specs.declared.Bytes.{Bytes}
@@ -126,7 +126,7 @@ module _ (room : ℕ) where
   unfoldable pub dueBlank : State → Result State
   dueBlank s = if s .lay .blank && not (endsWith (0x0A ∷ 0x0A ∷ []) (s .out)) then write room (0x0A ∷ []) s else gives s
 
-  -- at least two columns before an item's body that starts past the widest tabstop, of which some are written
+  -- at least two columns before an item's body that starts at column 28, the widest tabstop, or past it; some are written already
   unfoldable pub gap2 : ℕ → State → Result State
   gap2 written s =
       if s .lay .gutter && leb 28 (s .lay .column .0) && ltb written 2
@@ -188,7 +188,8 @@ module _ (room : ℕ) where
   started tab block.Meta g s = gives s
   started tab block.Mono g s = gives s
 
-  -- an adjacent gap's 'two records are passed over': its Block's margin is pushed and popped again, and no blank line is due
+  -- an adjacent gap's 'two records are passed over': no blank line is due, and its Block's margin, pushed at the start, is popped again
+  -- (the law `passed-over`)
   unfoldable pub ended : Block → State → Result State
   ended block.Header s = gives (outdent s)
   ended block.Section2 s = gives (outdent s)
@@ -202,6 +203,14 @@ module _ (room : ℕ) where
   ended block.TermRef s = tick (outdent s)
   ended block.Meta s = gives (outdent s)
   ended block.Mono s = gives (outdent s)
+
+  -- The end: a line end or a blank line that is still due is one line end.
+  unfoldable pub finish : State → Result State
+  finish s = if s .lay .newline || s .lay .blank then write room (0x0A ∷ []) s else gives s
+
+-- refusal 9: 'width over 10,000 (console)'
+unfoldable pub narrow : ℕ → Result ℕ
+narrow width = if ltb 10_000 width then refused 9 0 else gives width
 
 -- Records. What a chunk counts for in the fold test is left open.
 
@@ -218,35 +227,27 @@ module _ (measure : List ℕ → ℕ) (set : Settings) (room : ℕ) where
   unfoldable pub chunk : ℕ → ℕ → Chunk → State → Result State
   chunk margin p (raw x w) s = rawChunk margin p x w s
   chunk margin p lineBreak s = lineEnd room s
-  chunk margin p paragraph s = lineEnd room s >>= λ s₁. gives (if set .full then s₁ else withLay (skip 1) s₁)
+  chunk margin p paragraph s = lineEnd room s >>= λ s₁. gives (if set .full then s₁ else withLay (λ l. skip (skipParagraph (l .skip)) l) s₁)
 
   -- a record, with the tabstop; text is passed over while the skip counter is over 0
   unfoldable pub turn : ℕ → Turn State
-  turn tab p (kind.Text st) x ts s = if ltb 0 (s .lay .skip) then gives s else body (set .full) (chunk (top (s .kept)) p) (split x) s
+  turn tab p (kind.Text st) x ts s = if hides (s .lay .skip) then gives s else body (set .full) (chunk (top (s .kept)) p) (split x) s
   turn tab p (kind.Start b) x ts s = started room tab b (gapAhead ts) s
   turn tab p (kind.End b) x ts s = ended room b s
   turn tab p kind.Unknown x ts s = gives s
 
-  -- a line end or a blank line that is still due is one line end
-  unfoldable pub finish : State → Result State
-  finish s = if s .lay .newline || s .lay .blank then write room (0x0A ∷ []) s else gives s
-
-  -- refusal 9: 'width over 10,000 (console)'
-  unfoldable pub narrow : Result ℕ
-  narrow = if ltb 10_000 (set .width) then refused 9 0 else gives (set .width)
+  -- the text of a document that is accepted, with its tabstop
+  abbrev pub textBy : ℕ → List ℕ → Result (List ℕ)
+  textBy tab s = walk (turn tab) (tokens 0 0 s) initial >>= finish room >>= λ t. gives (t .out)
 
   -- the text, or the refusal: 'Order: 1, 9, then record by record 2 to 7, then 8; then the first of 10 to 13 that the walk meets'
   unfoldable pub consoleBy : List ℕ → Result (List ℕ)
   consoleBy s =
       short s >>= λ _.
-      narrow >>= λ _.
+      narrow (set .width) >>= λ _.
       check s >>= λ _.
-      walk (turn (tabstop (tokens 0 0 s))) (tokens 0 0 s) initial >>= finish >>= λ st.
-      gives (st .out)
+      textBy (tabstop (tokens 0 0 s)) s
 
 -- the crate's own measure: bytes
 unfoldable pub console : Settings → ℕ → List ℕ → Result (List ℕ)
 console set room s = consoleBy length set room s
-
--- 'the whole of demand 3': with `full` on, where the rules refuse nothing, the room's bytes up to the length are the text that the
--- console rules write, and its printing characters are the document's printing order

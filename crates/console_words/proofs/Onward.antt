@@ -4,27 +4,28 @@ use mathlib.Core.Path.{_≡_, refl, sym, ap, _∙_}
 use mathlib.Core.Bool.{Bool, true, false, false≢true}
 use mathlib.Core.Logic.{⊎-elim}
 use mathlib.Core.List.{List, [], _∷_, _++_, append-nil}
-use lib.ListN.{length, take, drop, length-drop}
+use lib.ListN.{length, take}
 use lib.Seq.{length-take-le}
 use native.Mathlib.Omega.{arith}
 use lib.Dec.{leb}
 use borrow.Author.Tests.{le-ltb, le-leb, lt-leb}
-use Rattle.base.specs.Result.{Result, gives, _>>=_}
+use Rattle.base.specs.Bytes.{part}
+use Rattle.base.specs.Result.{gives, _>>=_}
 use Rattle.base.proofs.Choice.{if-false, le-or-lt}
 use Rattle.room.specs.Room.{extended}
-use Rattle.splitter.specs.Split.{Chunk, raw}
-use Rattle.splitter.specs.Answers.{chunksFrom, cursor}
+use Rattle.splitter.specs.Split.{raw}
 use Rattle.splitter.specs.declared.Code.{Code}
 use Rattle.splitter.specs.declared.Code.the-variants as code
-use Rattle.walk.specs.Walk.{page, write, withLay, empty, shown, body}
+use Rattle.walk.specs.Walk.{page, write, withLay, empty}
 use Rattle.console_rules.specs.Console.{State, column, settled, reach, gap2, place, put, rawChunk, chunk, dueLine, dueBlank, folds}
 use Rattle.console_rules.specs.declared.Settings.{Settings}
 use Rattle.console_rules.specs.declared.Lay.{Lay}
 use Rattle.console_parts.proofs.Chunks.{line-idle, blank-idle, gap-no, put-near, empty-some}
 use Rattle.console_parts.specs.declared.Mark.{Mark}
-use Rattle.console_words.specs.Onward.{Quiet, onward, Onward, Ready, Ahead, Moves}
+use Rattle.console_words.specs.Onward.{Quiet, Task, fullOf, ruleOf, Plain, Onward, Ready, Ahead, Moves}
 use Rattle.words.specs.Copies.{Copies}
-use Rattle.words.proofs.Follow.{write-in, shown-stays, word-follows}
+use Rattle.words.proofs.Follow.{write-in}
+use Rattle.words.proofs.Onward.{onward-start as words-start, onward-same as words-same, onward-next as words-next, word-length}
 use Rattle.words.specs.declared.Word.{Word}
 
 -- A chunk that fits on its line, where nothing is due: it is written, and the column goes on by its width.
@@ -64,32 +65,18 @@ module _ (limit margin p : ℕ) (x : List ℕ) (w : ℕ) (kept : List ℕ) (lay 
       ∙ rw (line-idle limit here (rw (q .newline, q .blank)), blank-idle limit here (q .blank))
       (if-false _ _ (le-ltb (set .width) (lay .column .0 + length x) k) ∙ put-there)
 
--- The next chunk of a body is a text that fits: the chunks after it give what all gave.
-module _ (x old new text : List ℕ) (len col at to w k width : ℕ) (size : length new ≡ length old) (some : 0 < len) (long : length text ≡ k)
-    (fits : len + k ≤ length old) (thin : col + k ≤ width) (copied : take (len + k) new ≡ take len old ++ text)
-    (next : chunksFrom x (cursor at code.No) ≡ raw text w ∷ chunksFrom x (cursor to code.No)) where
-  one-on : (set : Settings) (margin p : ℕ) (kept : List ℕ) (lay : Lay) → set .width ≡ width → Quiet margin lay → lay .column .0 ≡ col
-      → (shown new (len + k) kept (column (col + w) lay) >>= onward set (length old) margin p x to code.No)
-      ≡ (shown old len kept lay >>= onward set (length old) margin p x at code.No)
-  unfolding chunk
-  one-on set margin p kept lay e q c =
-      let n : length (take len old) ≡ len = length-take-le len old (omega arith) in
-      word-follows (set .full) (chunk length set (length old) margin p) x old new text len k at to w kept lay (column (col + w) lay) size fits copied next
-      (raw-there (length old) margin p text w kept lay (take len old) q (omega arith) set (empty-some old len (λ z. omega arith) (omega arith)) (omega arith)
-      ∙ ap (λ (d : ℕ). gives (page kept (column (d + w) lay) (take len old ++ text))) c)
-
 -- One word after another.
+
+column-same : (col : ℕ) (lay : Lay) → lay .column .0 ≡ col → column col lay ≡ lay
+column-same col lay e = rw (← e) refl
 
 pub onward-start : (width : ℕ) (x old : List ℕ) (len col at : ℕ) → 0 < len → len ≤ length old → Onward width x old len col at old len col at
 onward-start width x old len col at h k = record {
-  size = refl;
   some = h;
   inside = k;
-  order = omega arith;
-  within = λ l. l;
   grows = omega arith;
   near = omega arith;
-  same = λ set margin p kept lay e q c. rw (← c) refl;
+  words = words-start fullOf ruleOf (Plain width col) x old len at (column col) (λ t lay p. column-same col lay (p .here));
 }
 
 module _ (width : ℕ) (x old : List ℕ) (len col at : ℕ) (new : List ℕ) (len′ col′ at′ : ℕ) (o : Onward width x old len col at new len′ col′ at′)
@@ -97,41 +84,39 @@ module _ (width : ℕ) (x old : List ℕ) (len col at : ℕ) (new : List ℕ) (l
   -- a word that does not count
   pub onward-same : Onward width x old len col at new′ len′ col′ at′
   onward-same = record {
-    size = size ∙ o .size;
     some = o .some;
     inside = o .inside;
-    order = o .order;
-    within = o .within;
     grows = o .grows;
     near = o .near;
-    same = λ set margin p kept lay e q d.
-        ap (λ (r : Result State). r >>= onward set (length old) margin p x at′ code.No) (shown-stays new new′ len′ size (c .stays) kept (column col′ lay)) ∙ o .same set margin p kept lay e q d;
+    words = words-same fullOf ruleOf (Plain width col) x old len at (column col′) new len′ at′ (o .words) new′ w c size;
   }
 
   -- a word that fits
   module _ (h : at′ < w .to) (thin : col′ + (w .to - at′) ≤ width) where
     abbrev text : List ℕ
-    text = take (w .to - at′) (drop at′ x)
+    text = part x at′ (w .to)
 
     long : length text ≡ w .to - at′
-    long = length-take-le (w .to - at′) (drop at′ x) (omega (arith, length-drop at′ x, c .within h))
+    long = word-length fullOf ruleOf (Plain width col) x old len at (column col′) new len′ at′ (o .words) new′ w c size h
 
     quiet-on : (margin : ℕ) (lay : Lay) → Quiet margin lay → lay .column .0 ≡ col → Quiet margin (column col′ lay)
     quiet-on margin lay q d = record { newline = q .newline; blank = q .blank; gutter = q .gutter; reached = omega (arith, q .reached, o .grows) }
 
+    word-there : (t : Task) (kept : List ℕ) (lay : Lay) → Plain width col t lay
+        → ruleOf t (length new) (raw text (w .width)) (page kept (column col′ lay) (take len′ new)) ≡ gives (page kept (column (col′ + w .width) lay) (take len′ new ++ text))
+    unfolding chunk
+    word-there t kept lay p =
+        let n : length (take len′ new) ≡ len′ = length-take-le len′ new (omega (arith, c .fits h)) in
+        raw-there (length new) (t .margin) (t .place) text (w .width) kept (column col′ lay) (take len′ new) (quiet-on (t .margin) lay (p .quiet) (p .here)) (omega (arith, c .fits h, long)) (t .set)
+        (empty-some new len′ (λ z. omega (arith, o .some)) (omega (arith, c .fits h))) (omega (arith, long, p .wide))
+
     pub onward-next : Onward width x old len col at new′ (len′ + (w .to - at′)) (col′ + w .width) (w .to)
     onward-next = record {
-      size = size ∙ o .size;
       some = omega (arith, o .some);
-      inside = omega (arith, c .fits h, o .size);
-      order = omega (arith, o .order);
-      within = λ l. omega (arith, c .within h);
+      inside = omega (arith, c .fits h, o .words .size);
       grows = omega (arith, o .grows);
-      near = omega (arith, o .near, o .order, c .narrow h);
-      same = λ set margin p kept lay e q d.
-          rw (← o .size)
-          (one-on x new new′ text len′ col′ at′ (w .to) (w .width) (w .to - at′) width size (o .some) long (c .fits h) (omega arith) (c .copied h) (c .next h) set margin p kept (column col′ lay) e (quiet-on margin lay q d) refl
-          ∙ rw (o .size) (o .same set margin p kept lay e q d));
+      near = omega (arith, o .near, o .words .order, c .narrow h);
+      words = words-next fullOf ruleOf (Plain width col) x old len at (column col′) new len′ at′ (o .words) new′ w c size h (column (col′ + w .width)) word-there;
     }
 
 -- Where a word would follow at once.
@@ -158,9 +143,11 @@ module _ (width margin : ℕ) (x : List ℕ) (c : Code) (old : List ℕ) (m : Ma
   pub moves-on : Ready old m margin c → (new : List ℕ) (len col at′ : ℕ) → Onward width x old (m .len) (m .lay .column .0) at new len col at′
       → Moves width margin x c old m at new (record { len = len; lay = column col (m .lay) }) at′
   moves-on r new len col at′ o = record {
-    order = o .order;
-    within = o .within;
+    order = o .words .order;
+    within = o .words .within;
     near = o .near;
     skip = refl;
-    same = λ set p kept e. rw (r .outside) (o .same set margin p kept (m .lay) e (r .quiet) refl);
+    same = λ set p kept e.
+        rw (r .outside)
+        (o .words .same (record { set = set; margin = margin; place = p }) kept (m .lay) (record { wide = e; quiet = r .quiet; here = refl }));
   }

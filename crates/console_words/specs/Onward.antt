@@ -5,10 +5,12 @@ use mathlib.Core.Bool.{Bool, true, false}
 use mathlib.Core.List.{List}
 use lib.ListN.{length}
 use Rattle.base.specs.Result.{Result, _>>=_}
+use Rattle.splitter.specs.Split.{Chunk}
 use Rattle.splitter.specs.Answers.{chunksFrom, cursor}
 use Rattle.splitter.specs.declared.Code.{Code}
 use Rattle.splitter.specs.declared.Code.the-variants as code
-use Rattle.walk.specs.Walk.{shown, body}
+use Rattle.walk.specs.Walk.{body}
+use Rattle.words.specs.Onward as words
 use Rattle.console_rules.specs.Console.{State, column, chunk}
 use Rattle.console_rules.specs.declared.Settings.{Settings}
 use Rattle.console_rules.specs.declared.Lay.{Lay}
@@ -26,18 +28,31 @@ pub record Quiet (margin : ℕ) (l : Lay) : Type 0 where
   pub gutter : l .gutter ≡ false
   pub reached : margin ≤ l .column .0
 
--- Where nothing is due, the chunks from one place on give what those from another do, with the text and the column as they are there.
+-- what the console is asked for at a chunk: the settings, the margin, the place of the text record
+pub record Task : Type 0 where
+  pub set : Settings
+  pub margin : ℕ
+  pub place : ℕ
+
+abbrev pub fullOf : Task → Bool
+fullOf t = t .set .full
+
+abbrev pub ruleOf : Task → ℕ → Chunk → State → Result State
+ruleOf t limit = chunk length (t .set) limit (t .margin) (t .place)
+
+-- nothing is due at a width, and this is the column
+pub record Plain (width col : ℕ) (t : Task) (l : Lay) : Type 0 where
+  pub wide : t .set .width ≡ width
+  pub quiet : Quiet (t .margin) l
+  pub here : l .column .0 ≡ col
+
+-- Words went on from one place to another, and the column with them.
 pub record Onward (width : ℕ) (x : List ℕ) (old : List ℕ) (len col at : ℕ) (new : List ℕ) (len′ col′ at′ : ℕ) : Type 0 where
-  pub size : length new ≡ length old
   pub some : 0 < len′
   pub inside : len′ ≤ length old
-  pub order : at ≤ at′
-  pub within : at ≤ length x + 1 → at′ ≤ length x + 1
   pub grows : col ≤ col′
   pub near : col′ ≤ col + (at′ - at)
-  pub same : (set : Settings) (margin place : ℕ) (kept : List ℕ) (lay : Lay) → set .width ≡ width → Quiet margin lay → lay .column .0 ≡ col
-      → (shown new len′ kept (column col′ lay) >>= onward set (length old) margin place x at′ code.No)
-      ≡ (shown old len kept lay >>= onward set (length old) margin place x at code.No)
+  pub words : words.Onward fullOf ruleOf (Plain width col) (column col′) x old len at new len′ at′
 
 -- a word would follow at once
 pub record Ready (room : List ℕ) (m : Mark) (margin : ℕ) (c : Code) : Type 0 where

@@ -1,4 +1,5 @@
 pub mod Tokens
+pub mod Tables
 pub mod Reading
 pub mod Opening
 pub mod Walks

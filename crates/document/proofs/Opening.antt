@@ -8,12 +8,13 @@ use lib.ListN.{length, take, drop, getD, set, length-drop}
 use lib.Seq.{length-take-le, drop-cons}
 use native.Mathlib.Omega.{arith}
 use borrow.Author.Tests.{le-leb, lt-leb, le-ltb, lt-ltb, eq-eqb, ne-eqb}
+use Rattle.base.specs.Bytes.{part}
 use Rattle.base.specs.Choice.{if_then_else_}
 use Rattle.base.specs.Result.{Result, gives, refused, _>>=_}
 use Rattle.base.proofs.Stack.{push-take, pop-take, top-take}
 use Rattle.utf8.specs.Utf8.{utf8}
 use Rattle.document.specs.Document.{Token, little, index, size, fits, opens, closes, bodiless, accept, first, reads, openBlocks, short, closed, check}
-use Rattle.document.specs.Answers.{refusalNumber, refusalPlace, openedAs, part, Read}
+use Rattle.document.specs.Answers.{refusalNumber, refusalPlace, openedAs, Read}
 use Rattle.document.specs.Parts.{turnAs, depthOf}
 use Rattle.document.specs.declared.Head.{Head}
 use Rattle.document.specs.declared.Turn.{Turn}

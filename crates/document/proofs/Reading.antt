@@ -9,10 +9,11 @@ use lib.Seq.{drop-drop, getD-drop, take-all, take-nil}
 use native.Mathlib.Omega.{arith}
 use native.Mathlib.Nat.{le-refl, add-zero}
 use borrow.Author.Tests.{lt-ltb, le-ltb, le-leb, lt-leb, leb-true}
+use Rattle.base.specs.Bytes.{part}
 use Rattle.base.specs.Choice.{if_then_else_}
 use Rattle.base.proofs.Choice.{and-left, and-right, if-true, if-false}
 use Rattle.document.specs.Document.{Token, little, styles, blocks, kindOf, size, tokenAt, tokensFrom, fits}
-use Rattle.document.specs.Answers.{part, tokenOf, Read}
+use Rattle.document.specs.Answers.{tokenOf, Read}
 use Rattle.document.specs.declared.Kind.{Kind}
 use Rattle.document.specs.declared.Kind.the-variants as kind
 use Rattle.document.specs.declared.Block.{Block}

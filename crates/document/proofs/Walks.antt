@@ -9,13 +9,14 @@ use lib.ListN.{length, take, drop, getD, set}
 use lib.Seq.{length-take-le}
 use native.Mathlib.Omega.{arith}
 use borrow.Author.Tests.{leb-true, leb-false, ltb-false, eqb-true}
+use Rattle.base.specs.Bytes.{part}
 use Rattle.base.specs.Result.{Result, gives, refused}
 use Rattle.base.specs.Stack.{top, pushed, popped}
 use Rattle.base.proofs.Choice.{and-left, and-right}
 use Rattle.base.proofs.Stack.{length-pushed, length-popped, push-take, pop-take, top-take}
 use Rattle.utf8.proofs.Text.{Valid}
 use Rattle.document.specs.Document.{Token, index, size, tokenAt, tokens, fits, opens, closes, bodiless, accept, first, reads, openBlocks, short, closed, check}
-use Rattle.document.specs.Answers.{refusalNumber, refusalPlace, verdictOf, part, Read}
+use Rattle.document.specs.Answers.{refusalNumber, refusalPlace, verdictOf, Read}
 use Rattle.document.specs.declared.Kind.{Kind}
 use Rattle.document.specs.declared.Kind.the-variants as kind
 use Rattle.document.specs.declared.Style.{Style}

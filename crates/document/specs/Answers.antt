@@ -6,6 +6,7 @@ use mathlib.Core.List.{List, [], _∷_}
 use lib.Dec.{ltb}
 use lib.ListN.{length, take, drop}
 use Rattle.base.specs.Choice.{if_then_else_}
+use Rattle.base.specs.Bytes.{part}
 use Rattle.base.specs.Result.{Result, gives, refused}
 use Rattle.document.specs.Document.{Token, tokensFrom, fits, size}
 use Rattle.document.specs.declared.Kind.the-variants as kind
@@ -32,7 +33,7 @@ refusalNumber (refusal.NoForm p) = 11
 refusalNumber (refusal.HeadingNotAscii p) = 12
 refusalNumber refusal.NoRoom = 13
 
--- its place: 'the start of the record .., the document's length for 8, and 0 for 1, 9 and 13'
+-- the place that it carries; '0 for 1, 9 and 13', which carry none. What the others carry is said where they are given (`first`, `closed`).
 abbrev pub refusalPlace : Refusal → ℕ
 refusalPlace refusal.TooLong = 0
 refusalPlace (refusal.CutShort p) = p
@@ -57,10 +58,6 @@ module _ {A : Type 0} where
 -- the open blocks of a document, or its refusal
 abbrev pub openedAs : Opened → Result (List ℕ)
 openedAs o = verdictOf (o .verdict) (take (o .depth) (o .stack))
-
--- the bytes between two places
-abbrev pub part : List ℕ → ℕ → ℕ → List ℕ
-part s a e = take (e - a) (drop a s)
 
 -- the record that a head tells of
 abbrev pub tokenOf : List ℕ → ℕ → Head → Token

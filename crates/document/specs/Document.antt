@@ -31,7 +31,7 @@ blocks =
     block.Header ∷ block.Section2 ∷ block.Section3 ∷ block.Section4 ∷ block.ItemTerm ∷ block.ItemBody ∷ block.DefinitionList
     ∷ block.Block ∷ block.InlineBlock ∷ block.TermRef ∷ block.Meta ∷ block.Mono ∷ []
 
--- a style's kind, and a block's index
+-- a style's kind, and a block's index: its place in the list (the laws `kind-style`, `kind-opens`, `kind-closes`)
 abbrev pub number : Style → ℕ
 number style.Text = 0x0001
 number style.Emphasis = 0x0002

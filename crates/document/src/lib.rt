@@ -4,7 +4,8 @@ ghost use mathlib.Core.List.{[]};
 ghost use Prim.Native.Nat.{ℕ, _+_, _<_, _≤_, _^_};
 ghost use lib.ListN.{length, take, drop, getD};
 ghost use Rattle.document.specs.Document.{little, styles, blocks, number, index, kindOf, fits, opens, closes, accept, openBlocks, check};
-ghost use Rattle.document.specs.Answers.{refusalNumber, refusalPlace, verdictOf, openedAs, part, Read};
+ghost use Rattle.base.specs.Bytes.{part};
+ghost use Rattle.document.specs.Answers.{refusalNumber, refusalPlace, verdictOf, openedAs, Read};
 ghost use Rattle.document.specs.Parts.{turnAs, depthOf};
 ghost use Rattle.document.specs.declared.Style.the-variants as style;
 ghost use Rattle.document.specs.declared.Block.the-variants as block;
@@ -379,7 +380,8 @@ fn accept(document: &[u8], at: usize, h: Head, stack: &mut [u8], depth: usize) -
     }
 }
 
-// Refusals 2 to 7 of a document, in one pass, and its blocks that are left open.
+// Refusals 2 to 7 of a document, in one pass, and its blocks that are left open. Free are the stack from `depth` on and, after a
+// refusal, `depth` and all of the stack; `shallow` holds of them.
 pub fn open_blocks(document: &[u8]) -> Opened
     ensures open { λ r. ⌜ openedAs r ≡ openBlocks (now (document .entry)) ⌝ }
     ensures shallow { λ r. ⌜ (r .depth ≤ 32) × (length (r .stack) ≡ 32) ⌝ }

@@ -5,13 +5,14 @@ use mathlib.Core.Bool.{Bool, true, false}
 use mathlib.Core.List.{List, [], _++_}
 use lib.ListN.{length, take, set}
 use native.Mathlib.Omega.{arith}
+use Rattle.base.specs.Bytes.{part}
 use Rattle.base.specs.Result.{Result, gives, refused, _>>=_}
 use Rattle.base.specs.Stack.{pushed, popped}
 use Rattle.base.proofs.Results.{bind-assoc, bind-same, bind-end}
 use Rattle.base.proofs.Stack.{push-take, pop-take}
 use Rattle.room.specs.Room.{extended, seen}
 use Rattle.document.specs.Document.{index, tokens, tokensFrom, check}
-use Rattle.document.specs.Answers.{part, Read}
+use Rattle.document.specs.Answers.{Read}
 use Rattle.document.specs.declared.Style.{Style}
 use Rattle.document.specs.declared.Style.the-variants as style
 use Rattle.document.specs.declared.Block.{Block}
@@ -32,7 +33,7 @@ use Rattle.walk.proofs.Leads.{Leads, leads-start, chunksThen}
 use Rattle.html_rules.specs.Html.{State, plain, initial, styled, skip, inList, opening, closing, startTag, endTag, change, chunk, turn, finish}
 use Rattle.html_rules.specs.declared.Html.{Html}
 use Rattle.html_parts.proofs.Rest as walking
-use Rattle.html_parts.proofs.Rest.{goes-on, chunks-on, chunks-stop, chunks-done}
+use Rattle.html_parts.proofs.Rest.{chunks-on, chunks-stop, chunks-done}
 use Rattle.html_parts.proofs.Writes.{wrote-then}
 use Rattle.html.specs.Parts.{chunkText, closed, blockText}
 use Rattle.html.proofs.Turns.{start-is, end-is, start-meta, end-meta, hidden-is, text-is, finish-is, chunk-on, chunk-last}
@@ -72,13 +73,13 @@ module _ (limit : ℕ) (strict full : Bool) (sheet document : List ℕ) where
 
   -- a chunk that goes on
   pub body-on : {room : List ℕ} {at len : ℕ} {lay : Html} {kept y : List ℕ} {c : Cursor} → InBody room at len lay kept y c
-      → {p : Piece} {d : Cursor} → Took y c p d → (new : List ℕ) (n : ℕ) → length room ≡ limit → last full (chunkOf [] p) ≡ false
+      → {p : Piece} {d : Cursor} → Took y c p d → (new : List ℕ) (n : ℕ) → length room ≡ limit → last full (chunkOf y p) ≡ false
       → seen new n ≡ (seen room len >>= extended (length room) (chunkText strict (chunkOf y p))) → InBody new at n lay kept y d
   body-on {room} {at} {len} {lay} {kept} {y} {c} i {p} t new n s e w = record {
     leads = chunks-on full (chunk limit strict full) (rest at) whole y c (shown room len kept lay) (i .leads) t (shown new n kept lay)
         (shown-write (λ s. s) kept kept lay lay (λ x. refl) limit room new len n (chunkText strict (chunkOf y p))
         (w ∙ ap (λ (m : ℕ). seen room len >>= extended m (chunkText strict (chunkOf y p))) s)
-        ∙ sym (bind-same (shown room len kept lay) _ _ (λ s. chunk-on limit strict full (chunkOf y p) s (goes-on p y full false e)))) e;
+        ∙ sym (bind-same (shown room len kept lay) _ _ (λ s. chunk-on limit strict full (chunkOf y p) s e))) e;
   }
 
   module _ {room : List ℕ} {at len : ℕ} {lay : Html} {stack : List ℕ} {depth : ℕ} (o : On room at len lay stack depth) where
@@ -245,13 +246,13 @@ module _ (limit : ℕ) (strict full : Bool) (sheet document : List ℕ) where
               on-text new n (styled st lay) s (omega (arith, o .few, further))
               (chunks-done full (chunk limit strict full) (rest (h .next)) whole _ c (shown new n kept (styled st lay)) (i .leads) f)
 
-          pub on-stopped : {p : Piece} {d : Cursor} → Took (part document (h .start) (h .next)) c p d → last full (chunkOf [] p) ≡ true
+          pub on-stopped : {p : Piece} {d : Cursor} → Took (part document (h .start) (h .next)) c p d → last full (chunkOf (part document (h .start) (h .next)) p) ≡ true
               → On new (h .next) n (record { style = st; skip = 1 }) stack depth
           on-stopped {p} t f =
               on-text new n (record { style = st; skip = 1 }) s (omega (arith, further))
               (chunks-stop full (chunk limit strict full) (rest (h .next)) whole _ c (shown new n kept (styled st lay)) (i .leads) t (shown new n kept (record { style = st; skip = 1 }))
               (shown-changed (withLay (skip 1)) kept kept (styled st lay) (record { style = st; skip = 1 }) (λ x. refl) new n
-              ∙ sym (bind-same (shown new n kept (styled st lay)) _ _ (λ s. chunk-last limit strict full (chunkOf _ p) s (goes-on p _ full true f)))) f)
+              ∙ sym (bind-same (shown new n kept (styled st lay)) _ _ (λ s. chunk-last limit strict full (chunkOf _ p) s f))) f)
 
 -- the same for a room that has kept its length
 pub body-at : {limit m : ℕ} {strict full : Bool} {sheet document room : List ℕ} {at len : ℕ} {lay : Html} {kept y : List ℕ} {c : Cursor} → m ≡ limit

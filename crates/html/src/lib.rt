@@ -4,12 +4,12 @@ ghost use mathlib.Core.Bool.{true, false};
 ghost use mathlib.Core.List.{[], _∷_, _++_};
 ghost use Prim.Native.Nat.{ℕ, _+_, _<_, _≤_};
 ghost use lib.ListN.{length, take, set};
-ghost use Rattle.base.specs.Result.{gives, refused, _>>=_ as bind};
+ghost use Rattle.base.specs.Result.{gives, refused, _>>=_ as bind, measured};
 ghost use Rattle.room.specs.Room.{seen, extended};
 ghost use Rattle.document.specs.Document.{index, tokens, check};
 ghost use Rattle.splitter.specs.Answers.{chunkOf};
 ghost use Rattle.walk.specs.Walk.{walk as records};
-ghost use Rattle.walk.specs.Rendered.{answered, measured, standing, filled};
+ghost use Rattle.walk.specs.Rendered.{answered, standing, filled};
 ghost use Rattle.html_rules.specs.Html.{opening, closing, startTag, endTag, escaped, inList, initial, turn, finish, html};
 ghost use Rattle.html_parts.specs.Parts.{spanned, Inside};
 ghost use Rattle.html.specs.Parts.{tags as allTags, chunkText, closed, blockText};
@@ -250,7 +250,7 @@ fn walk(
                     let Step::Take(piece, after) = splitter::step_at(body, cursor) else {
                         break 'chunks;
                     };
-                    if html_parts::ends_body(piece, full) {
+                    if walk::ends_body(piece, full) {
                         lay = Html { style: st, skip: 1 };
                         continue 'records;
                     }

@@ -4,11 +4,11 @@ use mathlib.Core.Path.{_≡_, sym, ap, _∙_, subst}
 use mathlib.Core.List.{List}
 use lib.ListN.{length}
 use native.Mathlib.Omega.{arith}
-use Rattle.base.specs.Result.{Result, refused, _>>=_}
+use Rattle.base.specs.Result.{Result, refused, _>>=_, measured}
 use Rattle.room.specs.Room.{seen}
 use Rattle.room.proofs.Laws.{seen-in, seen-out}
 use Rattle.document.specs.declared.Refusal.the-variants as refusal
-use Rattle.walk.specs.Rendered.{answered, measured, standing, filled}
+use Rattle.walk.specs.Rendered.{answered, standing, filled}
 use Rattle.walk.specs.declared.Rendered.{Rendered}
 use Rattle.walk.specs.declared.Rendered.the-variants as rendered
 use Rattle.walk.proofs.Clearing.{standing-measured}

@@ -1,7 +1,8 @@
 -- The skip counter after a block's start or end, by its index. Assumes nothing.
 use Prim.Native.Nat.{ℕ}
 use mathlib.Core.Path.{_≡_, refl}
-use borrow.Author.Tests.{ne-eqb}
+use mathlib.Core.Bool.{true, false}
+use lib.Dec.{eqb}
 use Rattle.base.specs.Choice.{if_then_else_}
 use Rattle.base.proofs.Choice.{pick}
 use Rattle.document.specs.Document.{index}
@@ -14,19 +15,19 @@ held-same : (n : ℕ) → n ≡ held n n
 unfolding held
 held-same n = pick (λ (x : ℕ). n ≡ x) _ (λ _. refl) (λ _. refl)
 
-module _ (b : Block) (n i : ℕ) (e : i ≡ index b) where
-  pub start-other : (i ≡ 8 → ⊥) → n ≡ held n (skipStart b n)
+module _ (b : Block) (n : ℕ) where
+  pub start-other : eqb (index b) 8 ≡ false → n ≡ held n (skipStart b n)
   unfolding skipStart if_then_else_
-  start-other h = rw (← e, ne-eqb i 8 h) (held-same n)
+  start-other h = rw h (held-same n)
 
-  pub start-inline : (r : ℕ) → i ≡ 8 → r ≡ held n (skipStart block.InlineBlock n) → r ≡ held n (skipStart b n)
+  pub start-inline : (r : ℕ) → eqb (index b) 8 ≡ true → r ≡ held n (skipStart block.InlineBlock n) → r ≡ held n (skipStart b n)
   unfolding skipStart
-  start-inline r h k = rw (← e, h) k
+  start-inline r h k = rw h k
 
-  pub end-other : (i ≡ 8 → ⊥) → n ≡ skipEnd b n
+  pub end-other : eqb (index b) 8 ≡ false → n ≡ skipEnd b n
   unfolding skipEnd if_then_else_
-  end-other h = rw (← e, ne-eqb i 8 h)
+  end-other h = rw h
 
-  pub end-inline : (r : ℕ) → i ≡ 8 → r ≡ skipEnd block.InlineBlock n → r ≡ skipEnd b n
+  pub end-inline : (r : ℕ) → eqb (index b) 8 ≡ true → r ≡ skipEnd block.InlineBlock n → r ≡ skipEnd b n
   unfolding skipEnd
-  end-inline r h k = rw (← e, h) k
+  end-inline r h k = rw h k

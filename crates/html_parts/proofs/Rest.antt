@@ -6,30 +6,23 @@ use mathlib.Core.Bool.{Bool, true, false}
 use mathlib.Core.List.{List, []}
 use lib.ListN.{length}
 use native.Mathlib.Omega.{arith}
+use Rattle.base.specs.Bytes.{part}
 use Rattle.base.specs.Result.{Result, gives, refused, _>>=_}
 use Rattle.base.proofs.Results.{bind-assoc, bind-same}
 use Rattle.room.specs.Room.{seen}
 use Rattle.document.specs.Document.{tokensFrom}
-use Rattle.document.specs.Answers.{part, Read}
+use Rattle.document.specs.Answers.{Read}
 use Rattle.document.specs.declared.Kind.{Kind}
 use Rattle.document.specs.declared.Head.{Head}
 use Rattle.splitter.specs.Split.{Chunk}
 use Rattle.splitter.specs.Answers.{chunkOf, chunksFrom}
 use Rattle.splitter.specs.declared.Cursor.{Cursor}
 use Rattle.splitter.specs.declared.Piece.{Piece}
-use Rattle.splitter.specs.declared.Piece.the-variants.{Raw, Space, Paragraph, LineBreak}
 use Rattle.splitter.proofs.Answers.{Took}
 use Rattle.walk.specs.Walk.{Page, page, shown, Turn, last}
 use Rattle.walk.proofs.Shown.{shown-out, shown-bind, shown-then, shown-by}
 use Rattle.walk.proofs.Leads.{Leads, leads-on, leads-out, leads-same, leads-shown, records, turned, walk-record, walk-end, chunksThen, body-chunk, body-last, body-end}
 use Rattle.html_parts.proofs.Lifts.{refuses}
-
--- whether a chunk ends the walk of its body does not depend on the body
-last-any : (p : Piece) (y : List ℕ) (full : Bool) → last full (chunkOf y p) ≡ last full (chunkOf [] p)
-last-any (Raw from to width) y full = refl
-last-any Space y full = refl
-last-any Paragraph y full = refl
-last-any LineBreak y full = refl
 
 module _ {L : Type 0} (turn : Turn (Page L)) (finish : Page L → Result (List ℕ)) (document : List ℕ) where
   -- the records from a place on, and the end
@@ -96,21 +89,17 @@ module _ {L : Type 0} (full : Bool) (chunk : Chunk → Page L → Result (Page L
     (y : List ℕ) (c : Cursor) (shown : Result (Page L)) (leads : Leads whole (chunksThen full chunk after (chunksFrom y c)) shown) where
   module _ {p : Piece} {d : Cursor} (t : Took y c p d) (shown′ : Result (Page L)) (e : shown′ ≡ (shown >>= chunk (chunkOf y p))) where
     -- a chunk that goes on
-    pub chunks-on : last full (chunkOf [] p) ≡ false → Leads whole (chunksThen full chunk after (chunksFrom y d)) shown′
+    pub chunks-on : last full (chunkOf y p) ≡ false → Leads whole (chunksThen full chunk after (chunksFrom y d)) shown′
     chunks-on f =
         leads-on whole _ shown leads (chunk (chunkOf y p)) _ shown′
-        (body-chunk full chunk after (chunkOf y p) (chunksFrom y c) (chunksFrom y d) (t .chunks) (last-any p y full ∙ f)) e
+        (body-chunk full chunk after (chunkOf y p) (chunksFrom y c) (chunksFrom y d) (t .chunks) f) e
 
     -- one that ends the walk of its body
-    pub chunks-stop : last full (chunkOf [] p) ≡ true → Leads whole after shown′
+    pub chunks-stop : last full (chunkOf y p) ≡ true → Leads whole after shown′
     chunks-stop f =
         leads-on whole _ shown leads (chunk (chunkOf y p)) after shown′
-        (body-last full chunk after (chunkOf y p) (chunksFrom y c) (chunksFrom y d) (t .chunks) (last-any p y full ∙ f)) e
+        (body-last full chunk after (chunkOf y p) (chunksFrom y c) (chunksFrom y d) (t .chunks) f) e
 
   -- no chunk is left
   pub chunks-done : chunksFrom y c ≡ [] → Leads whole after shown
   chunks-done e = leads-same whole _ shown leads after (body-end full chunk after (chunksFrom y c) e)
-
--- the same of the chunk itself
-pub goes-on : (p : Piece) (y : List ℕ) (full b : Bool) → last full (chunkOf [] p) ≡ b → last full (chunkOf y p) ≡ b
-goes-on p y full b e = last-any p y full ∙ e

@@ -1,8 +1,8 @@
 -- What the functions of HTML and Markdown promise each other; no rule of 01 stands here.
-use Prim.Native.Nat.{ℕ, _-_, _≤_}
+use Prim.Native.Nat.{ℕ, _≤_}
 use mathlib.Core.Bool.{false, true}
 use mathlib.Core.List.{List}
-use lib.ListN.{take, drop}
+use Rattle.base.specs.Bytes.{part}
 use Rattle.walk.specs.declared.Rendered.{Rendered}
 use Rattle.walk.specs.declared.Rendered.the-variants as rendered
 use Rattle.html_rules.specs.Html.{entity}
@@ -11,9 +11,9 @@ use Rattle.html_parts.specs.declared.Span.{Span}
 use Rattle.html_parts.specs.declared.Escape.{Escape}
 use Rattle.html_parts.specs.declared.Escape.the-variants as escape
 
--- the bytes of a table from a place up to another
+-- a text out of a table
 abbrev pub spanned : List ℕ → Span → List ℕ
-spanned table s = take (s .1 - s .0) (drop (s .0) table)
+spanned table s = part table (s .0) (s .1)
 
 -- what stands for a byte before the others of its chunk
 abbrev pub entityOf : Escape → ℕ → List ℕ → List ℕ

@@ -3,11 +3,12 @@ ghost use mathlib.Core.Path.{_≡_};
 ghost use mathlib.Core.Bool.{false, true};
 ghost use mathlib.Core.List.{[], _∷_, _++_};
 ghost use Prim.Native.Nat.{ℕ, _+_, _<_};
+ghost use lib.Dec.{eqb};
 ghost use lib.ListN.{length, drop, getD};
 ghost use Rattle.base.specs.Result.{gives, refused, _>>=_ as bind};
 ghost use Rattle.room.specs.Room.{seen, extended};
-ghost use Rattle.splitter.specs.Answers.{chunkOf};
-ghost use Rattle.walk.specs.Walk.{last, skipStart, skipEnd};
+ghost use Rattle.document.specs.Document.{index};
+ghost use Rattle.walk.specs.Walk.{skipStart, skipEnd};
 ghost use Rattle.walk.specs.Answers.{held};
 ghost use Rattle.walk.specs.Rendered.{standing};
 ghost use Rattle.html_rules.specs.Marks.{separated, escapedBy};
@@ -143,38 +144,31 @@ pub fn put_escaped(room: &mut [u8], len: usize, text: &[u8], how: Escape) -> usi
     n
 }
 
-// Whether a chunk ends the walk of its body: 'With `full` off, a paragraph chunk ends the walk of that body'.
-pub fn ends_body(piece: Piece, full: bool) -> bool
-    ensures { λ r. ⌜ r ≡ last full (chunkOf [] piece) ⌝ }
+// Whether a block is an InlineBlock.
+fn is_inline(b: Block) -> bool
+    ensures { λ r. ⌜ r ≡ eqb (index b) 8 ⌝ }
 {
-    match piece {
-        Piece::Raw(_, _, _) => false,
-        Piece::Space => false,
-        Piece::Paragraph => !full,
-        Piece::LineBreak => false,
-    }
+    document::index_of(b) == 8
 }
 
 // The skip counter after the start of a block.
 pub fn skip_start(b: Block, n: usize) -> usize
     ensures { λ r. ⌜ r ≡ held n (skipStart b n) ⌝ }
 {
-    if document::index_of(b) != 8 {
+    if !is_inline(b) {
         return n;
     }
-    let s = Skip(n);
-    s.pushed().0
+    Skip(n).pushed().0
 }
 
 // The skip counter after the end of a block.
 pub fn skip_end(b: Block, n: usize) -> usize
     ensures { λ r. ⌜ r ≡ skipEnd b n ⌝ }
 {
-    if document::index_of(b) != 8 {
+    if !is_inline(b) {
         return n;
     }
-    let s = Skip(n);
-    s.popped().0
+    Skip(n).popped().0
 }
 
 // The answer for a text up to a length: 13 where that has passed the room.

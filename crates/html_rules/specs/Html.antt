@@ -15,7 +15,7 @@ use Rattle.document.specs.declared.Block.{Block}
 use Rattle.document.specs.declared.Block.the-variants as block
 use Rattle.document.specs.declared.Kind.the-variants as kind
 use Rattle.splitter.specs.Split.{Chunk, raw, paragraph, lineBreak, split}
-use Rattle.walk.specs.Walk.{Page, withOut, withKept, withLay, write, hides, skipStart, skipEnd, Turn, walk, body}
+use Rattle.walk.specs.Walk.{Page, withOut, withKept, withLay, write, hides, skipParagraph, skipStart, skipEnd, Turn, walk, body}
 use Rattle.html_rules.specs.Marks.{separated, escapedBy}
 use Rattle.html_rules.specs.declared.Html.{Html}
 
@@ -143,7 +143,7 @@ module _ (room : ℕ) where
     unfoldable pub chunk : Chunk → State → Result State
     chunk (raw x w) s = write room (escaped strict x) s
     chunk lineBreak s = write room br s
-    chunk paragraph s = if full then write room br s else gives (withLay (skip 1) s)
+    chunk paragraph s = if full then write room br s else gives (withLay (λ l. skip (skipParagraph (l .skip)) l) s)
 
     -- a record: 'It hides text only'
     unfoldable pub turn : Turn State

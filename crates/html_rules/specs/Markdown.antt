@@ -13,7 +13,7 @@ use Rattle.document.specs.declared.Block.{Block}
 use Rattle.document.specs.declared.Block.the-variants as block
 use Rattle.document.specs.declared.Kind.the-variants as kind
 use Rattle.splitter.specs.Split.{Chunk, raw, paragraph, lineBreak, split}
-use Rattle.walk.specs.Walk.{Page, withOut, withLay, write, hides, skipStart, skipEnd, isEnd, Turn, walk, body}
+use Rattle.walk.specs.Walk.{Page, withOut, withLay, write, hides, skipParagraph, skipStart, skipEnd, isEnd, Turn, walk, body}
 use Rattle.html_rules.specs.Marks.{separated, escapedBy}
 use Rattle.html_rules.specs.declared.Markdown.{Markdown}
 
@@ -80,7 +80,7 @@ termEnds (t ∷ ts) = isEnd 4 (t .kind)
 -- Blocks that start (render_markdown, `Token::BlockStart`): what goes out at once, the mark of a line of its own, and what goes out
 -- then.
 
--- an ItemBody in a definition list
+-- an ItemBody where a DefinitionList was opened and none closed since
 abbrev pub startLead : Markdown → Block → List ℕ
 startLead l block.Header = bytes ""
 startLead l block.Section2 = bytes ""
@@ -237,7 +237,7 @@ module _ (room : ℕ) where
     unfoldable pub chunk : Chunk → State → Result State
     chunk (raw x w) s = rawChunk x w s
     chunk lineBreak s = write room (bytes "\n") s
-    chunk paragraph s = if full then write room (paragraphText (s .lay)) s else gives (withLay (skip 1) s)
+    chunk paragraph s = if full then write room (paragraphText (s .lay)) s else gives (withLay (λ l. skip (skipParagraph (l .skip)) l) s)
 
     -- a record: 'It hides text only'
     unfoldable pub turn : Turn State

@@ -11,7 +11,7 @@ pub struct Html {
 pub struct Markdown {
     pub style: Style,
     pub skip: usize,
-    // the last item's term is empty
+    // the last start of a Section4 or ItemTerm was followed at once by an ItemTerm's end: the source's `empty_term`
     pub bare: bool,
     // how many Mono blocks are open
     pub mono: usize,

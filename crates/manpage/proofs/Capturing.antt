@@ -10,6 +10,7 @@ use lib.Seq.{drop-cons}
 use native.Mathlib.Numerals.{add-one}
 use native.Mathlib.Omega.{arith}
 use borrow.Author.Tests.{le-leb, lt-leb, lt-ltb, le-ltb, ltb-true, ltb-false}
+use Rattle.base.specs.Bytes.{part}
 use Rattle.base.specs.Choice.{if_then_else_}
 use Rattle.base.specs.Result.{Result, gives, _>>=_}
 use Rattle.base.proofs.Choice.{if-true, if-false, and-left, and-right, le-or-lt}
@@ -17,7 +18,7 @@ use Rattle.base.proofs.Parts.{part-none}
 use Rattle.base.proofs.Results.{bind-assoc, bind-same}
 use Rattle.utf8.specs.Utf8.{encode, bytes}
 use Rattle.document.specs.Document.{tokenAt, index}
-use Rattle.document.specs.Answers.{Read, part}
+use Rattle.document.specs.Answers.{Read}
 use Rattle.document.specs.declared.Head.{Head}
 use Rattle.document.specs.declared.Kind.{Kind}
 use Rattle.document.specs.declared.Kind.the-variants as kind

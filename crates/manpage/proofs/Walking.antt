@@ -6,12 +6,13 @@ use mathlib.Core.List.{List, [], _++_, append-assoc, append-nil}
 use lib.ListN.{length, take}
 use native.Mathlib.Nat.{le-refl}
 use native.Mathlib.Omega.{arith}
+use Rattle.base.specs.Bytes.{part}
 use Rattle.base.specs.Choice.{if_then_else_}
 use Rattle.base.specs.Result.{Result, gives, refused, _>>=_}
 use Rattle.base.proofs.Choice.{if-true, if-false, pick}
 use Rattle.base.proofs.Results.{bind-end}
 use Rattle.document.specs.Document.{Token, tokens, tokensFrom, check}
-use Rattle.document.specs.Answers.{Read, part, refusalNumber, refusalPlace}
+use Rattle.document.specs.Answers.{Read, refusalNumber, refusalPlace}
 use Rattle.document.specs.declared.Head.{Head}
 use Rattle.document.specs.declared.Kind.{Kind}
 use Rattle.document.specs.declared.Kind.the-variants as kind

@@ -4,7 +4,8 @@ use mathlib.Core.Path.{_≡_}
 use mathlib.Core.Bool.{Bool, true, false, not, _&&_, _||_}
 use mathlib.Core.List.{List, [], _∷_, _++_}
 use lib.Dec.{leb, ltb, eqb}
-use lib.ListN.{length, take, drop}
+use lib.ListN.{length, take}
+use Rattle.base.specs.Bytes.{part}
 use Rattle.base.specs.Choice.{if_then_else_}
 use Rattle.base.specs.Result.{Result}
 use Rattle.document.specs.Document.{Token, tokensFrom, index}
@@ -40,8 +41,8 @@ pub record Copies (x : List ℕ) (at len : ℕ) (old new : List ℕ) (to : ℕ) 
   pub order : at ≤ to
   pub within : at ≤ length x → to ≤ length x
   pub fits : at < to → len + (to - at) ≤ length old
-  pub copied : take (len + (to - at)) new ≡ take len old ++ take (to - at) (drop at x)
-  pub plains : allPlain (take (to - at) (drop at x)) ≡ true
+  pub copied : take (len + (to - at)) new ≡ take len old ++ part x at to
+  pub plains : allPlain (part x at to) ≡ true
 
 -- a mark's flags, with capture on or off
 abbrev pub flags : Bool → Mark → Flags

@@ -5,12 +5,12 @@ ghost use mathlib.Core.List.{List, [], map};
 ghost use Prim.Native.Nat.{ℕ, _≤_};
 ghost use lib.Dec.{ltb};
 ghost use lib.ListN.{length};
-ghost use Rattle.base.specs.Result.{gives, _>>=_ as bind};
+ghost use Rattle.base.specs.Result.{gives, _>>=_ as bind, measured};
 ghost use Rattle.document.specs.Document.{tokens};
 ghost use Rattle.document.specs.declared.Kind.the-variants as kind;
 ghost use Rattle.room.specs.Room.{seen, extended};
 ghost use Rattle.walk.specs.Walk.{empty, write, walk};
-ghost use Rattle.walk.specs.Rendered.{answered, measured, standing, filled};
+ghost use Rattle.walk.specs.Rendered.{answered, standing, filled};
 ghost use Rattle.walk.specs.declared.Rendered.the-variants as rendered;
 ghost use Rattle.manpage.specs.Escape.{spaces, escape, lineStart, preamble};
 ghost use Rattle.manpage.specs.Roff.{ascii, upper, argument, fontOf, push, control, subsection, text, started, ended, turn, initial, roff};
@@ -189,7 +189,7 @@ fn put_text(room: &mut [u8], m: Mark, style: Style, bytes: &[u8]) -> Mark
     roff::text(room, a, font_of(style), bytes)
 }
 
-// `Token::BlockStart`. That a heading starts capture is the walk's affair, which refuses TermRef before it comes here.
+// `Token::BlockStart`. The walk starts capture at a heading, and refuses TermRef before it comes here.
 fn started(room: &mut [u8], m: Mark, b: Block, at: usize) -> Mark
     requires { ⌜ isTermRef (kind.Start b) ≡ false ⌝ }
     ensures { λ r. ⌜ ((kept : List ℕ) (capture : Bool) → marked kept (opening b capture) (now (room .exit)) r ≡ bind (marked kept capture (now (room .entry)) m) (started (length (now (room .entry))) at b)) ⌝ }

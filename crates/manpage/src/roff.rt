@@ -1,4 +1,4 @@
-// Roff document composer (src/buffer/manpage/roff.rs). Its labelled buffer (manpage/monoid.rs) is gone: 'roff bytes are written as they
+// Roff document composer (src/buffer/manpage/roff.rs). It has no labelled buffer (manpage/monoid.rs): 'roff bytes are written as they
 // arise', so that what is pushed goes through `escape` at once.
 ghost use mathlib.Core.Path.{_≡_};
 ghost use mathlib.Core.Bool.{Bool};

@@ -3,11 +3,12 @@ use Prim.Native.Nat.{ℕ, _+_, _-_, _≤_, _<_}
 use mathlib.Core.Path.{_≡_, refl, sym, ap, _∙_}
 use mathlib.Core.Bool.{Bool, true, false}
 use mathlib.Core.List.{List, [], _++_, append-nil}
-use lib.ListN.{length, take, drop, length-drop}
+use lib.ListN.{length, take}
 use lib.Seq.{length-take-le}
 use native.Mathlib.Omega.{arith}
 use borrow.Author.Tests.{ne-eqb, le-ltb}
-use Rattle.base.specs.Result.{Result, gives, _>>=_}
+use Rattle.base.specs.Bytes.{part}
+use Rattle.base.specs.Result.{gives, _>>=_}
 use Rattle.base.proofs.Choice.{if-false}
 use Rattle.utf8.specs.Utf8.{bytes}
 use Rattle.splitter.specs.Split.{raw}
@@ -16,10 +17,11 @@ use Rattle.splitter.specs.declared.Code.the-variants as code
 use Rattle.walk.specs.Walk.{page, write, shown}
 use Rattle.words.specs.Copies.{Copies}
 use Rattle.words.specs.declared.Word.{Word}
-use Rattle.words.proofs.Follow.{write-in, shown-stays, word-follows}
+use Rattle.words.proofs.Follow.{write-in}
+use Rattle.words.proofs.Onward.{onward-start as words-start, onward-same as words-same, onward-next as words-next, word-length}
 use Rattle.html_rules.specs.Markdown.{State, fenced, wordText, codeStops, rawChunk, chunk}
 use Rattle.html_rules.specs.declared.Markdown.{Markdown}
-use Rattle.markdown.specs.Onward.{onward, Plain, Onward, Ready, Ahead, Moves}
+use Rattle.markdown.specs.Onward.{ruleOf, Plain, Onward, Ready, Ahead, Moves}
 
 -- A word where words go out as they stand.
 module _ (limit : ℕ) (x : List ℕ) (w : ℕ) (kept : List ℕ) (lay : Markdown) (out : List ℕ) (q : Plain lay) (h : length out + length x ≤ limit) (k : w ≤ 32_768) where
@@ -47,40 +49,22 @@ module _ (limit : ℕ) (x : List ℕ) (w : ℕ) (kept : List ℕ) (lay : Markdow
 -- One word after another.
 
 pub onward-start : (x old : List ℕ) (len at : ℕ) → Onward x old len at old len at
-onward-start x old len at = record { size = refl; order = omega arith; within = λ l. l; same = λ full kept lay q. refl }
+onward-start x old len at = words-start (λ full. full) ruleOf (λ _ l. Plain l) x old len at (λ l. l) (λ full lay q. refl)
 
 module _ (x old : List ℕ) (len at : ℕ) (new : List ℕ) (len′ at′ : ℕ) (o : Onward x old len at new len′ at′)
     (new′ : List ℕ) (w : Word) (c : Copies x at′ len′ new new′ w) (size : length new′ ≡ length new) where
   pub onward-same : Onward x old len at new′ len′ at′
-  onward-same = record {
-    size = size ∙ o .size;
-    order = o .order;
-    within = o .within;
-    same = λ full kept lay q.
-        ap (λ (r : Result State). r >>= onward full (length old) x at′ code.No) (shown-stays new new′ len′ size (c .stays) kept lay) ∙ o .same full kept lay q;
-  }
+  onward-same = words-same (λ full. full) ruleOf (λ _ l. Plain l) x old len at (λ l. l) new len′ at′ o new′ w c size
 
   module _ (h : at′ < w .to) (few : length x ≤ 32_768) where
-    abbrev text : List ℕ
-    text = take (w .to - at′) (drop at′ x)
-
-    long : length text ≡ w .to - at′
-    long = length-take-le (w .to - at′) (drop at′ x) (omega (arith, length-drop at′ x, c .within h))
-
     pub onward-next : Onward x old len at new′ (len′ + (w .to - at′)) (w .to)
     unfolding chunk
     onward-next =
+        let long = word-length (λ full. full) ruleOf (λ _ l. Plain l) x old len at (λ l. l) new len′ at′ o new′ w c size h in
         let n : length (take len′ new) ≡ len′ = length-take-le len′ new (omega (arith, c .fits h)) in
-        record {
-          size = size ∙ o .size;
-          order = omega (arith, o .order);
-          within = λ l. omega (arith, c .within h);
-          same = λ full kept lay q.
-              rw (← o .size)
-              (word-follows full (chunk (length new) full) x new new′ text len′ (w .to - at′) at′ (w .to) (w .width) kept lay lay size (c .fits h) (c .copied h) (c .next h)
-              (raw-there (length new) text (w .width) kept lay (take len′ new) q (omega (arith, c .fits h, long)) (omega (arith, c .narrow h, c .within h)))
-              ∙ rw (o .size) (o .same full kept lay q));
-        }
+        words-next (λ full. full) ruleOf (λ _ l. Plain l) x old len at (λ l. l) new len′ at′ o new′ w c size h (λ l. l)
+        (λ full kept lay q.
+        raw-there (length new) (part x at′ (w .to)) (w .width) kept lay (take len′ new) q (omega (arith, c .fits h, long)) (omega (arith, c .narrow h, c .within h)))
 
 -- As the walk sees them.
 

@@ -5,11 +5,12 @@ use mathlib.Core.Bool.{Bool, true, false}
 use mathlib.Core.List.{List, [], _++_}
 use lib.ListN.{length, drop, length-take}
 use native.Mathlib.Omega.{arith}
+use Rattle.base.specs.Bytes.{part}
 use Rattle.base.specs.Result.{Result, gives, refused, _>>=_}
 use Rattle.base.proofs.Results.{bind-assoc, bind-same, bind-end}
 use Rattle.room.specs.Room.{extended, seen}
 use Rattle.document.specs.Document.{index, tokens, tokensFrom, check}
-use Rattle.document.specs.Answers.{part, Read}
+use Rattle.document.specs.Answers.{Read}
 use Rattle.document.specs.declared.Style.{Style}
 use Rattle.document.specs.declared.Style.the-variants as style
 use Rattle.document.specs.declared.Block.{Block}
@@ -30,7 +31,7 @@ use Rattle.walk.proofs.Leads.{Leads, leads-start, leads-on, chunksThen}
 use Rattle.html_rules.specs.Markdown.{State, plain, initial, styled, skip, fenced, opening, closing, metTerm, startLay, endText, endLay, codeEnds, change, bodyEnds, finish, chunk, turn}
 use Rattle.html_rules.specs.declared.Markdown.{Markdown}
 use Rattle.html_parts.proofs.Rest as walking
-use Rattle.html_parts.proofs.Rest.{goes-on, chunks-on, chunks-stop, chunks-done}
+use Rattle.html_parts.proofs.Rest.{chunks-on, chunks-stop, chunks-done}
 use Rattle.html_parts.proofs.Writes.{wrote-then}
 use Rattle.markdown.specs.Parts.{startRule, chunkRule, fenceAfter}
 use Rattle.markdown.specs.Onward.{onward, Moves}
@@ -92,7 +93,7 @@ module _ (limit : ℕ) (full : Bool) (document : List ℕ) where
 
   -- a chunk that goes on
   pub body-on : {room : List ℕ} {at len : ℕ} {lay : Markdown} {y : List ℕ} {c : Cursor} → InBody room at len lay y c
-      → {p : Piece} {d : Cursor} → Took y c p d → (new : List ℕ) (n : ℕ) (f : Bool) → length room ≡ limit → last full (chunkOf [] p) ≡ false
+      → {p : Piece} {d : Cursor} → Took y c p d → (new : List ℕ) (n : ℕ) (f : Bool) → length room ≡ limit → last full (chunkOf y p) ≡ false
       → seen new n ≡ (seen room len >>= chunkRule (length room) lay (chunkOf y p)) → f ≡ fenceAfter (chunkOf [] p) (lay .fenced) → InBody new at n (fenced f lay) y d
   body-on {room} {at} {len} {lay} {y} {c} i {p} t new n f s e w g = record {
     few = i .few;
@@ -100,7 +101,7 @@ module _ (limit : ℕ) (full : Bool) (document : List ℕ) where
     leads = chunks-on full (chunk limit full) (after at) whole y c (shown room len [] lay) (i .leads) t (shown new n [] (fenced f lay))
         (shown-by (withLay (fencing (chunkOf y p))) [] [] lay (fenced f lay) (λ x. ap (λ (b : Bool). page [] (fenced b lay) x) (fence-any p y (lay .fenced) ∙ sym g))
         (chunkRule limit lay (chunkOf y p)) room new len n (w ∙ ap (λ (m : ℕ). seen room len >>= chunkRule m lay (chunkOf y p)) s)
-        ∙ sym (shown-then room len [] lay (chunk limit full (chunkOf y p)) _ (λ x. chunk-on limit (page [] lay x) full (chunkOf y p) (goes-on p y full false e)))) e;
+        ∙ sym (shown-then room len [] lay (chunk limit full (chunkOf y p)) _ (λ x. chunk-on limit (page [] lay x) full (chunkOf y p) e))) e;
   }
 
   module _ {room : List ℕ} {at len : ℕ} {lay : Markdown} (o : On room at len lay) where
@@ -267,7 +268,7 @@ module _ (limit : ℕ) (full : Bool) (document : List ℕ) where
             leads = ends l₁ refl (chunks-done full (chunk limit full) (after (h .next)) whole _ c (shown old k [] l₁) (i .leads) f);
           }
 
-          pub on-stopped : {p : Piece} {d : Cursor} → Took (part document (h .start) (h .next)) c p d → last full (chunkOf [] p) ≡ true
+          pub on-stopped : {p : Piece} {d : Cursor} → Took (part document (h .start) (h .next)) c p d → last full (chunkOf (part document (h .start) (h .next)) p) ≡ true
               → On new (h .next) n (fenced false (skip 1 l₁))
           on-stopped {p} q f = record {
             same = u ∙ s;
@@ -277,7 +278,7 @@ module _ (limit : ℕ) (full : Bool) (document : List ℕ) where
             leads = ends (skip 1 l₁) refl
                 (chunks-stop full (chunk limit full) (after (h .next)) whole _ c (shown old k [] l₁) (i .leads) q (shown old k [] (skip 1 l₁))
                 (shown-changed (withLay (skip 1)) [] [] l₁ (skip 1 l₁) (λ x. refl) old k
-                ∙ sym (bind-same (shown old k [] l₁) _ _ (λ s. chunk-last limit s full (chunkOf _ p) (goes-on p _ full true f)))) f);
+                ∙ sym (bind-same (shown old k [] l₁) _ _ (λ s. chunk-last limit s full (chunkOf _ p) f))) f);
           }
 
 pub body-few : (document : List ℕ) (from to : ℕ) → length document ≤ 32_768 → to ≤ length document → length (part document from to) ≤ 32_768

@@ -5,10 +5,12 @@ use mathlib.Core.Bool.{Bool, true, false}
 use mathlib.Core.List.{List}
 use lib.ListN.{length}
 use Rattle.base.specs.Result.{Result, _>>=_}
+use Rattle.splitter.specs.Split.{Chunk}
 use Rattle.splitter.specs.Answers.{chunksFrom, cursor}
 use Rattle.splitter.specs.declared.Code.{Code}
 use Rattle.splitter.specs.declared.Code.the-variants as code
 use Rattle.walk.specs.Walk.{shown, body}
+use Rattle.words.specs.Onward as words
 use Rattle.html_rules.specs.Markdown.{State, chunk}
 use Rattle.html_rules.specs.declared.Markdown.{Markdown}
 
@@ -16,18 +18,18 @@ use Rattle.html_rules.specs.declared.Markdown.{Markdown}
 abbrev pub onward : Bool → ℕ → List ℕ → ℕ → Code → State → Result State
 onward full limit x at c = body full (chunk limit full) (chunksFrom x (cursor at c))
 
+-- the rule for a chunk, by whether all is shown and the room's length
+abbrev pub ruleOf : Bool → ℕ → Chunk → State → Result State
+ruleOf full limit = chunk limit full
+
 -- words go out as they stand
 pub record Plain (l : Markdown) : Type 0 where
   pub mono : l .mono ≤ 0
   pub fenced : l .fenced ≡ false
 
--- Where words go out as they stand, the chunks from one place on give what those from another do, with the text as it is there.
-pub record Onward (x old : List ℕ) (len at : ℕ) (new : List ℕ) (len′ at′ : ℕ) : Type 0 where
-  pub size : length new ≡ length old
-  pub order : at ≤ at′
-  pub within : at ≤ length x + 1 → at′ ≤ length x + 1
-  pub same : (full : Bool) (kept : List ℕ) (lay : Markdown) → Plain lay
-      → (shown new len′ kept lay >>= onward full (length old) x at′ code.No) ≡ (shown old len kept lay >>= onward full (length old) x at code.No)
+-- words went on from one place to another
+abbrev pub Onward : List ℕ → List ℕ → ℕ → ℕ → List ℕ → ℕ → ℕ → Type 0
+Onward x old len at new len′ at′ = words.Onward (λ full. full) ruleOf (λ _ l. Plain l) (λ l. l) x old len at new len′ at′
 
 -- what a test for that says
 pub record Ready (l : Markdown) (c : Code) : Type 0 where

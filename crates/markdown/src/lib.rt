@@ -4,13 +4,13 @@ ghost use mathlib.Core.Bool.{true, false};
 ghost use mathlib.Core.List.{[], _∷_, _++_};
 ghost use Prim.Native.Nat.{ℕ, _+_, _-_, _<_, _≤_};
 ghost use lib.ListN.{length};
-ghost use Rattle.base.specs.Result.{gives, refused, _>>=_ as bind};
+ghost use Rattle.base.specs.Result.{gives, refused, _>>=_ as bind, measured};
 ghost use Rattle.room.specs.Room.{seen, extended};
 ghost use Rattle.document.specs.Document.{index, tokens, tokensFrom, check};
 ghost use Rattle.document.specs.declared.Style.the-variants as style;
 ghost use Rattle.splitter.specs.Answers.{chunkOf};
 ghost use Rattle.walk.specs.Walk.{isEnd, walk as records};
-ghost use Rattle.walk.specs.Rendered.{answered, measured, standing, filled};
+ghost use Rattle.walk.specs.Rendered.{answered, standing, filled};
 ghost use Rattle.html_rules.specs.Markdown.{styled as withStyle, opening, closing, termEnds, metTerm, startLay, endText, endLay, codeBegins, codeStops, codeEnds, lineText, wordText, paragraphText, initial, turn, finish, markdown};
 ghost use Rattle.html_parts.specs.Parts.{spanned, Inside};
 ghost use Rattle.markdown.specs.Parts.{tags as allTags, Starts, startRule, rawRule, chunkRule, fenceAfter};
@@ -579,7 +579,7 @@ fn walk(document: &[u8], tags: &[u8], full: bool, room: &mut [u8]) -> Rendered
                     ) else {
                         break 'chunks;
                     };
-                    if html_parts::ends_body(piece, full) {
+                    if walk::ends_body(piece, full) {
                         len = html_parts::put_span(room, len, tags, ends_span(lay));
                         lay.skip = 1;
                         lay.fenced = false;

@@ -96,24 +96,17 @@ filled-more old new at i b h e =
 -- zeros from a place on
 pub cleared : (old new : List ℕ) (at : ℕ) → length new ≡ length old → at ≤ length old
     → take (at + (length old - at)) new ≡ take at old ++ replicate (length old - at) 0
-    → new ≡ take at old ++ replicate (length old - at) 0
+    → new ≡ padded (length old) (take at old)
+unfolding padded
 cleared old new at e h w =
     let z : at + (length old - at) ≡ length old = omega arith in
-    sym (take-all (at + (length old - at)) new (omega arith)) ∙ w
+    sym (take-all (at + (length old - at)) new (omega arith)) ∙ w ∙ rw (length-take-le at old h)
 
-pub nothing-to-clear : (room : List ℕ) (at : ℕ) → length room ≤ at → room ≡ take at room ++ replicate (length room - at) 0
-nothing-to-clear room at h =
-    let z : length room - at ≡ 0 = omega arith in
-    rw (z, take-all at room h) (sym (append-nil room))
-
--- so a cleared room is what was written, padded
-pub cleared-padded : (room : List ℕ) (at : ℕ) → at ≤ length room → take at room ++ replicate (length room - at) 0 ≡ padded (length room) (take at room)
+pub nothing-to-clear : (room : List ℕ) (at : ℕ) → length room ≤ at → room ≡ padded (length room) (take at room)
 unfolding padded
-cleared-padded room at h = rw (length-take-le at room h)
-
--- and a room cleared from 0 is all zeros
-pub cleared-all : (room : List ℕ) → take 0 room ++ replicate (length room - 0) 0 ≡ replicate (length room) 0
-cleared-all room = ap (λ (n : ℕ). replicate n 0) (sub-zero (length room))
+nothing-to-clear room at h =
+    let z : length room - length room ≡ 0 = omega arith in
+    rw (take-all at room h, z) (sym (append-nil room))
 
 pub padded-none : (limit : ℕ) → padded limit [] ≡ replicate limit 0
 unfolding padded

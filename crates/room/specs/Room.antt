@@ -1,6 +1,6 @@
 -- A lent room with a length (01, 'What must change shape': '`String` output: a lent room and a length').
 use Prim.Native.Nat.{ℕ, _-_}
-use mathlib.Core.List.{List, [], _∷_, _++_}
+use mathlib.Core.List.{List, _++_}
 use lib.Dec.{leb}
 use lib.ListN.{length, take, replicate}
 use Rattle.base.specs.Choice.{if_then_else_}

@@ -1,13 +1,14 @@
 // Writing into a lent room (01: '`String` output: a lent room and a length'). A length past the room says that the text was longer than
-// the room; every later write and trim keeps it so.
+// the room; every later write and trim keeps it so. What a write leaves free: the bytes past the new length; and, once a length is past
+// the room, every byte of it and how far the length is past it. `clear_from` settles them all.
 ghost use mathlib.Core.Path.{_≡_};
 ghost use mathlib.Core.List.{[], _∷_, _++_};
-ghost use Prim.Native.Nat.{ℕ, _+_, _-_, _≤_};
+ghost use Prim.Native.Nat.{ℕ, _+_, _≤_};
 ghost use lib.ListN.{length, take, replicate};
 ghost use Rattle.base.specs.Result.{gives, _>>=_ as bind};
 ghost use Rattle.base.specs.Bytes.{endsWith};
 ghost use Rattle.utf8.specs.White.{trim};
-ghost use Rattle.room.specs.Room.{seen, extended};
+ghost use Rattle.room.specs.Room.{seen, extended, padded};
 
 // One byte more.
 pub fn put(room: &mut [u8], len: usize, byte: u8) -> usize
@@ -72,7 +73,7 @@ pub fn put_spaces(room: &mut [u8], len: usize, n: usize) -> usize
 
 // 'a room is 0 beyond what was written': zeros from `at` on.
 pub fn clear_from(room: &mut [u8], at: usize)
-    ensures { λ _. ⌜ now (room .exit) ≡ take at (now (room .entry)) ++ replicate (length (now (room .entry)) - at) 0 ⌝ }
+    ensures { λ _. ⌜ now (room .exit) ≡ padded (length (now (room .entry))) (take at (now (room .entry))) ⌝ }
 {
     if at < room.len() {
         let n = room.len() - at;
@@ -106,7 +107,7 @@ pub fn ends_with(room: &[u8], len: usize, tail: &[u8]) -> bool
 pub fn trim_end(room: &[u8], len: usize) -> usize
     ensures { λ r. ⌜ seen (now (room .entry)) r ≡ bind (seen (now (room .entry)) len) (λ o. gives (trim o)) ⌝ }
 {
-    if room.len() < len {
+    if len > room.len() {
         return len;
     }
     utf8::trim_end(&room[..len])

@@ -2,20 +2,50 @@
 ghost use mathlib.Core.Path.{_≡_};
 ghost use mathlib.Core.Bool.{true, false};
 ghost use lib.ListN.{length};
+ghost use Rattle.base.specs.Result.{measured};
 ghost use Rattle.document.specs.Document.{check};
-ghost use Rattle.walk.specs.Rendered.{filled};
+ghost use Rattle.document.specs.Answers.{refusalNumber, refusalPlace};
+ghost use Rattle.walk.specs.Rendered.{answered, filled};
 ghost use Rattle.console_rules.specs.Console.{console};
-ghost use Rattle.buffer.specs.Answers.{kept};
+ghost use Rattle.console.specs.Answers.{Demand3};
+ghost use Rattle.buffer.specs.Answers.{builtAs, kept};
 ghost use Rattle.buffer.specs.Builder.{addsDoc, addsEmDoc};
 ghost use Rattle.html_rules.specs.Html.{html};
 ghost use Rattle.html_rules.specs.Markdown.{markdown};
 ghost use Rattle.manpage.specs.Roff.{roff};
-ghost use Rattle.sefgrunn.specs.Numbers.{numberOf, placeOf, lengthOrPlace, settings, answerNumber, answerAt, builtNumber, builtPlace, builtLength, lengthAfter, writesIn, opensIn, closesIn};
+ghost use Rattle.sefgrunn.specs.Numbers.{numberOf, placeOf, lengthOrPlace, lengthAfter, told, settings, writesIn, opensIn, closesIn};
 use buffer::Built;
 use console_rules::Settings;
 use document::Checked;
 use document::Kind;
+use document::Refusal;
 use walk::Rendered;
+
+// Accepted, where no length is stored.
+fn accepted(place: &mut usize) -> u32
+    ensures number { λ r. ⌜ r ≡ 0 ⌝ }
+    ensures place { λ _. ⌜ now (place .exit) ≡ 0 ⌝ }
+{
+    *place = 0;
+    0
+}
+
+// A refusal's number, and its place.
+fn refused(a: Refusal, place: &mut usize) -> u32
+    ensures number { λ r. ⌜ r ≡ refusalNumber a ⌝ }
+    ensures place { λ _. ⌜ now (place .exit) ≡ refusalPlace a ⌝ }
+{
+    *place = document::refusal_place(a);
+    document::refusal_number(a)
+}
+
+// A style or block number outside its range: 3 with place 0.
+fn out_of_range(place: &mut usize) -> u32
+    ensures number { λ r. ⌜ r ≡ 3 ⌝ }
+    ensures place { λ _. ⌜ now (place .exit) ≡ 0 ⌝ }
+{
+    refused(Refusal::UnknownKind(0), place)
+}
 
 // Refusals 1 to 8; `place` is the refusal's, and 0 where the document is accepted.
 #[no_mangle]
@@ -25,31 +55,22 @@ pub extern "C" fn sefgrunn_check(document: &[u8], place: &mut usize) -> u32
 {
     let answer = document::check(document);
     match answer {
-        Checked::Accepted => {
-            *place = 0;
-            0
-        }
-        Checked::Refused(a) => {
-            *place = document::refusal_place(a);
-            document::refusal_number(a)
-        }
+        Checked::Accepted => accepted(place),
+        Checked::Refused(a) => refused(a, place),
     }
 }
 
 // The number of an answer, and its length or place.
 fn told(answer: Rendered, at: &mut usize) -> u32
-    ensures number { λ r. ⌜ r ≡ answerNumber answer ⌝ }
-    ensures at { λ _. ⌜ now (at .exit) ≡ answerAt answer ⌝ }
+    ensures number { λ r. ⌜ r ≡ numberOf (answered answer) ⌝ }
+    ensures at { λ _. ⌜ now (at .exit) ≡ lengthOrPlace (answered answer) ⌝ }
 {
     match answer {
         Rendered::Text(n) => {
             *at = n;
             0
         }
-        Rendered::Refused(a) => {
-            *at = document::refusal_place(a);
-            document::refusal_number(a)
-        }
+        Rendered::Refused(a) => refused(a, at),
     }
 }
 
@@ -63,8 +84,9 @@ pub extern "C" fn sefgrunn_console(
     at: &mut usize,
 ) -> u32
     ensures number { λ r. ⌜ r ≡ numberOf (console (settings width full) (length (now (room .entry))) (now (document .entry))) ⌝ }
-    ensures at { λ _. ⌜ now (at .exit) ≡ lengthOrPlace (console (settings width full) (length (now (room .entry))) (now (document .entry))) ⌝ }
+    ensures at { λ _. ⌜ now (at .exit) ≡ lengthOrPlace (measured (console (settings width full) (length (now (room .entry))) (now (document .entry)))) ⌝ }
     ensures room { λ _. ⌜ now (room .exit) ≡ filled (length (now (room .entry))) (console (settings width full) (length (now (room .entry))) (now (document .entry))) ⌝ }
+    ensures demand3 { λ r. ⌜ Demand3 (settings width full) (now (document .entry)) (now (room .entry)) (now (room .exit)) (told r (now (at .exit))) ⌝ }
 {
     let answer = console::render_console(document, Settings { width, full }, room);
     told(answer, at)
@@ -80,7 +102,7 @@ pub extern "C" fn sefgrunn_html(
     at: &mut usize,
 ) -> u32
     ensures number { λ r. ⌜ r ≡ numberOf (html (length (now (room .entry))) false full css (now (document .entry))) ⌝ }
-    ensures at { λ _. ⌜ now (at .exit) ≡ lengthOrPlace (html (length (now (room .entry))) false full css (now (document .entry))) ⌝ }
+    ensures at { λ _. ⌜ now (at .exit) ≡ lengthOrPlace (measured (html (length (now (room .entry))) false full css (now (document .entry)))) ⌝ }
     ensures room { λ _. ⌜ now (room .exit) ≡ filled (length (now (room .entry))) (html (length (now (room .entry))) false full css (now (document .entry))) ⌝ }
 {
     let answer = html::render_html(document, full, css, room);
@@ -97,7 +119,7 @@ pub extern "C" fn sefgrunn_html_strict(
     at: &mut usize,
 ) -> u32
     ensures number { λ r. ⌜ r ≡ numberOf (html (length (now (room .entry))) true full css (now (document .entry))) ⌝ }
-    ensures at { λ _. ⌜ now (at .exit) ≡ lengthOrPlace (html (length (now (room .entry))) true full css (now (document .entry))) ⌝ }
+    ensures at { λ _. ⌜ now (at .exit) ≡ lengthOrPlace (measured (html (length (now (room .entry))) true full css (now (document .entry)))) ⌝ }
     ensures room { λ _. ⌜ now (room .exit) ≡ filled (length (now (room .entry))) (html (length (now (room .entry))) true full css (now (document .entry))) ⌝ }
 {
     let answer = html::render_html_strict(document, full, css, room);
@@ -113,7 +135,7 @@ pub extern "C" fn sefgrunn_markdown(
     at: &mut usize,
 ) -> u32
     ensures number { λ r. ⌜ r ≡ numberOf (markdown (length (now (room .entry))) full (now (document .entry))) ⌝ }
-    ensures at { λ _. ⌜ now (at .exit) ≡ lengthOrPlace (markdown (length (now (room .entry))) full (now (document .entry))) ⌝ }
+    ensures at { λ _. ⌜ now (at .exit) ≡ lengthOrPlace (measured (markdown (length (now (room .entry))) full (now (document .entry)))) ⌝ }
     ensures room { λ _. ⌜ now (room .exit) ≡ filled (length (now (room .entry))) (markdown (length (now (room .entry))) full (now (document .entry))) ⌝ }
 {
     let answer = markdown::render_markdown(document, full, room);
@@ -124,39 +146,26 @@ pub extern "C" fn sefgrunn_markdown(
 #[no_mangle]
 pub extern "C" fn sefgrunn_roff(document: &[u8], room: &mut [u8], at: &mut usize) -> u32
     ensures number { λ r. ⌜ r ≡ numberOf (roff (length (now (room .entry))) (now (document .entry))) ⌝ }
-    ensures at { λ _. ⌜ now (at .exit) ≡ lengthOrPlace (roff (length (now (room .entry))) (now (document .entry))) ⌝ }
+    ensures at { λ _. ⌜ now (at .exit) ≡ lengthOrPlace (measured (roff (length (now (room .entry))) (now (document .entry)))) ⌝ }
     ensures room { λ _. ⌜ now (room .exit) ≡ filled (length (now (room .entry))) (roff (length (now (room .entry))) (now (document .entry))) ⌝ }
 {
-    let answer = manpage::render_roff(document, room);
-    told(answer, at)
+    let page = manpage::render_roff(document, room);
+    told(page, at)
 }
 
 // The number of what the builder answers; the length changes only where it accepts.
 fn stored(built: Built, len: &mut usize, place: &mut usize) -> u32
-    ensures number { λ r. ⌜ r ≡ builtNumber built ⌝ }
-    ensures length { λ _. ⌜ now (len .exit) ≡ builtLength (now (len .entry)) built ⌝ }
-    ensures place { λ _. ⌜ now (place .exit) ≡ builtPlace built ⌝ }
+    ensures number { λ r. ⌜ r ≡ numberOf (builtAs built) ⌝ }
+    ensures length { λ _. ⌜ now (len .exit) ≡ lengthAfter (now (len .entry)) (builtAs built) ⌝ }
+    ensures place { λ _. ⌜ now (place .exit) ≡ placeOf (builtAs built) ⌝ }
 {
     match built {
         Built::Length(n) => {
             *len = n;
-            *place = 0;
-            0
+            accepted(place)
         }
-        Built::Refused(a) => {
-            *place = document::refusal_place(a);
-            document::refusal_number(a)
-        }
+        Built::Refused(a) => refused(a, place),
     }
-}
-
-// A style or block number outside its range: 3 with place 0.
-fn out_of_range(place: &mut usize) -> u32
-    ensures number { λ r. ⌜ r ≡ 3 ⌝ }
-    ensures place { λ _. ⌜ now (place .exit) ≡ 0 ⌝ }
-{
-    *place = 0;
-    3
 }
 
 // `Doc::write_str`, in the style with a number from 1 to 5.
@@ -169,7 +178,7 @@ pub extern "C" fn sefgrunn_write(
     place: &mut usize,
 ) -> u32
     ensures number { λ r. ⌜ r ≡ numberOf (writesIn (now (room .entry)) (now (len .entry)) style (now (text .entry))) ⌝ }
-    ensures length { λ _. ⌜ now (len .exit) ≡ lengthAfter (now (len .entry)) (writesIn (now (room .entry)) (now (len .entry)) style (now (text .entry))) ⌝ }
+    ensures length { λ _. ⌜ now (len .exit) ≡ lengthAfter (now (len .entry)) (measured (writesIn (now (room .entry)) (now (len .entry)) style (now (text .entry)))) ⌝ }
     ensures place { λ _. ⌜ now (place .exit) ≡ placeOf (writesIn (now (room .entry)) (now (len .entry)) style (now (text .entry))) ⌝ }
     ensures room { λ _. ⌜ now (room .exit) ≡ kept (now (room .entry)) (writesIn (now (room .entry)) (now (len .entry)) style (now (text .entry))) ⌝ }
 {
@@ -194,7 +203,7 @@ pub extern "C" fn sefgrunn_open(
     place: &mut usize,
 ) -> u32
     ensures number { λ r. ⌜ r ≡ numberOf (opensIn (now (room .entry)) (now (len .entry)) block) ⌝ }
-    ensures length { λ _. ⌜ now (len .exit) ≡ lengthAfter (now (len .entry)) (opensIn (now (room .entry)) (now (len .entry)) block) ⌝ }
+    ensures length { λ _. ⌜ now (len .exit) ≡ lengthAfter (now (len .entry)) (measured (opensIn (now (room .entry)) (now (len .entry)) block)) ⌝ }
     ensures place { λ _. ⌜ now (place .exit) ≡ placeOf (opensIn (now (room .entry)) (now (len .entry)) block) ⌝ }
     ensures room { λ _. ⌜ now (room .exit) ≡ kept (now (room .entry)) (opensIn (now (room .entry)) (now (len .entry)) block) ⌝ }
 {
@@ -219,7 +228,7 @@ pub extern "C" fn sefgrunn_close(
     place: &mut usize,
 ) -> u32
     ensures number { λ r. ⌜ r ≡ numberOf (closesIn (now (room .entry)) (now (len .entry)) block) ⌝ }
-    ensures length { λ _. ⌜ now (len .exit) ≡ lengthAfter (now (len .entry)) (closesIn (now (room .entry)) (now (len .entry)) block) ⌝ }
+    ensures length { λ _. ⌜ now (len .exit) ≡ lengthAfter (now (len .entry)) (measured (closesIn (now (room .entry)) (now (len .entry)) block)) ⌝ }
     ensures place { λ _. ⌜ now (place .exit) ≡ placeOf (closesIn (now (room .entry)) (now (len .entry)) block) ⌝ }
     ensures room { λ _. ⌜ now (room .exit) ≡ kept (now (room .entry)) (closesIn (now (room .entry)) (now (len .entry)) block) ⌝ }
 {
@@ -244,7 +253,7 @@ pub extern "C" fn sefgrunn_doc(
     place: &mut usize,
 ) -> u32
     ensures number { λ r. ⌜ r ≡ numberOf (addsDoc (now (room .entry)) (now (len .entry)) (now (added .entry))) ⌝ }
-    ensures length { λ _. ⌜ now (len .exit) ≡ lengthAfter (now (len .entry)) (addsDoc (now (room .entry)) (now (len .entry)) (now (added .entry))) ⌝ }
+    ensures length { λ _. ⌜ now (len .exit) ≡ lengthAfter (now (len .entry)) (measured (addsDoc (now (room .entry)) (now (len .entry)) (now (added .entry)))) ⌝ }
     ensures place { λ _. ⌜ now (place .exit) ≡ placeOf (addsDoc (now (room .entry)) (now (len .entry)) (now (added .entry))) ⌝ }
     ensures room { λ _. ⌜ now (room .exit) ≡ kept (now (room .entry)) (addsDoc (now (room .entry)) (now (len .entry)) (now (added .entry))) ⌝ }
 {
@@ -261,7 +270,7 @@ pub extern "C" fn sefgrunn_em_doc(
     place: &mut usize,
 ) -> u32
     ensures number { λ r. ⌜ r ≡ numberOf (addsEmDoc (now (room .entry)) (now (len .entry)) (now (added .entry))) ⌝ }
-    ensures length { λ _. ⌜ now (len .exit) ≡ lengthAfter (now (len .entry)) (addsEmDoc (now (room .entry)) (now (len .entry)) (now (added .entry))) ⌝ }
+    ensures length { λ _. ⌜ now (len .exit) ≡ lengthAfter (now (len .entry)) (measured (addsEmDoc (now (room .entry)) (now (len .entry)) (now (added .entry)))) ⌝ }
     ensures place { λ _. ⌜ now (place .exit) ≡ placeOf (addsEmDoc (now (room .entry)) (now (len .entry)) (now (added .entry))) ⌝ }
     ensures room { λ _. ⌜ now (room .exit) ≡ kept (now (room .entry)) (addsEmDoc (now (room .entry)) (now (len .entry)) (now (added .entry))) ⌝ }
 {

@@ -8,7 +8,7 @@ use walk::Skip;
 
 // The by-value form, on the counter's number.
 fn started(n: usize) -> usize
-    ensures { λ r. ⌜ r ≡ skipParagraph false n ⌝ }
+    ensures { λ r. ⌜ r ≡ skipParagraph n ⌝ }
 {
     let skip = Skip(n).started();
     skip.0
@@ -30,7 +30,7 @@ fn popped(n: usize) -> usize
 
 // A paragraph with `full` off.
 pub fn enable(skip: &mut Skip)
-    ensures { λ _. ⌜ now (skip .exit) .0 ≡ skipParagraph false (now (skip .entry) .0) ⌝ }
+    ensures { λ _. ⌜ now (skip .exit) .0 ≡ skipParagraph (now (skip .entry) .0) ⌝ }
 {
     skip.0 = started(skip.0);
 }

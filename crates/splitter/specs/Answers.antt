@@ -1,8 +1,9 @@
 -- What the step over a slice and a cursor answers, seen as the rules' chunks.
-use Prim.Native.Nat.{ℕ, _+_, _-_, _≤_}
+use Prim.Native.Nat.{ℕ, _+_, _≤_}
 use mathlib.Core.List.{List, [], _∷_}
 use lib.Dec.{leb}
-use lib.ListN.{length, take, drop}
+use lib.ListN.{length, drop}
+use Rattle.base.specs.Bytes.{part}
 use Rattle.base.specs.Choice.{if_then_else_}
 use Rattle.splitter.specs.Split.{Chunk, raw, paragraph, lineBreak, step, chunks}
 use Rattle.splitter.specs.Split as rules
@@ -16,14 +17,14 @@ use Rattle.splitter.specs.declared.Step.the-variants.{Take, Done}
 
 -- the chunk that a piece of a body is: 'A word or line is handed back as a part of that body'
 abbrev pub chunkOf : List ℕ → Piece → Chunk
-chunkOf body (Raw from to width) = raw (take (to - from) (drop from body)) width
+chunkOf body (Raw from to width) = raw (part body from to) width
 chunkOf body Space = raw (0x20 ∷ []) 1
 chunkOf body Paragraph = paragraph
 chunkOf body LineBreak = lineBreak
 
 -- the bytes of a piece: 'A word or line is handed back as a part of that body'; the other pieces have none there
 abbrev pub textOf : List ℕ → Piece → List ℕ
-textOf body (Raw from to width) = take (to - from) (drop from body)
+textOf body (Raw from to width) = part body from to
 textOf body Space = []
 textOf body Paragraph = []
 textOf body LineBreak = []
@@ -56,7 +57,8 @@ abbrev pub told : List ℕ → Step → First
 told body (Take p c) = first (chunkOf body p) c
 told body Done = none
 
--- what the rules leave free, the place of a word or line, lies within the body; its width is at most the body's length past 1,000,001
+-- What the rules leave free: where in the body a word or line is, and whether a space of the body is handed out as `Raw` or as `Space`.
+-- What holds of it: the part lies within the body. The width, which the rules settle, is at most the body's length past 1,000,001.
 abbrev pub PieceWithin : ℕ → Piece → Type 0
 PieceWithin n (Raw from to width) = (from ≤ to) × (to ≤ n) × (width ≤ n + 1_000_001)
 PieceWithin n Space = Unit {0}

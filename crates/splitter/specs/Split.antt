@@ -41,7 +41,7 @@ ticks = 0x60 ∷ 0x60 ∷ 0x60 ∷ []
 abbrev pub four : List ℕ
 four = 0x20 ∷ 0x20 ∷ 0x20 ∷ 0x20 ∷ []
 
--- A chunk, the number of bytes that it takes up, and how the bytes after it stand to ticks.
+-- A chunk, the number of bytes that it takes up, and whether the bytes after it are in ticks.
 pub record Step : Type 0 where
   pub chunk : Chunk
   pub used : ℕ

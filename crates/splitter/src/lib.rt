@@ -9,7 +9,7 @@ ghost use Rattle.splitter.specs.Parts.{Gives, wordFrom};
 ghost use Rattle.splitter.specs.declared.Code.the-variants as code;
 ghost use Rattle.splitter.specs.declared.Step.the-variants.{Take};
 
-// Where a body stands to ticks: outside them, at their first line, at a later one.
+// Whether a place in a body is in ticks: outside them, at their first line, at a later one.
 pub enum Code {
     No,
     First,

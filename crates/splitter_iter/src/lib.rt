@@ -10,7 +10,7 @@ use splitter::Code;
 use splitter::Cursor;
 use splitter::Step;
 
-// What is left of a body, and how it stands to ticks there.
+// What is left of a body, and whether that is in ticks.
 pub struct Splitter<'a> {
     pub input: &'a [u8],
     pub code: Code,

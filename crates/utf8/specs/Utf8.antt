@@ -103,7 +103,7 @@ characterAt s at = firstOf (decode (take (sizeOf (drop at s)) (drop at s))) (at 
 abbrev pub continues : ℕ → Bool
 continues b = among 0x80 0xBF b
 
--- 01: 'every byte outside 0x80 to 0xBF counts as a character'; of UTF-8 these are its code points (`count-characters`)
+-- 01: 'every byte outside 0x80 to 0xBF counts as a character'; of UTF-8 these are its code points (the law `count-is`)
 abbrev pub characters : List ℕ → ℕ
 characters [] = 0
 characters (b ∷ s) = (if continues b then 0 else 1) + characters s

@@ -7,10 +7,11 @@ use mathlib.Core.Bool.{Bool, true, false}
 use mathlib.Core.List.{List, [], _∷_}
 use lib.ListN.{length}
 use borrow.Author.Tests.{lt-ltb}
+use Rattle.base.specs.Bytes.{part}
 use Rattle.base.specs.Result.{Result, gives, refused, _>>=_}
 use Rattle.base.proofs.Choice.{if-true, if-false}
 use Rattle.document.specs.Document.{Token, tokensFrom}
-use Rattle.document.specs.Answers.{Read, part}
+use Rattle.document.specs.Answers.{Read}
 use Rattle.document.specs.declared.Head.{Head}
 use Rattle.document.proofs.Tokens.{tokens-end}
 use Rattle.splitter.specs.Split.{Chunk}

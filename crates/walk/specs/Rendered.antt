@@ -1,21 +1,17 @@
 -- What a renderer answers, and what its room then holds, seen as the rules' text or refusal.
 use Prim.Native.Nat.{ℕ}
 use mathlib.Core.List.{List}
-use lib.ListN.{length, take, replicate}
-use Rattle.base.specs.Result.{Result, gives, refused, _>>=_}
+use lib.ListN.{take, replicate}
+use Rattle.base.specs.Result.{Result, gives, refused}
 use Rattle.document.specs.Answers.{refusalNumber, refusalPlace}
 use Rattle.room.specs.Room.{padded}
 use Rattle.walk.specs.declared.Rendered.{Rendered}
 use Rattle.walk.specs.declared.Rendered.the-variants as rendered
 
--- 'the answer is a text with its length, or one numbered refusal with its place'
+-- an answer is the length of a text, or 'A refusal is its number and place'
 abbrev pub answered : Rendered → Result ℕ
 answered (rendered.Text n) = gives n
 answered (rendered.Refused a) = refused (refusalNumber a) (refusalPlace a)
-
--- the same of a rule's text
-unfoldable pub measured : Result (List ℕ) → Result ℕ
-measured r = r >>= λ x. gives (length x)
 
 -- the text that stands in a room for an answer
 abbrev pub standing : List ℕ → Rendered → Result (List ℕ)

@@ -49,8 +49,8 @@ abbrev pub hides : ℕ → Bool
 hides n = ltb 0 n
 
 -- 'a paragraph with `full` off sets it to 1'
-unfoldable pub skipParagraph : Bool → ℕ → ℕ
-skipParagraph full n = if full then n else 1
+abbrev pub skipParagraph : ℕ → ℕ
+skipParagraph n = 1
 
 -- 'InlineBlock's start adds 1 if it is over 0'
 unfoldable pub skipStart : Block → ℕ → ℕ

@@ -1,13 +1,16 @@
-// What the renderers share: their answer, and the skip counter (src/buffer.rs), by value.
+// What the renderers share: their answer, where the walk of a body ends, and the skip counter (src/buffer.rs), by value.
 ghost use mathlib.Core.Path.{_≡_};
 ghost use mathlib.Core.Bool.{Bool, false};
+ghost use mathlib.Core.List.{List};
 ghost use Prim.Native.Nat.{ℕ};
 ghost use lib.ListN.{length};
+ghost use Rattle.splitter.specs.Answers.{chunkOf};
 ghost use Rattle.document.specs.declared.Block.the-variants as block;
-ghost use Rattle.walk.specs.Walk.{hides, skipParagraph, skipStart, skipEnd};
+ghost use Rattle.walk.specs.Walk.{last, hides, skipParagraph, skipStart, skipEnd};
 ghost use Rattle.walk.specs.Answers.{held};
 ghost use Rattle.walk.specs.Rendered.{standing, filled};
 use document::Refusal;
+use splitter::Piece;
 
 // The length of the text that stands in the room, or the refusal.
 pub enum Rendered {
@@ -25,6 +28,18 @@ pub fn clear_after(room: &mut [u8], answer: Rendered)
     }
 }
 
+// Whether a chunk ends the walk of its body: 'With `full` off, a paragraph chunk ends the walk of that body'.
+pub fn ends_body(piece: Piece, full: bool) -> bool
+    ensures { λ r. ⌜ ((body : List ℕ) → r ≡ last full (chunkOf body piece)) ⌝ }
+{
+    match piece {
+        Piece::Raw(_, _, _) => false,
+        Piece::Space => false,
+        Piece::Paragraph => !full,
+        Piece::LineBreak => false,
+    }
+}
+
 pub struct Skip(pub usize);
 
 impl Skip {
@@ -36,7 +51,7 @@ impl Skip {
 
     // `enable`: a paragraph with `full` off.
     pub fn started(self) -> Skip
-        ensures { λ r. ⌜ r .0 ≡ skipParagraph false (self .0) ⌝ }
+        ensures { λ r. ⌜ r .0 ≡ skipParagraph (self .0) ⌝ }
     {
         Skip(1)
     }

@@ -2,7 +2,8 @@
 use Prim.Native.Nat.{ℕ, _+_, _-_, _≤_, _<_}
 use mathlib.Core.Path.{_≡_}
 use mathlib.Core.List.{List, _∷_, _++_}
-use lib.ListN.{length, take, drop}
+use lib.ListN.{length, take}
+use Rattle.base.specs.Bytes.{part}
 use Rattle.splitter.specs.Split.{raw}
 use Rattle.splitter.specs.Answers.{chunksFrom, cursor}
 use Rattle.splitter.specs.declared.Code.the-variants as code
@@ -12,8 +13,8 @@ use Rattle.words.specs.declared.Word.{Word}
 pub record Copies (x : List ℕ) (at len : ℕ) (old new : List ℕ) (w : Word) : Type 0 where
   pub stays : take len new ≡ take len old
   pub order : at ≤ w .to
-  pub copied : at < w .to → take (len + (w .to - at)) new ≡ take len old ++ take (w .to - at) (drop at x)
+  pub copied : at < w .to → take (len + (w .to - at)) new ≡ take len old ++ part x at (w .to)
   pub fits : at < w .to → len + (w .to - at) ≤ length old
   pub within : at < w .to → w .to ≤ length x
   pub narrow : at < w .to → w .width ≤ w .to - at
-  pub next : at < w .to → chunksFrom x (cursor at code.No) ≡ raw (take (w .to - at) (drop at x)) (w .width) ∷ chunksFrom x (cursor (w .to) code.No)
+  pub next : at < w .to → chunksFrom x (cursor at code.No) ≡ raw (part x at (w .to)) (w .width) ∷ chunksFrom x (cursor (w .to) code.No)

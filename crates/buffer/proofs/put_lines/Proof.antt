@@ -10,9 +10,9 @@ use Rattle.buffer.proofs.put_lines.Statement.{statement}
 use Rattle.buffer.proofs.put_lines.Tie as tie
 use lib.ListN.{length-append, length-drop}
 use lib.Seq.{length-take-le}
+use Rattle.base.specs.Bytes.{part}
 use Rattle.base.specs.Result.{refused}
 use Rattle.document.specs.Stored.{text, start}
-use Rattle.document.specs.Answers.{part}
 use Rattle.document.specs.declared.Style.the-variants as style
 use Rattle.document.specs.declared.Block.the-variants as block
 use Rattle.buffer.specs.Parts.{pasted, section, titled}

@@ -1,16 +1,15 @@
 use Prim.Native.Nat.{_-_}
 use borrow.Author.Needs.{needs}
 use denote.Ref.{now}
-use lib.ListN.{set}
 use Rattle.console.proofs.finish.Statement.{statement}
 use Rattle.console.proofs.finish.Tie as tie
 use Rattle.console.proofs.Standing.{finish-over, finish-text}
 
 returns : tie.Need-returns
-returns c = λ kept. finish-over (c .before .before .before .before .before .before .before .args .set) (now (c .before .before .before .before .before .before .before .args .room)) (c .before .before .before .before .last-line .last .0) kept (c .before .before .before .before .before .before .before .args .m) (c .before .before .before .before .last-line .result) (c .before .before .before .before .last-line .ensures (c .before .before .before .before .before .before .before .args .set) kept) (c .before .before .before .before .last-line .kept .0) (c .if1 .taken)
+returns c = λ kept. finish-over (now (c .before .before .before .before .before .before .before .args .room)) (c .before .before .before .before .last-line .last .0) kept (c .before .before .before .before .before .before .before .args .m) (c .before .before .before .before .last-line .result) (c .before .before .before .before .last-line .ensures kept) (c .before .before .before .before .last-line .kept .0) (c .if1 .taken)
 
 returns-2 : tie.Need-returns-2
-returns-2 c = λ kept. finish-text (c .before .before .before .before .before .before .before .args .set) (now (c .before .before .before .before .before .before .before .args .room)) (c .before .before .before .before .last-line .last .0) kept (c .before .before .before .before .before .before .before .args .m) (c .before .before .before .before .last-line .result) (c .before .before .before .before .last-line .ensures (c .before .before .before .before .before .before .before .args .set) kept) (c .before .before .before .before .last-line .kept .0) (c .if1 .left)
+returns-2 c = λ kept. finish-text (now (c .before .before .before .before .before .before .before .args .room)) (c .before .before .before .before .last-line .last .0) kept (c .before .before .before .before .before .before .before .args .m) (c .before .before .before .before .last-line .result) (c .before .before .before .before .last-line .ensures kept) (c .before .before .before .before .last-line .kept .0) (c .if1 .left)
 
 pub finish-spec : {M : Type 1} → statement M
 finish-spec =

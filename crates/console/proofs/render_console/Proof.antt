@@ -1,9 +1,11 @@
+use mathlib.Core.Path.{ap, _∙_}
 use Prim.Native.Nat.{_-_}
 use borrow.Author.Needs.{needs}
 use denote.Ref.{now}
 use lib.ListN.{length, set}
 use Rattle.console.proofs.render_console.Statement.{statement}
 use Rattle.console.proofs.render_console.Tie as tie
+use Rattle.base.specs.Result.{measured}
 use Rattle.walk.proofs.Clearing.{standing-measured}
 use Rattle.console_rules.specs.Console.{console}
 use Rattle.console.proofs.Order.{cleared-room, demand3}
@@ -14,7 +16,7 @@ returns c =
     let s = c .before .before .before .before .before .before .rendered in
     let answer = standing-measured (s .last .1 .1 .0) (s .result) (console (a .set) (length (now (a .room))) (now (a .document))) (s .ensures .same) (s .ensures .fits) in
     let room = cleared-room (now (a .room)) (s .last .1 .1 .0) (c .before .before .clear-after .last .0) (s .result) (console (a .set) (length (now (a .room))) (now (a .document))) (s .ensures) (s .kept .1 .1 .0) (c .before .before .clear-after .ensures) in
-    (answer, (room, demand3 (a .set) (now (a .document)) (now (a .room)) (c .before .before .clear-after .last .0) (s .result) answer room))
+    (answer, (room, demand3 (a .set) (now (a .document)) (now (a .room)) (c .before .before .clear-after .last .0) _ (λ text e. answer ∙ ap measured e) room))
 
 pub render-console-spec : {M : Type 1} → statement M
 render-console-spec =

@@ -8,7 +8,7 @@ use Rattle.console.proofs.rendered.Statement.{statement}
 use Rattle.console.proofs.rendered.Tie as tie
 use Rattle.document.specs.declared.Refusal.the-variants as refusal
 use Rattle.document.proofs.Walks.{verdict-gives, verdict-refused}
-use Rattle.console.specs.Answers.{textBy}
+use Rattle.console_rules.specs.Console.{textBy}
 use Rattle.console.proofs.Order.{console-long, console-wide, console-refused, console-text, stands-no, stands-by}
 
 returns : tie.Need-returns
@@ -27,7 +27,7 @@ returns-4 : tie.Need-returns-4
 returns-4 c =
     stands-by (c .before .before .text-of .last .1 .1 .1 .0) (c .before .before .text-of .result) _ _
     (console-text (c .before .before .before .before .before .before .before .before .before .before .before .before .before .args .set) _ (now (c .before .before .before .before .before .before .before .before .before .before .before .before .before .args .document)) (c .before .before .before .before .before .before .before .before .before .before .if1 .left) (c .before .before .before .before .before .before .before .before .if2 .left) [] (verdict-gives [] (c .before .before .before .before .before .before .before .check .ensures) (c .before .before .before .before .before .enum-told .given .1))
-    ∙ ap (λ (t : ℕ). textBy (c .before .before .before .before .before .before .before .before .before .before .before .before .before .args .set) (length (now (c .before .before .before .before .before .before .before .before .before .before .before .before .before .args .room))) t (now (c .before .before .before .before .before .before .before .before .before .before .before .before .before .args .document))) (sym (c .before .before .before .before .tabstop-of .ensures .0)))
+    ∙ ap (λ (t : ℕ). textBy length (c .before .before .before .before .before .before .before .before .before .before .before .before .before .args .set) (length (now (c .before .before .before .before .before .before .before .before .before .before .before .before .before .args .room))) t (now (c .before .before .before .before .before .before .before .before .before .before .before .before .before .args .document))) (sym (c .before .before .before .before .tabstop-of .ensures .0)))
     (c .before .before .text-of .ensures)
 
 pub rendered-spec : {M : Type 1} → statement M

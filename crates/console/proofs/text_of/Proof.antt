@@ -158,7 +158,7 @@ records-again-6 c =
     body-stop _ _ _ _ (s .room) (s .margins) (s .count) (s .m) (s .at) (s .inv) (c .before .before .before .before .before .before .before .before .before .before .before .before .before .before .before .before .before .before .before .before .before .before .before .before .before .before .before .record-at .result) (c .before .before .before .before .before .before .before .before .before .before .before .before .before .before .before .before .before .before .before .before .before .before .before .before .before .before .before .record-at .ensures) (c .before .before .before .before .before .before .before .before .before .before .before .before .before .before .before .before .before .before .before .before .before .before .before .before .before .before .before .before .before .before .records-test .taken) (c .before .before .before .before .before .before .before .before .before .before .before .before .before .before .before .before .before .before .before .before .before .before .before .before .before .before .before .before .before .before .before .before .before .before .before .pre .0) _ (c .before .before .before .before .before .before .before .before .before .before .before .before .before .before .before .before .before .before .before .before .before .before .before .before .before .enum-told2 .given .1) (c .before .before .before .before .before .before .before .before .before .before .before .before .before .before .before .before .before .before .before .before .top-margin .result) (c .before .before .before .before .before .before .before .before .before .before .before .before .before .before .before .before .before .before .before .before .top-margin .ensures) (u .last .0) (u .result .mark) (cursor (u .result .at) (v .code)) i _ _
     (took _ (cursor (u .result .at) (v .code)) (c .before .before .before .before .before .before .before .before .before .before .before .before .step-at .result) _ _ (c .before .before .before .before .before .before .before .before .before .before .piece .given .1) (c .before .before .before .before .before .before .before .before .before .before .before .before .step-at .ensures)) (g .last .0) _ (g .kept .0)
     (placed-at (g .last .0) (take (s .count) (s .margins)) (g .result) _ _ (c .before .before .before .placed2 .given .1) (g .ensures .0 (take (s .count) (s .margins)))) (nearby-at _ _ (g .result) _ (c .before .before .before .placed2 .given .1) (g .ensures .1))
-    (sym (c .before .stops-at .ensures _) ∙ c .if3 .taken)
+    (sym (c .before .ends-body .ensures _) ∙ c .if3 .taken)
 
 chunks-less : tie.Need-chunks-less Inv-chunks μ-chunks Inv-records μ-records
 chunks-less c =
@@ -177,7 +177,7 @@ chunks-again c =
     body-on _ _ _ _ (s .room) (s .margins) (s .count) (s .m) (s .at) (s .inv) (c .before .before .before .before .before .before .before .before .before .before .before .before .before .before .before .before .before .before .before .before .before .before .before .before .before .before .before .record-at .result) (c .before .before .before .before .before .before .before .before .before .before .before .before .before .before .before .before .before .before .before .before .before .before .before .before .before .before .before .record-at .ensures) (c .before .before .before .before .before .before .before .before .before .before .before .before .before .before .before .before .before .before .before .before .before .before .before .before .before .before .before .before .before .before .records-test .taken) (c .before .before .before .before .before .before .before .before .before .before .before .before .before .before .before .before .before .before .before .before .before .before .before .before .before .before .before .before .before .before .before .before .before .before .before .pre .0) _ (c .before .before .before .before .before .before .before .before .before .before .before .before .before .before .before .before .before .before .before .before .before .before .before .before .before .enum-told2 .given .1) (c .before .before .before .before .before .before .before .before .before .before .before .before .before .before .before .before .before .before .before .before .top-margin .result) (c .before .before .before .before .before .before .before .before .before .before .before .before .before .before .before .before .before .before .before .before .top-margin .ensures) (u .last .0) (u .result .mark) (cursor (u .result .at) (v .code)) i _ _
     (took _ (cursor (u .result .at) (v .code)) (c .before .before .before .before .before .before .before .before .before .before .before .before .step-at .result) _ _ (c .before .before .before .before .before .before .before .before .before .before .piece .given .1) (c .before .before .before .before .before .before .before .before .before .before .before .before .step-at .ensures)) (g .last .0) _ (g .kept .0)
     (placed-at (g .last .0) (take (s .count) (s .margins)) (g .result) _ _ (c .before .before .before .placed2 .given .1) (g .ensures .0 (take (s .count) (s .margins)))) (nearby-at _ _ (g .result) _ (c .before .before .before .placed2 .given .1) (g .ensures .1))
-    (sym (c .before .stops-at .ensures _) ∙ c .if3 .left)
+    (sym (c .before .ends-body .ensures _) ∙ c .if3 .left)
 
 same-length-3 : tie.Need-same-length-3 Inv-chunks μ-chunks Inv-records μ-records
 same-length-3 c = c .before .before .finish .kept .0 ∙ c .before .before .before .before .before .records .inv .size

@@ -13,14 +13,14 @@ returns : tie.Need-returns
 returns c =
     let a = c .before .before .before .before .before .before .before .before .args in
     let due = sym (c .before .before .before .before .before .either .ensures) ∙ c .before .before .before .before .if1 .taken in
-    λ set kept.
+    λ kept.
     wrote (now (a .room)) _ (a .m .len) _ kept (a .m .lay) _ (0x0A ∷ []) (length (now (a .room))) (λ l. l) refl (c .before .before .put .ensures)
-    ∙ last-due set (now (a .room)) kept (a .m) due
+    ∙ last-due (now (a .room)) kept (a .m) due
 
 returns-2 : tie.Need-returns-2
 returns-2 c =
     let a = c .before .before .before .before .args in
-    λ set kept. last-none set (now (a .room)) kept (a .m) (sym (c .before .either .ensures) ∙ c .if1 .left)
+    λ kept. last-none (now (a .room)) kept (a .m) (sym (c .before .either .ensures) ∙ c .if1 .left)
 
 pub last-line-spec : {M : Type 1} → statement M
 last-line-spec =

@@ -3,11 +3,8 @@ use Prim.Native.Nat.{_-_}
 use borrow.Author.Needs.{needs}
 use Rattle.console_parts.proofs.skipping.Statement.{statement}
 use Rattle.console_parts.proofs.skipping.Tie as tie
-use Rattle.base.specs.Choice.{if_then_else_}
-use Rattle.walk.specs.Walk.{skipParagraph}
 
 returns : tie.Need-returns
-unfolding skipParagraph if_then_else_
 returns c = (refl, rw (c .started .ensures))
 
 pub skipping-spec : {M : Type 1} → statement M

@@ -9,7 +9,7 @@ use Rattle.console_parts.proofs.tabstop_of.Statement.{statement}
 use Rattle.console_parts.proofs.tabstop_of.Tie as tie
 use lib.ListN.{length-take}
 use Rattle.document.specs.Document.{tokens, tokensFrom}
-use Rattle.document.specs.Answers.{part}
+use Rattle.base.specs.Bytes.{part}
 use Rattle.console_rules.specs.Console.{Terms, terms, tabstop}
 use Rattle.console_parts.specs.Counted.{termsOf}
 use Rattle.console_parts.proofs.Scans.{terms-next, terms-none, term-bounds}

@@ -25,7 +25,7 @@ sub-n : tie.Need-sub-n Inv-loop μ-loop
 sub-n c = c .before .before .before .copy-next .ensures .order
 
 same-length : tie.Need-same-length Inv-loop μ-loop
-same-length c = c .before .before .before .before .copy-next .kept .0 ∙ c .before .before .before .before .before .before .loop .inv .size
+same-length c = c .before .before .before .before .copy-next .kept .0 ∙ c .before .before .before .before .before .before .loop .inv .words .size
 
 returns : tie.Need-returns Inv-loop μ-loop
 returns c =
@@ -35,7 +35,7 @@ returns c =
     onward-same (a .width) (now (a .body)) (now (a .room)) (a .len) (a .column .0) (a .from) (l .room) (l .len) (l .used) (l .at) (l .inv) (g .last .0) (g .result) (g .ensures) (g .kept .0)
 
 same-length-2 : tie.Need-same-length-2 Inv-loop μ-loop
-same-length-2 c = c .before .before .before .before .before .before .copy-next .kept .0 ∙ c .before .before .before .before .before .before .before .before .loop .inv .size
+same-length-2 c = c .before .before .before .before .before .before .copy-next .kept .0 ∙ c .before .before .before .before .before .before .before .before .loop .inv .words .size
 
 returns-2 : tie.Need-returns-2 Inv-loop μ-loop
 returns-2 c =
@@ -48,7 +48,7 @@ add-len : tie.Need-add-len Inv-loop μ-loop
 add-len c =
     let e = c .before .before .before .before .before .before .copy-next .ensures in
     let l = c .before .before .before .before .before .before .before .before .loop in
-    let f : l .len + (c .before .before .before .before .before .before .copy-next .result .to - l .at) ≤ length (now (c .before .before .before .before .before .before .before .before .before .before .before .args .room)) = omega (arith, e .fits (omega (arith, e .order)), l .inv .size) in
+    let f : l .len + (c .before .before .before .before .before .before .copy-next .result .to - l .at) ≤ length (now (c .before .before .before .before .before .before .before .before .before .before .before .args .room)) = omega (arith, e .fits (omega (arith, e .order)), l .inv .words .size) in
     search needs
 
 add-used : tie.Need-add-used Inv-loop μ-loop

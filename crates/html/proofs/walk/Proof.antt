@@ -130,13 +130,13 @@ records-less-6 : tie.Need-records-less-6 Inv-chunks μ-chunks Inv-records μ-rec
 records-less-6 c = let r = c .before .before .before .before .before .before .before .before .before .before .before .before .before .before .before .before .record-at .ensures in let k = r .low (c .before .before .before .before .before .before .before .before .before .before .before .before .before .before .before .before .before .before .records-test .taken) in omega (arith, r .order, r .high)
 
 records-again-6 : tie.Need-records-again-6 Inv-chunks μ-chunks Inv-records μ-records
-records-again-6 c = let e = c .before .before .before .before .before .before .before .before .before .before .change-style .kept .0 ∙ c .before .before .before .before .before .before .before .before .before .before .before .before .before .before .before .before .before .before .before .records .inv .same in on-stopped _ _ _ _ _ (c .before .before .before .before .before .before .before .before .before .before .before .before .before .before .before .before .before .before .before .records .inv) (c .before .before .before .before .before .before .before .before .before .before .before .before .before .before .before .before .record-at .ensures) (c .before .before .before .before .before .before .before .before .before .before .before .before .before .before .before .before .before .before .records-test .taken) (c .before .before .before .before .before .before .before .before .before .before .before .before .before .before .kind3 .given .1) (c .before .before .before .before .before .before .chunks .inv .0 ∙ e) (body-at (sym e) (c .before .before .before .before .before .before .chunks .inv .2)) (took _ _ _ _ _ (c .before .before .before .piece .given .1) (c .before .before .before .before .before .step-at .ensures)) (sym (c .before .ends-body .ensures) ∙ c .if5 .taken)
+records-again-6 c = let e = c .before .before .before .before .before .before .before .before .before .before .change-style .kept .0 ∙ c .before .before .before .before .before .before .before .before .before .before .before .before .before .before .before .before .before .before .before .records .inv .same in on-stopped _ _ _ _ _ (c .before .before .before .before .before .before .before .before .before .before .before .before .before .before .before .before .before .before .before .records .inv) (c .before .before .before .before .before .before .before .before .before .before .before .before .before .before .before .before .record-at .ensures) (c .before .before .before .before .before .before .before .before .before .before .before .before .before .before .before .before .before .before .records-test .taken) (c .before .before .before .before .before .before .before .before .before .before .before .before .before .before .kind3 .given .1) (c .before .before .before .before .before .before .chunks .inv .0 ∙ e) (body-at (sym e) (c .before .before .before .before .before .before .chunks .inv .2)) (took _ _ _ _ _ (c .before .before .before .piece .given .1) (c .before .before .before .before .before .step-at .ensures)) (sym (c .before .ends-body .ensures _) ∙ c .if5 .taken)
 
 chunks-less : tie.Need-chunks-less Inv-chunks μ-chunks Inv-records μ-records
 chunks-less c = let t = took _ _ _ _ _ (c .before .before .before .before .before .before .before .piece .given .1) (c .before .before .before .before .before .before .before .before .before .step-at .ensures) in omega (arith, t .further, t .short)
 
 chunks-again : tie.Need-chunks-again Inv-chunks μ-chunks Inv-records μ-records
-chunks-again c = (c .before .before .put-chunk .kept .0 ∙ c .before .before .before .before .before .before .before .before .before .before .chunks .inv .0, c .before .before .before .before .before .before .before .before .before .before .chunks .inv .1, body-on _ _ _ _ _ (c .before .before .before .before .before .before .before .before .before .before .chunks .inv .2) (took _ _ _ _ _ (c .before .before .before .before .before .before .before .piece .given .1) (c .before .before .before .before .before .before .before .before .before .step-at .ensures)) _ _ (c .before .before .before .before .before .before .before .before .before .before .chunks .inv .0) (sym (c .before .before .before .before .before .ends-body .ensures) ∙ c .before .before .before .before .if5 .left) (c .before .before .put-chunk .ensures))
+chunks-again c = (c .before .before .put-chunk .kept .0 ∙ c .before .before .before .before .before .before .before .before .before .before .chunks .inv .0, c .before .before .before .before .before .before .before .before .before .before .chunks .inv .1, body-on _ _ _ _ _ (c .before .before .before .before .before .before .before .before .before .before .chunks .inv .2) (took _ _ _ _ _ (c .before .before .before .before .before .before .before .piece .given .1) (c .before .before .before .before .before .before .before .before .before .step-at .ensures)) _ _ (c .before .before .before .before .before .before .before .before .before .before .chunks .inv .0) (sym (c .before .before .before .before .before .ends-body .ensures _) ∙ c .before .before .before .before .if5 .left) (c .before .before .put-chunk .ensures))
 
 change-style-requires-2 : tie.Need-change-style-requires-2 Inv-chunks μ-chunks Inv-records μ-records
 change-style-requires-2 c κs = c .before .before .before .before .before .before .before .pre .0

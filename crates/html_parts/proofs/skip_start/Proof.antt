@@ -1,14 +1,16 @@
+use mathlib.Core.Path.{sym, _∙_}
 use Prim.Native.Nat.{_-_}
 use borrow.Author.Needs.{needs}
+use borrow.Author.Tests.{not-true, not-false}
 use Rattle.html_parts.proofs.skip_start.Statement.{statement}
 use Rattle.html_parts.proofs.skip_start.Tie as tie
 use Rattle.html_parts.proofs.Counts.{start-other, start-inline}
 
 returns : tie.Need-returns
-returns c = start-other (c .before .before .args .b) (c .before .before .args .n) _ (c .before .index-of .ensures) (c .if1 .taken)
+returns c = start-other (c .before .before .args .b) (c .before .before .args .n) (sym (c .before .is-inline .ensures) ∙ not-true _ (c .if1 .taken))
 
 returns-2 : tie.Need-returns-2
-returns-2 c = start-inline (c .before .before .before .args .b) (c .before .before .before .args .n) _ (c .before .before .index-of .ensures) _ (c .before .if1 .left) (c .pushed .ensures)
+returns-2 c = start-inline (c .before .before .before .args .b) (c .before .before .before .args .n) _ (sym (c .before .before .is-inline .ensures) ∙ not-false _ (c .before .if1 .left)) (c .pushed .ensures)
 
 pub skip-start-spec : {M : Type 1} → statement M
 skip-start-spec =

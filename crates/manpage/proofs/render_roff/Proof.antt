@@ -6,9 +6,9 @@ use denote.Ref.{now}
 use lib.ListN.{length}
 use Rattle.manpage.proofs.render_roff.Statement.{statement}
 use Rattle.manpage.proofs.render_roff.Tie as tie
-use Rattle.base.specs.Result.{_>>=_}
+use Rattle.base.specs.Result.{_>>=_, measured}
 use Rattle.document.proofs.Walks.{verdict-gives, verdict-refused}
-use Rattle.walk.specs.Rendered.{measured, standing, filled}
+use Rattle.walk.specs.Rendered.{standing, filled}
 use Rattle.walk.proofs.Clearing.{standing-measured}
 use Rattle.manpage.proofs.Walking.{roff-accepted, roff-refused}
 
@@ -22,7 +22,6 @@ returns c =
     )
 
 returns-2 : tie.Need-returns-2
-unfolding measured _>>=_
 returns-2 c =
     let a = c .before .before .before .before .before .before .before .before .before .before .args in
     let e = roff-refused (length (now (a .room))) (now (a .document)) _ _ (verdict-refused [] (c .before .before .before .before .before .before .before .check .ensures) (c .before .before .before .before .before .verdict .given .1)) in (

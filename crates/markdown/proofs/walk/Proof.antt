@@ -108,7 +108,7 @@ records-less-5 : tie.Need-records-less-5 Inv-chunks μ-chunks Inv-records μ-rec
 records-less-5 c = let r = c .before .before .before .before .before .before .before .before .before .before .before .before .before .before .before .before .before .before .before .before .before .before .before .before .before .before .before .record-at .ensures in let k = r .low (c .before .before .before .before .before .before .before .before .before .before .before .before .before .before .before .before .before .before .before .before .before .before .before .before .before .before .before .before .before .records-test .taken) in omega (arith, r .order, r .high)
 
 records-again-5 : tie.Need-records-again-5 Inv-chunks μ-chunks Inv-records μ-records
-records-again-5 c = let e = c .before .before .before .before .before .before .before .before .before .before .before .before .before .before .before .before .before .before .before .before .change-to-markdown-style3 .kept .0 ∙ c .before .before .before .before .before .before .before .before .before .before .before .before .before .before .before .before .before .before .before .before .before .before .before .before .before .before .before .before .before .before .records .inv .same in on-stopped _ _ _ (c .before .before .before .before .before .before .before .before .before .before .before .before .before .before .before .before .before .before .before .before .before .before .before .before .before .before .before .before .before .before .records .inv) (c .before .before .before .before .before .before .before .before .before .before .before .before .before .before .before .before .before .before .before .before .before .before .before .before .before .before .before .record-at .ensures) (c .before .before .before .before .before .before .before .before .before .before .before .before .before .before .before .before .before .before .before .before .before .before .before .before .before .before .before .before .before .records-test .taken) (c .before .before .before .before .before .before .before .before .before .before .before .before .before .before .before .before .before .before .before .before .before .before .before .before .before .kind3 .given .1) (c .before .before .before .before .before .before .before .before .before .before .before .before .before .put-plain .kept .0 ∙ c .before .before .before .before .before .before .before .before .before .before .before .before .before .before .before .chunks .inv .0 ∙ e) (body-at (sym e) (body-words _ _ _ (c .before .before .before .before .before .before .before .before .before .before .before .before .before .before .before .chunks .inv .1) _ _ _ (c .before .before .before .before .before .before .before .before .before .before .before .before .before .before .before .chunks .inv .0) (c .before .before .before .before .before .before .before .before .before .before .before .before .before .put-plain .ensures))) _ _ _ (c .before .before .put-span2 .kept .0) (span-is _ (codeEnds (c .before .before .before .before .before .before .before .before .before .before .before .before .before .before .before .chunks .lay)) (c .before .before .before .ends-span .result) (c .before .before .before .before .before .before .before .before .before .before .before .before .before .before .before .before .before .before .before .before .before .before .before .before .before .before .before .before .before .before .before .before .before .before .pre .0) (c .before .before .before .ends-span .ensures)) (c .before .before .put-span2 .ensures) (took _ _ _ _ _ (c .before .before .before .before .before .before .before .before .piece .given .1) (c .before .before .before .before .before .before .before .before .before .before .step-at .ensures)) (sym (c .before .before .before .before .before .before .ends-body .ensures) ∙ c .before .before .before .before .before .if5 .taken)
+records-again-5 c = let e = c .before .before .before .before .before .before .before .before .before .before .before .before .before .before .before .before .before .before .before .before .change-to-markdown-style3 .kept .0 ∙ c .before .before .before .before .before .before .before .before .before .before .before .before .before .before .before .before .before .before .before .before .before .before .before .before .before .before .before .before .before .before .records .inv .same in on-stopped _ _ _ (c .before .before .before .before .before .before .before .before .before .before .before .before .before .before .before .before .before .before .before .before .before .before .before .before .before .before .before .before .before .before .records .inv) (c .before .before .before .before .before .before .before .before .before .before .before .before .before .before .before .before .before .before .before .before .before .before .before .before .before .before .before .record-at .ensures) (c .before .before .before .before .before .before .before .before .before .before .before .before .before .before .before .before .before .before .before .before .before .before .before .before .before .before .before .before .before .records-test .taken) (c .before .before .before .before .before .before .before .before .before .before .before .before .before .before .before .before .before .before .before .before .before .before .before .before .before .kind3 .given .1) (c .before .before .before .before .before .before .before .before .before .before .before .before .before .put-plain .kept .0 ∙ c .before .before .before .before .before .before .before .before .before .before .before .before .before .before .before .chunks .inv .0 ∙ e) (body-at (sym e) (body-words _ _ _ (c .before .before .before .before .before .before .before .before .before .before .before .before .before .before .before .chunks .inv .1) _ _ _ (c .before .before .before .before .before .before .before .before .before .before .before .before .before .before .before .chunks .inv .0) (c .before .before .before .before .before .before .before .before .before .before .before .before .before .put-plain .ensures))) _ _ _ (c .before .before .put-span2 .kept .0) (span-is _ (codeEnds (c .before .before .before .before .before .before .before .before .before .before .before .before .before .before .before .chunks .lay)) (c .before .before .before .ends-span .result) (c .before .before .before .before .before .before .before .before .before .before .before .before .before .before .before .before .before .before .before .before .before .before .before .before .before .before .before .before .before .before .before .before .before .before .pre .0) (c .before .before .before .ends-span .ensures)) (c .before .before .put-span2 .ensures) (took _ _ _ _ _ (c .before .before .before .before .before .before .before .before .piece .given .1) (c .before .before .before .before .before .before .before .before .before .before .step-at .ensures)) (sym (c .before .before .before .before .before .before .ends-body .ensures _) ∙ c .before .before .before .before .before .if5 .taken)
 
 put-chunk-requires : tie.Need-put-chunk-requires Inv-chunks μ-chunks Inv-records μ-records
 put-chunk-requires c κs = c .before .before .before .before .before .before .before .before .before .before .before .before .before .before .before .before .before .before .before .before .before .before .before .before .before .before .before .before .before .before .pre .0
@@ -117,7 +117,7 @@ chunks-less : tie.Need-chunks-less Inv-chunks μ-chunks Inv-records μ-records
 chunks-less c = let t = took _ _ _ _ _ (c .before .before .before .before .before .before .before .before .piece .given .1) (c .before .before .before .before .before .before .before .before .before .before .step-at .ensures) in omega (arith, t .further, t .short, c .before .before .before .before .before .before .before .before .before .before .before .before .before .put-plain .ensures .order)
 
 chunks-again : tie.Need-chunks-again Inv-chunks μ-chunks Inv-records μ-records
-chunks-again c = (c .before .before .before .put-chunk .kept .0 ∙ c .before .before .before .before .before .before .before .before .before .before .before .before .before .put-plain .kept .0 ∙ c .before .before .before .before .before .before .before .before .before .before .before .before .before .before .before .chunks .inv .0, body-on _ _ _ (body-words _ _ _ (c .before .before .before .before .before .before .before .before .before .before .before .before .before .before .before .chunks .inv .1) _ _ _ (c .before .before .before .before .before .before .before .before .before .before .before .before .before .before .before .chunks .inv .0) (c .before .before .before .before .before .before .before .before .before .before .before .before .before .put-plain .ensures)) (took _ _ _ _ _ (c .before .before .before .before .before .before .before .before .piece .given .1) (c .before .before .before .before .before .before .before .before .before .before .step-at .ensures)) _ _ _ (c .before .before .before .before .before .before .before .before .before .before .before .before .before .put-plain .kept .0 ∙ c .before .before .before .before .before .before .before .before .before .before .before .before .before .before .before .chunks .inv .0) (sym (c .before .before .before .before .before .before .ends-body .ensures) ∙ c .before .before .before .before .before .if5 .left) (c .before .before .before .put-chunk .ensures) (c .fence-after .ensures))
+chunks-again c = (c .before .before .before .put-chunk .kept .0 ∙ c .before .before .before .before .before .before .before .before .before .before .before .before .before .put-plain .kept .0 ∙ c .before .before .before .before .before .before .before .before .before .before .before .before .before .before .before .chunks .inv .0, body-on _ _ _ (body-words _ _ _ (c .before .before .before .before .before .before .before .before .before .before .before .before .before .before .before .chunks .inv .1) _ _ _ (c .before .before .before .before .before .before .before .before .before .before .before .before .before .before .before .chunks .inv .0) (c .before .before .before .before .before .before .before .before .before .before .before .before .before .put-plain .ensures)) (took _ _ _ _ _ (c .before .before .before .before .before .before .before .before .piece .given .1) (c .before .before .before .before .before .before .before .before .before .before .step-at .ensures)) _ _ _ (c .before .before .before .before .before .before .before .before .before .before .before .before .before .put-plain .kept .0 ∙ c .before .before .before .before .before .before .before .before .before .before .before .before .before .before .before .chunks .inv .0) (sym (c .before .before .before .before .before .before .ends-body .ensures _) ∙ c .before .before .before .before .before .if5 .left) (c .before .before .before .put-chunk .ensures) (c .fence-after .ensures))
 
 records-less-6 : tie.Need-records-less-6 Inv-chunks μ-chunks Inv-records μ-records
 records-less-6 c = let r = c .before .before .before .before .before .before .before .before .before .before .before .before .before .before .before .before .before .before .before .before .before .before .before .before .record-at .ensures in let k = r .low (c .before .before .before .before .before .before .before .before .before .before .before .before .before .before .before .before .before .before .before .before .before .before .before .before .before .before .records-test .taken) in omega (arith, r .order, r .high)

@@ -1,11 +1,13 @@
-use mathlib.Core.Path.{sym, ap}
 use borrow.Author.Needs.{needs}
-use Rattle.sefgrunn.specs.Numbers.{answerNumber, answerAt}
 use Rattle.sefgrunn.proofs.told.Statement.{statement}
 use Rattle.sefgrunn.proofs.told.Tie as tie
+use Rattle.sefgrunn.proofs.Numbers.{told-text, told-refused}
 
 returns : tie.Need-returns
-returns c = (ap answerNumber (sym (c .before .answer .given .1)), ap answerAt (sym (c .before .answer .given .1)))
+returns c = told-text (c .before .before .before .args .answer) _ (c .before .answer .given .1)
+
+returns-2 : tie.Need-returns-2
+returns-2 c = told-refused (c .before .before .before .before .before .args .answer) _ _ _ (c .before .before .before .answer2 .given .1) (c .refused .ensures .0) (c .refused .ensures .1)
 
 pub told-spec : {M : Type 1} → statement M
 told-spec =
@@ -14,6 +16,5 @@ told-spec =
     (λ c. search needs)
     (λ c. search needs)
     (λ c κs. search needs)
-    (λ c κs. search needs)
     returns
-    (λ c. search needs))
+    returns-2)

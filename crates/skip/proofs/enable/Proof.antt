@@ -1,7 +1,6 @@
 -- `skip::enable` meets its contract: it is `skip.0 = started(skip.0);`, so `InPlace.antt`'s law takes `started`'s theorem to it.
 -- Assumes nothing.
 use Rattle.proof_kit.proofs.Kit.{ℕ, givenOf, tables, tablesOf, tripleOf, entered, cited}
-use mathlib.Core.Bool.{false}
 use Rattle.walk.specs.Walk.{skipParagraph}
 use Rattle.skip.proofs.InPlace.{Callee, replaces}
 use Rattle.skip.proofs.started.Symbol as callee-def
@@ -13,7 +12,7 @@ use Rattle.skip.proofs.enable.Statement as stated
 use Rattle.skip.proofs.enable.Code as code
 
 abbrev rule : ℕ → ℕ
-rule n = skipParagraph false n
+rule n = skipParagraph n
 
 pub enable-spec : {M : Type 1} → stated.statement M
 unfolding code.routine tablesOf

@@ -1,12 +1,9 @@
-use mathlib.Core.Path.{refl, sym}
+use mathlib.Core.Path.{refl}
 use Rattle.walk.proofs.Skip.started.Statement.{statement}
 use Rattle.walk.proofs.Skip.started.Tie as tie
-use Rattle.base.proofs.Choice.{if-false}
-use Rattle.walk.specs.Walk.{skipParagraph}
 
 returns : tie.Need-returns
-unfolding skipParagraph
-returns c = sym (if-false _ _ refl)
+returns c = refl
 
 pub started-spec : {M : Type 1} → statement M
 started-spec =

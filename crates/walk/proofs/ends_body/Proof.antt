@@ -1,10 +1,10 @@
 use mathlib.Core.Path.{sym, ap}
 use Prim.Native.Nat.{_-_}
 use borrow.Author.Needs.{needs}
-use Rattle.console_parts.proofs.stops_at.Statement.{statement}
-use Rattle.console_parts.proofs.stops_at.Tie as tie
+use Rattle.walk.proofs.ends_body.Statement.{statement}
+use Rattle.walk.proofs.ends_body.Tie as tie
 use Rattle.splitter.specs.Answers.{chunkOf}
 use Rattle.walk.specs.Walk.{last}
 
 returns : tie.Need-returns
 returns c = λ body. sym (ap (λ p. last (c .before .before .args .full) (chunkOf body p)) (c .enum-told .given .1))
@@ -18,8 +18,8 @@ returns-3 c = λ body. sym (ap (λ p. last (c .before .before .args .full) (chun
 returns-4 : tie.Need-returns-4
 returns-4 c = λ body. sym (ap (λ p. last (c .before .before .args .full) (chunkOf body p)) (c .enum-told4 .given .1))
 
-pub stops-at-spec : {M : Type 1} → statement M
-stops-at-spec =
+pub ends-body-spec : {M : Type 1} → statement M
+ends-body-spec =
     tie.close
     (tie.spec
     (λ c. search needs)
