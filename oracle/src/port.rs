@@ -150,11 +150,9 @@ pub fn call(case: &Case) -> Result<Answer, String> {
     let mut length = case.length as usize;
     let number = number(case.call, document.inner(), room.inner(), &mut length, &mut at);
 
-    // design.md says nothing of `*place` after an accepted check or builder call
-    let placed = number != 0 || matches!(case.call, Call::Render(_));
     let answer = Answer {
         number,
-        at: if placed { at as u64 } else { 0 },
+        at: at as u64,
         room: room.inner().to_vec(),
         length: length as u64,
         chunks: Vec::new(),

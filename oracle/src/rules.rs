@@ -1087,7 +1087,7 @@ pub fn result(operation: Operation, so_far: &[u8], argument: &[u8]) -> Ruled<Vec
 
 /// The document after an operation on the first `length` bytes of `room`.
 pub fn build(operation: Operation, room: &[u8], length: u64, argument: &[u8]) -> Ruled<Vec<u8>> {
-    // design.md, C interface: a number outside its range is 3 at 0 before anything else
+    // include/sefgrunn.h: a number outside its range is 3 at 0 before anything else
     let known = match operation {
         Operation::Write { style } => (1..=5).contains(&style),
         Operation::Open { block } | Operation::Close { block } => block <= 11,

@@ -1,4 +1,4 @@
-//! 01's samples and examples, the chunk lists, and the readings of design.md, one test for each.
+//! 01's samples and examples, the chunk lists, and the readings that 01 leaves to its reader, one test for each.
 //! Every answer is by `rules` and confirmed by the kept Rust.
 
 use oracle::cases::{answer, pattern, Answer, Call, Case};
@@ -312,7 +312,7 @@ fn strict_html() {
     assert_eq!(shown(STRICT, &text("&amp;lt;")), "&amp;lt;");
 }
 
-// The readings of design.md
+// What 01 leaves to its reader
 
 #[test]
 fn reading_1_line_ends_then_10_then_padding() {
