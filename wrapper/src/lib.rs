@@ -161,7 +161,8 @@ pub fn check(document: &[u8]) -> Result<(), Refusal> {
 pub struct Settings {
     /// Columns, at most [`MOST_WIDTH`].
     pub width: usize,
-    /// All of the text, or only up to the first paragraph of each part.
+    /// All of the text; or else the first empty line in a text ends it, and text is left out until
+    /// an InlineBlock ends that was open there, or to the document's end.
     pub full: bool,
 }
 
@@ -175,7 +176,8 @@ impl Default for Settings {
 /// What of a document HTML shows.
 #[derive(Debug, Clone, Copy, PartialEq, Eq)]
 pub struct Html {
-    /// All of the text, or only up to the first paragraph of each part.
+    /// All of the text; or else the first empty line in a text ends it, and text is left out until
+    /// an InlineBlock ends that was open there, or to the document's end.
     pub full: bool,
     /// With the style sheet after it.
     pub css: bool,
@@ -316,8 +318,8 @@ pub enum Block {
     DefinitionList = 6,
     /// A block of text; on the console a blank line follows it.
     Block = 7,
-    /// A document inside another. Where not all of the text is shown, the rest of it after its first
-    /// paragraph is left out.
+    /// A document inside another. Where not all of the text is shown, its end also ends what an
+    /// empty line in it left out.
     InlineBlock = 8,
     /// A term that is explained elsewhere, in backticks on the console. Roff has none.
     TermRef = 9,
@@ -372,7 +374,9 @@ impl Builder {
         self.built(answer)
     }
 
-    /// As [`Builder::doc`], and the first line of a plain document becomes its title.
+    /// As [`Builder::doc`], where the first record is not plain text. Where it is, its first line
+    /// becomes Emphasis and the rest of it text in a Section3, followed by the other records; if it
+    /// has one line only, the other records are left out.
     pub fn em_doc(&mut self, added: &[u8]) -> Result<&mut Self, Refusal> {
         let answer = linked::em_doc(&mut self.room, &mut self.length, added);
         self.built(answer)
