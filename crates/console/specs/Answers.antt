@@ -1,5 +1,5 @@
 -- What the walk of a document answers, seen as the rules' text; and demand 3 of what a room holds.
-use Prim.Native.Nat.{ℕ, _≤_}
+use Prim.Native.Nat.{ℕ}
 use mathlib.Core.Path.{_≡_}
 use mathlib.Core.Bool.{Bool, true}
 use mathlib.Core.List.{List}
@@ -8,9 +8,8 @@ use Rattle.base.specs.Result.{Result, gives, _>>=_}
 use Rattle.utf8.specs.Utf8.{utf8}
 use Rattle.utf8.specs.White.{printing}
 use Rattle.document.specs.Document.{printingOrder}
-use Rattle.walk.specs.Rendered.{standing}
+use Rattle.walk.specs.Rendered.{standing, Inside}
 use Rattle.walk.specs.declared.Rendered.{Rendered}
-use Rattle.walk.specs.declared.Rendered.the-variants as rendered
 use Rattle.console_rules.specs.Console.{finish, console}
 use Rattle.console_rules.specs.declared.Settings.{Settings}
 use Rattle.console_parts.specs.Shown.{held}
@@ -27,7 +26,7 @@ wide x = record { width = 100; full = x }
 -- An answer stands for a text in a room: the text, or the refusal; and the text lies in the room.
 pub record Stands (room : List ℕ) (answer : Rendered) (text : Result (List ℕ)) : Type 0 where
   pub same : standing room answer ≡ text
-  pub fits : (n : ℕ) → answer ≡ rendered.Text n → n ≤ length room
+  pub fits : Inside (length room) answer
 
 -- 01: 'Demand 3 is one claim about the whole text ..: with `full` on, where these rules refuse nothing, the room's bytes up to the length
 -- are the text that the console rules write, and the printing characters of that text equal the document's printing order.' The text is

@@ -1,18 +1,16 @@
 -- Answers: the length where it lies in the room, 13 where it has passed it, and the room that is cleared after them. Assumes nothing.
 use Prim.Native.Nat.{ℕ, _≤_, _<_}
-use mathlib.Core.Path.{_≡_, sym, ap, _∙_, subst}
+use mathlib.Core.Path.{_≡_, sym, ap, _∙_}
 use mathlib.Core.List.{List}
 use lib.ListN.{length}
-use native.Mathlib.Omega.{arith}
 use Rattle.base.specs.Result.{Result, refused, _>>=_, measured}
 use Rattle.room.specs.Room.{seen}
 use Rattle.room.proofs.Laws.{seen-in, seen-out}
 use Rattle.document.specs.declared.Refusal.the-variants as refusal
-use Rattle.walk.specs.Rendered.{answered, standing, filled}
+use Rattle.walk.specs.Rendered.{answered, standing, Inside, filled}
 use Rattle.walk.specs.declared.Rendered.{Rendered}
 use Rattle.walk.specs.declared.Rendered.the-variants as rendered
 use Rattle.walk.proofs.Clearing.{standing-measured}
-use Rattle.html_parts.specs.Parts.{Inside}
 
 module _ (room : List ℕ) (len : ℕ) where
   pub answer-out : length room < len → (standing room (rendered.Refused refusal.NoRoom) ≡ seen room len) × Inside (length room) (rendered.Refused refusal.NoRoom)
@@ -36,6 +34,6 @@ module _ (room : List ℕ) (len : ℕ) where
 pub answer-cleared : (room new : List ℕ) (limit : ℕ) (a : Rendered) (r : Result (List ℕ)) → length room ≡ limit → standing room a ≡ r → Inside limit a
     → new ≡ filled (length room) (standing room a) → (answered a ≡ measured r) × (new ≡ filled limit r)
 answer-cleared room new limit a r s e i w = (
-  standing-measured room a r e (λ n f. omega (arith, s, subst (Inside limit) f i)),
+  standing-measured room a r e (rw s i),
   w ∙ ap (λ (n : ℕ). filled n (standing room a)) s ∙ ap (filled limit) e,
 )

@@ -1,10 +1,8 @@
 -- What the functions of HTML and Markdown promise each other; no rule of 01 stands here.
-use Prim.Native.Nat.{ℕ, _≤_}
+use Prim.Native.Nat.{ℕ}
 use mathlib.Core.Bool.{false, true}
 use mathlib.Core.List.{List}
 use Rattle.base.specs.Bytes.{part}
-use Rattle.walk.specs.declared.Rendered.{Rendered}
-use Rattle.walk.specs.declared.Rendered.the-variants as rendered
 use Rattle.html_rules.specs.Html.{entity}
 use Rattle.html_rules.specs.Markdown.{bracket}
 use Rattle.html_parts.specs.declared.Span.{Span}
@@ -20,8 +18,3 @@ abbrev pub entityOf : Escape → ℕ → List ℕ → List ℕ
 entityOf escape.Html = entity false
 entityOf escape.Strict = entity true
 entityOf escape.Mono = bracket
-
--- the length that is answered is at most the room's
-abbrev pub Inside : ℕ → Rendered → Type 0
-Inside limit (rendered.Text n) = n ≤ limit
-Inside limit (rendered.Refused a) = Unit {0}

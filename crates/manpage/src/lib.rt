@@ -10,8 +10,7 @@ ghost use Rattle.document.specs.Document.{tokens};
 ghost use Rattle.document.specs.declared.Kind.the-variants as kind;
 ghost use Rattle.room.specs.Room.{seen, extended};
 ghost use Rattle.walk.specs.Walk.{empty, write, walk};
-ghost use Rattle.walk.specs.Rendered.{answered, standing, filled};
-ghost use Rattle.walk.specs.declared.Rendered.the-variants as rendered;
+ghost use Rattle.walk.specs.Rendered.{answered, standing, filled, Inside};
 ghost use Rattle.manpage.specs.Escape.{spaces, escape, lineStart, preamble};
 ghost use Rattle.manpage.specs.Roff.{ascii, upper, argument, fontOf, push, control, subsection, text, started, ended, turn, initial, roff};
 ghost use Rattle.manpage.specs.Parts.{marked, isHeading, isText, isTermRef, between, beginning, opening, closing, closed};
@@ -261,7 +260,7 @@ fn put_preamble(room: &mut [u8]) -> Mark
 // again. No record is captured by two headings, so each is read twice at most.
 fn walk(document: &[u8], room: &mut [u8]) -> Rendered
     ensures text { λ r. ⌜ standing (now (room .exit)) r ≡ bind (bind (write (length (now (room .entry))) preamble initial) (walk (turn (length (now (room .entry)))) (tokens 0 0 (now (document .entry))))) (λ s. gives (s .out)) ⌝ }
-    ensures inside { λ r. ⌜ ((n : ℕ) → r ≡ rendered.Text n → n ≤ length (now (room .exit))) ⌝ }
+    ensures inside { λ r. ⌜ Inside (length (now (room .exit))) r ⌝ }
 {
     let mut m = put_preamble(room);
     let mut capture = false;

@@ -1,6 +1,6 @@
 -- What a cleared room holds after an answer. Assumes nothing.
-use Prim.Native.Nat.{ℕ, _≤_}
-use mathlib.Core.Path.{_≡_, refl, sym, ap, _∙_}
+use Prim.Native.Nat.{ℕ}
+use mathlib.Core.Path.{_≡_, sym, ap, _∙_}
 use mathlib.Core.List.{List}
 use lib.ListN.{length, take}
 use lib.Seq.{length-take-le}
@@ -8,7 +8,7 @@ use Rattle.base.specs.Result.{Result, gives, measured}
 use Rattle.document.specs.declared.Refusal.{Refusal}
 use Rattle.room.specs.Room.{padded}
 use Rattle.room.proofs.Laws.{padded-none}
-use Rattle.walk.specs.Rendered.{answered, standing, filled}
+use Rattle.walk.specs.Rendered.{answered, standing, Inside, filled}
 use Rattle.walk.specs.declared.Rendered.{Rendered}
 use Rattle.walk.specs.declared.Rendered.the-variants as rendered
 
@@ -20,7 +20,7 @@ module _ (old new : List ℕ) (answer : Rendered) where
   cleared-refused a e f = rw e (f ∙ padded-none (length old))
 
 -- an answer whose text lies in the room tells the text's length
-pub standing-measured : (room : List ℕ) (answer : Rendered) (r : Result (List ℕ)) → standing room answer ≡ r → ((n : ℕ) → answer ≡ rendered.Text n → n ≤ length room)
+pub standing-measured : (room : List ℕ) (answer : Rendered) (r : Result (List ℕ)) → standing room answer ≡ r → Inside (length room) answer
     → answered answer ≡ measured r
-standing-measured room (rendered.Text n) r e h = rw (← e) (ap gives (sym (length-take-le n room (h n refl))))
+standing-measured room (rendered.Text n) r e h = rw (← e) (ap gives (sym (length-take-le n room h)))
 standing-measured room (rendered.Refused a) r e h = rw (← e)

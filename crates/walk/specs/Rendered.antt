@@ -1,5 +1,5 @@
 -- What a renderer answers, and what its room then holds, seen as the rules' text or refusal.
-use Prim.Native.Nat.{ℕ}
+use Prim.Native.Nat.{ℕ, _≤_}
 use mathlib.Core.List.{List}
 use lib.ListN.{take, replicate}
 use Rattle.base.specs.Result.{Result, gives, refused}
@@ -17,6 +17,11 @@ answered (rendered.Refused a) = refused (refusalNumber a) (refusalPlace a)
 abbrev pub standing : List ℕ → Rendered → Result (List ℕ)
 standing room (rendered.Text n) = gives (take n room)
 standing room (rendered.Refused a) = refused (refusalNumber a) (refusalPlace a)
+
+-- the length that is answered is at most the room's
+abbrev pub Inside : ℕ → Rendered → Type 0
+Inside room (rendered.Text n) = n ≤ room
+Inside room (rendered.Refused a) = Unit {0}
 
 -- 'a room is 0 beyond what was written, and all 0 after a refusal'
 abbrev pub filled : ℕ → Result (List ℕ) → List ℕ

@@ -4,7 +4,7 @@ use borrow.Author.Needs.{needs}
 use Rattle.html.proofs.meet_meta.Statement.{statement}
 use Rattle.html.proofs.meet_meta.Tie as tie
 use Rattle.base.specs.Result.{refused}
-use Rattle.html_parts.specs.Parts.{Inside}
+use Rattle.walk.specs.Rendered.{Inside}
 use Rattle.html_parts.proofs.Writes.{wrote-then}
 
 returns : tie.Need-returns

@@ -8,7 +8,7 @@ use Rattle.html.proofs.walk.Statement.{statement}
 use Rattle.html.proofs.walk.Tie as tie
 use Rattle.splitter.specs.Answers.{start}
 use Rattle.splitter.proofs.Answers.{took, ended}
-use Rattle.html_parts.specs.Parts.{Inside}
+use Rattle.walk.specs.Rendered.{Inside}
 use Rattle.html.proofs.Walked.{On, InBody, on-start, on-out, on-end, on-unknown, on-start-low, on-entered, on-end-low, on-left, on-start-meta, on-end-meta, on-hidden, on-body, on-done, on-stopped, body-on, body-at}
 
 abbrev Inv-chunks : tie.InvT-chunks

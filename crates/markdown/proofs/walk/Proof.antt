@@ -11,7 +11,7 @@ use Rattle.splitter.proofs.Answers.{took, ended}
 use Rattle.document.specs.Document.{tokensFrom}
 use Rattle.html_rules.specs.Markdown.{metTerm, endText, endLay, codeEnds}
 use Rattle.html_rules.specs.declared.Markdown.{Markdown}
-use Rattle.html_parts.specs.Parts.{Inside}
+use Rattle.walk.specs.Rendered.{Inside}
 use Rattle.markdown.proofs.Texts.{span-is}
 use Rattle.markdown.proofs.Walked.{On, InBody, on-start, on-out, on-end, on-unknown, on-start-meta, on-end-meta, on-met, on-started, on-ended, on-hidden, on-body, on-done, on-stopped, body-few, body-words, body-on, body-at}
 
