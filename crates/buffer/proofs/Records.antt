@@ -8,13 +8,12 @@ use lib.ListN.{take-append-drop, length, take, drop, length-append, length-drop}
 use lib.Seq.{length-take-le, take-take, take-append-le, drop-at, drop-append-le, take-append-seam}
 use native.Mathlib.Nat.{add-zero, div-add-mod', mod-lt}
 use native.Mathlib.Omega.{arith}
-use borrow.Author.Tests.{le-leb, leb-true}
-use Rattle.base.specs.Choice.{if_then_else_}
+use borrow.Author.Tests.{le-leb}
 use Rattle.base.specs.Result.{Result, gives, refused, _>>=_}
-use Rattle.base.proofs.Choice.{and-left, and-right, and-both, if-true, if-false}
+use Rattle.base.proofs.Choice.{and-both, if-true, if-false}
 use Rattle.base.proofs.Results.{refused-gives, bind-end}
 use Rattle.utf8.specs.Utf8.{utf8}
-use Rattle.document.specs.Document.{Token, little, styles, blocks, number, index, kindOf, size, tokenAt, fits, opens, closes, bodiless, accept, first, reads}
+use Rattle.document.specs.Document.{Token, little, number, index, kindOf, size, tokenAt, fits, opens, closes, bodiless, accept, first, reads}
 use Rattle.document.specs.Stored.{littleBytes, stored, text, start, end}
 use Rattle.document.specs.declared.Style.{Style}
 use Rattle.document.specs.declared.Style.the-variants as style

@@ -4,16 +4,15 @@ use mathlib.Core.Path.{_≡_, sym, ap, _∙_}
 use mathlib.Core.List.{List}
 use lib.ListN.{length, take}
 use lib.Seq.{take-append-seam}
-use native.Mathlib.Omega.{arith}
 use borrow.Author.Tests.{lt-ltb, le-ltb}
 use Rattle.base.specs.Choice.{if_then_else_}
-use Rattle.base.specs.Result.{Result, gives, refused, _>>=_, measured}
+use Rattle.base.specs.Result.{Result, gives, refused, _>>=_}
 use Rattle.utf8.specs.White.{printing}
 use Rattle.document.specs.Document.{tokens, short, check}
 use Rattle.document.specs.Answers.{refusalNumber, refusalPlace}
 use Rattle.document.specs.declared.Refusal.{Refusal}
 use Rattle.room.specs.Room.{padded}
-use Rattle.walk.specs.Rendered.{answered, standing, filled}
+use Rattle.walk.specs.Rendered.{standing, filled}
 use Rattle.walk.specs.declared.Rendered.{Rendered}
 use Rattle.walk.specs.declared.Rendered.the-variants as rendered
 use Rattle.console_rules.specs.Console.{tabstop, narrow, textBy, consoleBy, console}

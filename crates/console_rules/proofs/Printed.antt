@@ -8,7 +8,7 @@ use lib.ListN.{length, replicate}
 use borrow.Author.Tests.{eqb-true, leb-true}
 use native.Mathlib.Nat.{le-trans}
 use Rattle.base.specs.Choice.{if_then_else_}
-use Rattle.base.specs.Result.{Result, gives, refused, _>>=_}
+use Rattle.base.specs.Result.{gives, _>>=_}
 use Rattle.base.specs.Stack.{top}
 use Rattle.base.proofs.Choice.{pick, and-both}
 use Rattle.base.proofs.Results.{All, given, refusal, all-bind, is-given, always}

@@ -1,9 +1,9 @@
 -- Words that follow on their line: the rules for one chunk, for one word after another, and a word copied byte by byte. Assumes nothing.
-use Prim.Native.Nat.{ℕ, zero, suc, _+_, _-_, _≤_, _<_, max}
-use mathlib.Core.Path.{_≡_, refl, sym, ap, _∙_}
+use Prim.Native.Nat.{ℕ, _+_, _-_, _≤_, _<_, max}
+use mathlib.Core.Path.{_≡_, refl, ap, _∙_}
 use mathlib.Core.Bool.{Bool, true, false, false≢true}
 use mathlib.Core.Logic.{⊎-elim}
-use mathlib.Core.List.{List, [], _∷_, _++_, append-nil}
+use mathlib.Core.List.{List, [], _++_, append-nil}
 use lib.ListN.{length, take}
 use lib.Seq.{length-take-le}
 use native.Mathlib.Omega.{arith}
@@ -12,12 +12,11 @@ use borrow.Author.Tests.{le-ltb, le-leb, lt-leb}
 use Rattle.base.specs.Bytes.{part}
 use Rattle.base.specs.Result.{gives, _>>=_}
 use Rattle.base.proofs.Choice.{if-false, le-or-lt}
-use Rattle.room.specs.Room.{extended}
 use Rattle.splitter.specs.Split.{raw}
 use Rattle.splitter.specs.declared.Code.{Code}
 use Rattle.splitter.specs.declared.Code.the-variants as code
 use Rattle.walk.specs.Walk.{page, write, withLay, empty}
-use Rattle.console_rules.specs.Console.{State, column, settled, reach, gap2, place, put, rawChunk, chunk, dueLine, dueBlank, folds}
+use Rattle.console_rules.specs.Console.{State, column, settled, reach, place, put, rawChunk, chunk}
 use Rattle.console_rules.specs.declared.Settings.{Settings}
 use Rattle.console_rules.specs.declared.Lay.{Lay}
 use Rattle.console_parts.proofs.Chunks.{line-idle, blank-idle, gap-no, put-near, empty-some}

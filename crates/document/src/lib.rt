@@ -1,7 +1,7 @@
 // The stored document: its records, and refusals 1 to 8.
 ghost use mathlib.Core.Path.{_≡_};
 ghost use mathlib.Core.List.{[]};
-ghost use Prim.Native.Nat.{ℕ, _+_, _<_, _≤_, _^_};
+ghost use Prim.Native.Nat.{_+_, _<_, _≤_, _^_};
 ghost use lib.ListN.{length, take, drop, getD};
 ghost use Rattle.document.specs.Document.{little, styles, blocks, number, index, kindOf, fits, opens, closes, accept, openBlocks, check};
 ghost use Rattle.base.specs.Bytes.{part};

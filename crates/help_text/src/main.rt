@@ -1,6 +1,4 @@
 // Reads a document from standard input and prints its full console text for width 100, or one refusal line.
-ghost use Prim.Native.Nat.{_≤_};
-ghost use lib.ListN.{length};
 use document::Refusal;
 use walk::Rendered;
 

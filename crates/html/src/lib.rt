@@ -1,8 +1,8 @@
 // HTML and strict HTML (src/buffer/html.rs).
 ghost use mathlib.Core.Path.{_≡_};
 ghost use mathlib.Core.Bool.{true, false};
-ghost use mathlib.Core.List.{[], _∷_, _++_};
-ghost use Prim.Native.Nat.{ℕ, _+_, _<_, _≤_};
+ghost use mathlib.Core.List.{[], _++_};
+ghost use Prim.Native.Nat.{_+_, _<_, _≤_};
 ghost use lib.ListN.{length, take, set};
 ghost use Rattle.base.specs.Result.{gives, refused, _>>=_ as bind, measured};
 ghost use Rattle.room.specs.Room.{seen, extended};

@@ -1,11 +1,11 @@
 // What HTML and Markdown (src/buffer/html.rs) share: tags out of a table, lines of their own, escapes, the skip counter, answers.
 ghost use mathlib.Core.Path.{_≡_};
 ghost use mathlib.Core.Bool.{false, true};
-ghost use mathlib.Core.List.{[], _∷_, _++_};
-ghost use Prim.Native.Nat.{ℕ, _+_, _<_};
+ghost use mathlib.Core.List.{[], _++_};
+ghost use Prim.Native.Nat.{_+_, _<_};
 ghost use lib.Dec.{eqb};
 ghost use lib.ListN.{length, drop, getD};
-ghost use Rattle.base.specs.Result.{gives, refused, _>>=_ as bind};
+ghost use Rattle.base.specs.Result.{refused, _>>=_ as bind};
 ghost use Rattle.room.specs.Room.{seen, extended};
 ghost use Rattle.document.specs.Document.{index};
 ghost use Rattle.walk.specs.Walk.{skipStart, skipEnd};

@@ -1,6 +1,5 @@
 // Escape bytes by roff's rules, into a lent room (src/buffer/manpage/escape.rs).
 ghost use mathlib.Core.Path.{_≡_};
-ghost use mathlib.Core.List.{_∷_, []};
 ghost use mathlib.Core.List.{map};
 ghost use lib.ListN.{length};
 ghost use Rattle.base.specs.Result.{_>>=_ as bind};

@@ -14,7 +14,7 @@ use Rattle.utf8.specs.Utf8.{bytes}
 use Rattle.splitter.specs.Split.{raw}
 use Rattle.splitter.specs.declared.Code.{Code}
 use Rattle.splitter.specs.declared.Code.the-variants as code
-use Rattle.walk.specs.Walk.{page, write, shown}
+use Rattle.walk.specs.Walk.{page, write}
 use Rattle.words.specs.Copies.{Copies}
 use Rattle.words.specs.declared.Word.{Word}
 use Rattle.words.proofs.Follow.{write-in}

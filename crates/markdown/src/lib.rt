@@ -1,12 +1,12 @@
 // Markdown (src/buffer/html.rs).
 ghost use mathlib.Core.Path.{_≡_};
 ghost use mathlib.Core.Bool.{true, false};
-ghost use mathlib.Core.List.{[], _∷_, _++_};
-ghost use Prim.Native.Nat.{ℕ, _+_, _-_, _<_, _≤_};
+ghost use mathlib.Core.List.{[], _++_};
+ghost use Prim.Native.Nat.{_+_, _-_, _<_, _≤_};
 ghost use lib.ListN.{length};
-ghost use Rattle.base.specs.Result.{gives, refused, _>>=_ as bind, measured};
+ghost use Rattle.base.specs.Result.{gives, _>>=_ as bind, measured};
 ghost use Rattle.room.specs.Room.{seen, extended};
-ghost use Rattle.document.specs.Document.{index, tokens, tokensFrom, check};
+ghost use Rattle.document.specs.Document.{tokens, tokensFrom, check};
 ghost use Rattle.document.specs.declared.Style.the-variants as style;
 ghost use Rattle.splitter.specs.Answers.{chunkOf};
 ghost use Rattle.walk.specs.Walk.{isEnd, walk as records};

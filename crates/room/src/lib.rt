@@ -3,7 +3,7 @@
 // the room, every byte of it and how far the length is past it. `clear_from` settles them all.
 ghost use mathlib.Core.Path.{_≡_};
 ghost use mathlib.Core.List.{[], _∷_, _++_};
-ghost use Prim.Native.Nat.{ℕ, _+_, _≤_};
+ghost use Prim.Native.Nat.{_+_, _≤_};
 ghost use lib.ListN.{length, take, replicate};
 ghost use Rattle.base.specs.Result.{gives, _>>=_ as bind};
 ghost use Rattle.base.specs.Bytes.{endsWith};

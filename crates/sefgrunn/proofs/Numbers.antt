@@ -1,16 +1,16 @@
 -- An answer's number and its length or place are those of the rules' result. Assumes nothing.
 use Prim.Native.Nat.{ℕ, _+_, _-_}
 use mathlib.Core.Path.{_≡_, refl, sym, ap, _∙_}
-use mathlib.Core.Bool.{Bool, true, false, _&&_}
+use mathlib.Core.Bool.{Bool, true, false}
 use mathlib.Core.List.{List, []}
 use native.Mathlib.Omega.{arith}
-use lib.Dec.{leb, eqb}
-use lib.ListN.{length, getD}
+use lib.Dec.{leb}
+use lib.ListN.{length}
 use borrow.Author.Tests.{leb-true, le-leb}
 use Rattle.base.specs.Choice.{if_then_else_, among}
 use Rattle.base.specs.Result.{Result, gives, refused, measured}
 use Rattle.base.proofs.Choice.{and-right, and-both, same-test, not-passed}
-use Rattle.document.specs.Document.{styles, blocks, kindOf}
+use Rattle.document.specs.Document.{kindOf}
 use Rattle.document.specs.Answers.{refusalNumber, refusalPlace, verdictOf}
 use Rattle.document.specs.declared.Refusal.{Refusal}
 use Rattle.document.specs.declared.Style.{Style}

@@ -1,6 +1,5 @@
 // The skip counter (src/buffer.rs), lent and changed in place: each lent function is one assignment, of what the by-value form gives.
 ghost use mathlib.Core.Path.{_≡_};
-ghost use mathlib.Core.Bool.{false};
 ghost use Rattle.document.specs.declared.Block.the-variants as block;
 ghost use Rattle.walk.specs.Walk.{skipParagraph, skipStart, skipEnd};
 ghost use Rattle.walk.specs.Answers.{held};

@@ -1,9 +1,9 @@
 -- The splitter (01, 'Port order', first paragraph; src/buffer/splitter.rs): the chunks of a body.
 use Prim.Native.Nat.{ℕ, zero, suc, _+_, _-_}
-use mathlib.Core.Bool.{Bool, true, false, _&&_, _||_}
+use mathlib.Core.Bool.{Bool, false, _&&_, _||_}
 use mathlib.Core.List.{List, [], _∷_}
-use lib.Dec.{leb, eqb}
-use lib.ListN.{length, take, drop}
+use lib.Dec.{eqb}
+use lib.ListN.{length, drop}
 use Rattle.base.specs.Choice.{if_then_else_}
 use Rattle.base.specs.Bytes.{startsWith}
 use Rattle.utf8.specs.Utf8.{characters}

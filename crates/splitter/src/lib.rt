@@ -1,7 +1,7 @@
 // The chunks of a body, one at a time (src/buffer/splitter.rs).
 ghost use mathlib.Core.Path.{_≡_};
-ghost use mathlib.Core.Bool.{true, false};
-ghost use Prim.Native.Nat.{_+_, _-_, _≤_, _<_};
+ghost use mathlib.Core.Bool.{false};
+ghost use Prim.Native.Nat.{_+_, _-_, _<_};
 ghost use lib.ListN.{length, take, drop};
 ghost use Rattle.splitter.specs.Split.{line, step, split, stripped, ticked as tickedLine, afterLineEnd};
 ghost use Rattle.splitter.specs.Answers.{cursor, told, firstChunk, textOf, Within};

@@ -4,14 +4,14 @@ use mathlib.Core.Path.{_≡_, refl, sym, ap, _∙_}
 use mathlib.Core.Bool.{true, false}
 use mathlib.Core.List.{List, [], _∷_, _++_, append-nil}
 use lib.ListN.{length, take, drop, getD, set, length-set, length-drop}
-use lib.Seq.{take-take, take-append-le, take-all, length-take-le, take-suc-set, getD-drop, take-set-le, drop-cons}
+use lib.Seq.{take-take, take-append-le, length-take-le, take-suc-set, getD-drop, take-set-le, drop-cons}
 use native.Mathlib.Nat.{add-zero}
 use native.Mathlib.Numerals.{add-one}
 use native.Mathlib.Omega.{arith}
 use Rattle.room.proofs.Laws.{copied-more}
 use Rattle.splitter.specs.Split.{word, isLineEndOrSpace, raw}
 use Rattle.splitter.specs.Parts.{wordFrom}
-use Rattle.splitter.specs.Answers.{chunksFrom, cursor, told, firstChunk}
+use Rattle.splitter.specs.Answers.{chunksFrom, cursor}
 use Rattle.splitter.specs.declared.Code.the-variants as code
 use Rattle.splitter.specs.declared.Piece.the-variants.{Raw, Space}
 use Rattle.splitter.specs.declared.Step.the-variants.{Take}
@@ -20,7 +20,6 @@ use Rattle.splitter.proofs.Words.{Reading, reading-start, reading-stop, reading
 use Rattle.splitter.proofs.Steps.{chunks-take}
 use Rattle.splitter.proofs.Answers.{plain-word, plain-space, answers-some}
 use Rattle.words.specs.Copies.{Copies}
-use Rattle.words.specs.declared.Word.{Word}
 
 -- the byte at a place of a body, as a byte after another place
 getD-after : (x : List ℕ) (at to : ℕ) → at ≤ to → getD (drop at x) (to - at) 0 ≡ getD x to 0

@@ -3,7 +3,7 @@ use mathlib.Core.List.{[], _∷_}
 use Prim.Native.Nat.{_-_}
 use borrow.Author.Needs.{needs}
 use denote.Ref.{now}
-use lib.ListN.{length, set}
+use lib.ListN.{length}
 use Rattle.console_parts.proofs.last_line.Statement.{statement}
 use Rattle.console_parts.proofs.last_line.Tie as tie
 use Rattle.console_parts.proofs.Pages.{wrote}

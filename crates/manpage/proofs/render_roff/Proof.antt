@@ -6,7 +6,7 @@ use denote.Ref.{now}
 use lib.ListN.{length}
 use Rattle.manpage.proofs.render_roff.Statement.{statement}
 use Rattle.manpage.proofs.render_roff.Tie as tie
-use Rattle.base.specs.Result.{_>>=_, measured}
+use Rattle.base.specs.Result.{measured}
 use Rattle.document.proofs.Walks.{verdict-gives, verdict-refused}
 use Rattle.walk.specs.Rendered.{standing, filled}
 use Rattle.walk.proofs.Clearing.{standing-measured}
