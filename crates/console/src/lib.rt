@@ -16,11 +16,11 @@ use console_rules::Settings;
 use document::Checked;
 use document::Kind;
 use document::Refusal;
+use skip::Skip;
 use splitter::Code;
 use splitter::Cursor;
 use splitter::Step;
 use walk::Rendered;
-use walk::Skip;
 
 // `Doc::monochrome`: the width is 100.
 pub fn monochrome(document: &[u8], full: bool, room: &mut [u8]) -> Rendered

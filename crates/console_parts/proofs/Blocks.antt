@@ -17,9 +17,9 @@ use Rattle.document.specs.Document.{index}
 use Rattle.document.specs.declared.Block.{Block}
 use Rattle.document.specs.declared.Block.the-variants as block
 use Rattle.walk.specs.Walk.{withOut, withKept, withLay, write, shown, skipStart}
-use Rattle.walk.specs.Answers as walk
+use Rattle.skip.specs.Answers as counter
 use Rattle.base.proofs.Results.{bind-end, bind-same}
-use Rattle.walk.proofs.Counter.{held-fits, skip-start-most}
+use Rattle.skip.proofs.Counter.{held-fits, skip-start-most}
 use Rattle.walk.proofs.Shown.{shown-changed}
 use Rattle.console_rules.specs.Console.{State, column, blankLine, gap, tick, outdent, started, ended}
 use Rattle.console_rules.specs.declared.Lay.{Lay}
@@ -152,5 +152,5 @@ unfolding endMargins
 pop-one i count n margins h e = rw e (pop-take margins count h)
 
 -- the skip counter fits
-pub skip-fits : (n k : ℕ) → n ≤ 2 ^ 60 → k ≡ walk.held n (skipStart block.InlineBlock n) → k ≡ skipStart block.InlineBlock n
+pub skip-fits : (n k : ℕ) → n ≤ 2 ^ 60 → k ≡ counter.held n (skipStart block.InlineBlock n) → k ≡ skipStart block.InlineBlock n
 skip-fits n k h e = e ∙ held-fits n (skipStart block.InlineBlock n) (omega (arith, skip-start-most block.InlineBlock n))

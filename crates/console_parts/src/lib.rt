@@ -24,7 +24,6 @@ use console_rules::Settings;
 use document::Block;
 use document::Kind;
 use splitter::Piece;
-use walk::Skip;
 
 // How far the text in a room has come, and what is kept beside it. A length past the room says that the text was longer than the room.
 pub struct Mark {
@@ -357,8 +356,7 @@ fn start_lay(l: Lay, i: usize, g: bool) -> Lay
         return r;
     }
     if i == 8 {
-        let skip = Skip(l.skip).pushed();
-        r.skip = skip.0;
+        r.skip = skip::push_number(l.skip);
     }
     r
 }
@@ -387,8 +385,7 @@ fn end_lay(l: Lay, i: usize) -> Lay
         return r;
     }
     if i == 8 {
-        let skip = Skip(l.skip).popped();
-        r.skip = skip.0;
+        r.skip = skip::pop_number(l.skip);
     }
     r
 }
@@ -491,8 +488,7 @@ fn skipping(m: Mark) -> Mark
 {
     let len = m.len;
     let mut lay = m.lay;
-    let skip = Skip(lay.skip).started();
-    lay.skip = skip.0;
+    lay.skip = skip::enable_number(lay.skip);
     Mark { len, lay }
 }
 

@@ -4,7 +4,7 @@ use mathlib.Core.Path.{_≡_, refl, sym, ap, _∙_}
 use mathlib.Core.Bool.{Bool, true, false, not}
 use mathlib.Core.List.{List}
 use lib.Dec.{eqb}
-use borrow.Author.Tests.{eq-eqb, ne-eqb, lt-ltb, le-ltb}
+use borrow.Author.Tests.{eq-eqb, ne-eqb}
 use Rattle.base.specs.Choice.{if_then_else_}
 use Rattle.base.specs.Result.{Result, gives, refused, _>>=_}
 use Rattle.base.specs.Stack.{pushed, popped}
@@ -17,7 +17,7 @@ use Rattle.document.specs.declared.Style.the-variants as style
 use Rattle.document.specs.declared.Block.{Block}
 use Rattle.document.specs.declared.Kind.the-variants as kind
 use Rattle.splitter.specs.Split.{Chunk, raw, paragraph, lineBreak, split}
-use Rattle.walk.specs.Walk.{withOut, withLay, page, write, skipStart, skipEnd, last, body}
+use Rattle.walk.specs.Walk.{withOut, withLay, page, write, hides, skipStart, skipEnd, last, body}
 use Rattle.html_rules.specs.Marks.{separated}
 use Rattle.html_rules.specs.Html.{State, styled, skip, inList, startTag, endTag, br, change, blankLine, tagged, enter, leave, chunk, turn, finish}
 use Rattle.html_rules.specs.declared.Html.{Html}
@@ -81,13 +81,13 @@ module _ (limit : ℕ) (strict full : Bool) (p : ℕ) (y : List ℕ) (ts : List 
 
   module _ (st : Style) where
     -- text that is hidden, and text that is not
-    pub hidden-is : 0 < lay .skip → turn limit strict full p (kind.Text st) y ts here ≡ gives here
+    pub hidden-is : hides (lay .skip) ≡ true → turn limit strict full p (kind.Text st) y ts here ≡ gives here
     unfolding turn
-    hidden-is h = if-true _ _ (lt-ltb 0 (lay .skip) h)
+    hidden-is h = if-true _ _ h
 
-    pub text-is : lay .skip ≤ 0 → turn limit strict full p (kind.Text st) y ts here ≡ (change limit st here >>= body full (chunk limit strict full) (split y))
+    pub text-is : hides (lay .skip) ≡ false → turn limit strict full p (kind.Text st) y ts here ≡ (change limit st here >>= body full (chunk limit strict full) (split y))
     unfolding turn
-    text-is h = if-false _ _ (le-ltb 0 (lay .skip) h)
+    text-is h = if-false _ _ h
 
   -- the end
   pub finish-is : (sheet : List ℕ) → finish limit sheet here ≡ (closed limit (lay .style) x >>= extended limit sheet)

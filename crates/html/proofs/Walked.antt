@@ -25,9 +25,9 @@ use Rattle.splitter.specs.Answers.{chunkOf, chunksFrom, start}
 use Rattle.splitter.specs.declared.Cursor.{Cursor}
 use Rattle.splitter.specs.declared.Piece.{Piece}
 use Rattle.splitter.proofs.Answers.{Took}
-use Rattle.walk.specs.Walk.{page, withLay, write, shown, skipStart, skipEnd, last, walk}
-use Rattle.walk.specs.Answers.{held}
-use Rattle.walk.proofs.Counter.{held-fits, skip-start-most, skip-end-most}
+use Rattle.walk.specs.Walk.{page, withLay, write, shown, hides, skipParagraph, skipStart, skipEnd, last, walk}
+use Rattle.skip.specs.Answers.{held}
+use Rattle.skip.proofs.Counter.{held-fits, skip-start-most, skip-end-most}
 use Rattle.walk.proofs.Shown.{shown-in, shown-then, shown-write, shown-changed}
 use Rattle.walk.proofs.Leads.{Leads, leads-start, chunksThen}
 use Rattle.html_rules.specs.Html.{State, plain, initial, styled, skip, inList, opening, closing, startTag, endTag, change, chunk, turn, finish}
@@ -210,7 +210,7 @@ module _ (limit : ℕ) (strict full : Bool) (sheet document : List ℕ) where
           leads = w;
         }
 
-        pub on-hidden : 0 < lay .skip → On room (h .next) len lay stack depth
+        pub on-hidden : hides (lay .skip) ≡ true → On room (h .next) len lay stack depth
         unfolding _>>=_
         on-hidden z =
             on-text room len lay (o .same) (omega (arith, o .few, further))
@@ -220,7 +220,7 @@ module _ (limit : ℕ) (strict full : Bool) (sheet document : List ℕ) where
             (sym (bind-end (seen room len))))
 
         -- the style has changed, and the chunks of the body are left
-        pub on-body : (new : List ℕ) (n : ℕ) → lay .skip ≤ 0 → seen new n ≡ (seen room len >>= extended (length room) (closing (lay .style) ++ opening st))
+        pub on-body : (new : List ℕ) (n : ℕ) → hides (lay .skip) ≡ false → seen new n ≡ (seen room len >>= extended (length room) (closing (lay .style) ++ opening st))
             → InBody new (h .next) n (styled st lay) kept (part document (h .start) (h .next)) start
         unfolding change split
         on-body new n z w =
@@ -247,11 +247,11 @@ module _ (limit : ℕ) (strict full : Bool) (sheet document : List ℕ) where
               (chunks-done full (chunk limit strict full) (rest (h .next)) whole _ c (shown new n kept (styled st lay)) (i .leads) f)
 
           pub on-stopped : {p : Piece} {d : Cursor} → Took (part document (h .start) (h .next)) c p d → last full (chunkOf (part document (h .start) (h .next)) p) ≡ true
-              → On new (h .next) n (record { style = st; skip = 1 }) stack depth
-          on-stopped {p} t f =
-              on-text new n (record { style = st; skip = 1 }) s (omega (arith, further))
-              (chunks-stop full (chunk limit strict full) (rest (h .next)) whole _ c (shown new n kept (styled st lay)) (i .leads) t (shown new n kept (record { style = st; skip = 1 }))
-              (shown-changed (withLay (skip 1)) kept kept (styled st lay) (record { style = st; skip = 1 }) (λ x. refl) new n
+              → (k : ℕ) → k ≡ skipParagraph (lay .skip) → On new (h .next) n (record { style = st; skip = k }) stack depth
+          on-stopped {p} t f k g =
+              on-text new n (record { style = st; skip = k }) s (omega (arith, further, g))
+              (chunks-stop full (chunk limit strict full) (rest (h .next)) whole _ c (shown new n kept (styled st lay)) (i .leads) t (shown new n kept (record { style = st; skip = k }))
+              (shown-changed (withLay (skip 1)) kept kept (styled st lay) (record { style = st; skip = k }) (λ x. ap (λ (j : ℕ). page kept (record { style = st; skip = j }) x) (sym g)) new n
               ∙ sym (bind-same (shown new n kept (styled st lay)) _ _ (λ s. chunk-last limit strict full (chunkOf _ p) s f))) f)
 
 -- the same for a room that has kept its length

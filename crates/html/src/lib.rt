@@ -21,6 +21,7 @@ use document::Style;
 use html_parts::Escape;
 use html_parts::Span;
 use html_rules::Html;
+use skip::Skip;
 use splitter::Code;
 use splitter::Cursor;
 use splitter::Piece;
@@ -236,7 +237,7 @@ fn walk(
             }
             Kind::Text(st) => {
                 at = next;
-                if 0 < skip {
+                if Skip(skip).enabled() {
                     continue 'records;
                 }
                 len = change_style(room, len, tags, style, st);
@@ -251,7 +252,10 @@ fn walk(
                         break 'chunks;
                     };
                     if walk::ends_body(piece, full) {
-                        lay = Html { style: st, skip: 1 };
+                        lay = Html {
+                            style: st,
+                            skip: skip::enable_number(skip),
+                        };
                         continue 'records;
                     }
                     len = put_chunk(room, len, body, piece, strict);

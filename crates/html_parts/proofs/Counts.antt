@@ -9,7 +9,7 @@ use Rattle.document.specs.Document.{index}
 use Rattle.document.specs.declared.Block.{Block}
 use Rattle.document.specs.declared.Block.the-variants as block
 use Rattle.walk.specs.Walk.{skipStart, skipEnd}
-use Rattle.walk.specs.Answers.{held}
+use Rattle.skip.specs.Answers.{held}
 
 held-same : (n : ℕ) → n ≡ held n n
 unfolding held

@@ -9,7 +9,7 @@ ghost use Rattle.base.specs.Result.{refused, _>>=_ as bind};
 ghost use Rattle.room.specs.Room.{seen, extended};
 ghost use Rattle.document.specs.Document.{index};
 ghost use Rattle.walk.specs.Walk.{skipStart, skipEnd};
-ghost use Rattle.walk.specs.Answers.{held};
+ghost use Rattle.skip.specs.Answers.{held};
 ghost use Rattle.walk.specs.Rendered.{standing, Inside};
 ghost use Rattle.html_rules.specs.Marks.{separated, escapedBy};
 ghost use Rattle.html_rules.specs.Html.{entity, opensEntity};
@@ -19,7 +19,6 @@ use document::Block;
 use document::Refusal;
 use splitter::Piece;
 use walk::Rendered;
-use walk::Skip;
 
 // Where a text lies in a table of texts: from a place up to another.
 pub struct Span(pub usize, pub usize);
@@ -158,7 +157,7 @@ pub fn skip_start(b: Block, n: usize) -> usize
     if !is_inline(b) {
         return n;
     }
-    Skip(n).pushed().0
+    skip::push_number(n)
 }
 
 // The skip counter after the end of a block.
@@ -168,7 +167,7 @@ pub fn skip_end(b: Block, n: usize) -> usize
     if !is_inline(b) {
         return n;
     }
-    Skip(n).popped().0
+    skip::pop_number(n)
 }
 
 // The answer for a text up to a length: 13 where that has passed the room.

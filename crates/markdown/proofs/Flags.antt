@@ -22,8 +22,8 @@ use Rattle.splitter.specs.Answers.{chunkOf}
 use Rattle.splitter.specs.declared.Piece.{Piece}
 use Rattle.splitter.specs.declared.Piece.the-variants.{Raw, Space}
 use Rattle.walk.specs.Walk.{isEnd, skipStart, skipEnd}
-use Rattle.walk.specs.Answers.{held}
-use Rattle.walk.proofs.Counter.{held-fits, skip-start-most, skip-end-most}
+use Rattle.skip.specs.Answers.{held}
+use Rattle.skip.proofs.Counter.{held-fits, skip-start-most, skip-end-most}
 use Rattle.html_rules.specs.Markdown.{skip, mono, bare, termEnds, metTerm, startLay, endLay}
 use Rattle.html_rules.specs.declared.Markdown.{Markdown}
 use Rattle.markdown.specs.Parts.{fenceAfter}

@@ -4,7 +4,7 @@ use mathlib.Core.Path.{_≡_, refl, sym, ap, _∙_}
 use mathlib.Core.Bool.{Bool, true, false}
 use mathlib.Core.List.{List, _++_}
 use lib.Dec.{eqb}
-use borrow.Author.Tests.{eq-eqb, ne-eqb, lt-ltb, le-ltb, not-true, not-false}
+use borrow.Author.Tests.{eq-eqb, ne-eqb, not-true, not-false}
 use Rattle.base.specs.Choice.{if_then_else_}
 use Rattle.base.specs.Result.{Result, gives, refused, _>>=_}
 use Rattle.base.proofs.Choice.{if-true, if-false}
@@ -17,7 +17,7 @@ use Rattle.document.specs.declared.Style.the-variants as style
 use Rattle.document.specs.declared.Block.{Block}
 use Rattle.document.specs.declared.Kind.the-variants as kind
 use Rattle.splitter.specs.Split.{Chunk, raw, paragraph, lineBreak, split}
-use Rattle.walk.specs.Walk.{withOut, withLay, page, write, last, body}
+use Rattle.walk.specs.Walk.{withOut, withLay, page, write, hides, last, body}
 use Rattle.html_rules.specs.Marks.{separated}
 use Rattle.html_rules.specs.Markdown.{State, styled, skip, fenced, opening, closing, startLead, startLine, startText, metTerm, startLay, endText, endLay, codeBegins, codeStops, lineText, wordText, change, separate, begun, started, ended, rawChunk, bodyEnds, finish, chunk, turn}
 use Rattle.html_rules.specs.declared.Markdown.{Markdown}
@@ -94,13 +94,13 @@ module _ (limit : ℕ) (full : Bool) (p : ℕ) (y : List ℕ) (ts : List Token) 
 
   module _ (st : Style) where
     -- text that is hidden, and text that is not
-    pub hidden-is : 0 < lay .skip → turn limit full p (kind.Text st) y ts here ≡ gives here
+    pub hidden-is : hides (lay .skip) ≡ true → turn limit full p (kind.Text st) y ts here ≡ gives here
     unfolding turn
-    hidden-is h = if-true _ _ (lt-ltb 0 (lay .skip) h)
+    hidden-is h = if-true _ _ h
 
-    pub text-is : lay .skip ≤ 0 → turn limit full p (kind.Text st) y ts here ≡ (change limit st here >>= body full (chunk limit full) (split y) >>= bodyEnds limit)
+    pub text-is : hides (lay .skip) ≡ false → turn limit full p (kind.Text st) y ts here ≡ (change limit st here >>= body full (chunk limit full) (split y) >>= bodyEnds limit)
     unfolding turn
-    text-is h = if-false _ _ (le-ltb 0 (lay .skip) h)
+    text-is h = if-false _ _ h
 
   -- the end
   pub finish-is : finish limit here ≡ closed limit (lay .style) x

@@ -25,7 +25,7 @@ use Rattle.splitter.specs.declared.Cursor.{Cursor}
 use Rattle.splitter.specs.declared.Piece.{Piece}
 use Rattle.splitter.specs.declared.Piece.the-variants.{Raw, Space, Paragraph, LineBreak}
 use Rattle.splitter.proofs.Answers.{Took}
-use Rattle.walk.specs.Walk.{page, withLay, write, shown, last, walk, body}
+use Rattle.walk.specs.Walk.{page, withLay, write, shown, hides, skipParagraph, last, walk, body}
 use Rattle.walk.proofs.Shown.{shown-in, shown-then, shown-by, shown-write, shown-changed}
 use Rattle.walk.proofs.Leads.{Leads, leads-start, leads-on, chunksThen}
 use Rattle.html_rules.specs.Markdown.{State, plain, initial, styled, skip, fenced, opening, closing, metTerm, startLay, endText, endLay, codeEnds, change, bodyEnds, finish, chunk, turn}
@@ -221,11 +221,11 @@ module _ (limit : ℕ) (full : Bool) (document : List ℕ) where
 
       -- text
       module _ {st : Style} (e : h .kind ≡ kind.Text st) where
-        pub on-hidden : 0 < lay .skip → On room (h .next) len lay
+        pub on-hidden : hides (lay .skip) ≡ true → On room (h .next) len lay
         on-hidden z = passes (λ x. by-kind (kind.Text st) e (page [] lay x) ∙ hidden-is limit full at _ _ [] lay x st z)
 
         -- the style has changed, and the chunks of the body are left
-        pub on-body : (new : List ℕ) (n : ℕ) (lay′ : Markdown) → lay .skip ≤ 0
+        pub on-body : (new : List ℕ) (n : ℕ) (lay′ : Markdown) → hides (lay .skip) ≡ false
             → seen new n ≡ (seen room len >>= extended (length room) (closing (lay .style) ++ opening st)) → lay′ ≡ styled st lay
             → InBody new (h .next) n lay′ (part document (h .start) (h .next)) start
         unfolding change split
@@ -269,15 +269,15 @@ module _ (limit : ℕ) (full : Bool) (document : List ℕ) where
           }
 
           pub on-stopped : {p : Piece} {d : Cursor} → Took (part document (h .start) (h .next)) c p d → last full (chunkOf (part document (h .start) (h .next)) p) ≡ true
-              → On new (h .next) n (fenced false (skip 1 l₁))
-          on-stopped {p} q f = record {
+              → (j : ℕ) → j ≡ skipParagraph (l₁ .skip) → On new (h .next) n (fenced false (skip j l₁))
+          on-stopped {p} q f j g = record {
             same = u ∙ s;
-            few = omega (arith, further);
+            few = omega (arith, further, g);
             open-few = i .open-few;
             short = o .short;
-            leads = ends (skip 1 l₁) refl
-                (chunks-stop full (chunk limit full) (after (h .next)) whole _ c (shown old k [] l₁) (i .leads) q (shown old k [] (skip 1 l₁))
-                (shown-changed (withLay (skip 1)) [] [] l₁ (skip 1 l₁) (λ x. refl) old k
+            leads = ends (skip j l₁) refl
+                (chunks-stop full (chunk limit full) (after (h .next)) whole _ c (shown old k [] l₁) (i .leads) q (shown old k [] (skip j l₁))
+                (shown-changed (withLay (skip 1)) [] [] l₁ (skip j l₁) (λ x. ap (λ (n : ℕ). page [] (skip n l₁) x) (sym g)) old k
                 ∙ sym (bind-same (shown old k [] l₁) _ _ (λ s. chunk-last limit s full (chunkOf _ p) f))) f);
           }
 

@@ -23,6 +23,7 @@ use document::Style;
 use html_parts::Escape;
 use html_parts::Span;
 use html_rules::Markdown;
+use skip::Skip;
 use splitter::Code;
 use splitter::Cursor;
 use splitter::Piece;
@@ -561,7 +562,7 @@ fn walk(document: &[u8], tags: &[u8], full: bool, room: &mut [u8]) -> Rendered
             }
             Kind::Text(st) => {
                 at = next;
-                if 0 < lay.skip {
+                if Skip(lay.skip).enabled() {
                     continue 'records;
                 }
                 len = change_to_markdown_style(room, len, tags, style, st);
@@ -581,7 +582,7 @@ fn walk(document: &[u8], tags: &[u8], full: bool, room: &mut [u8]) -> Rendered
                     };
                     if walk::ends_body(piece, full) {
                         len = html_parts::put_span(room, len, tags, ends_span(lay));
-                        lay.skip = 1;
+                        lay.skip = skip::enable_number(lay.skip);
                         lay.fenced = false;
                         continue 'records;
                     }

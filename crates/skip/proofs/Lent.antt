@@ -5,11 +5,11 @@ use Rattle.proof_kit.proofs.Kit.{_≡_, ℕ, List, [], _∷_, URA, fullShare, N
 use lib.Dec.{T as Holds}
 use mir.Syntax.{Place, Opd as Operand, Body as Code, seq, call}
 use denote.Struct.Laws as LL
-use Rattle.walk.specs.declared.Skip.{Skip}
-use Rattle.walk.proofs.Skip as T
-use Rattle.walk.proofs.Skip.Laws as T′
+use Rattle.skip.specs.declared.Skip.{Skip}
+use Rattle.skip.proofs.Skip as T
+use Rattle.skip.proofs.Skip.Laws as T′
 use Rattle.skip.proofs.InPlace.{mach, Lent, in-place}
-use Rattle.skip.proofs.push as lent
+use Rattle.skip.proofs.Skip.push as lent
 
 -- what lies in a local: its cell and what the counter owns, and back
 module _ {M : Type 1} (𝓤 : URA M) (H : Heap 𝓤) (A : Atoms 𝓤) (W : Given 𝓤 H A) (h : Skip) (b o : ℕ) where

@@ -1,2 +1,4 @@
+pub mod Counter
 pub mod InPlace
 pub mod Lent
+pub mod Through

@@ -1,59 +1,87 @@
-// The skip counter (src/buffer.rs), lent and changed in place: each lent function is one assignment, of what the by-value form gives.
+// The skip counter (src/buffer.rs, `Skip`): by value, lent and changed in place, and, for the renderers, from a number to a number.
 ghost use mathlib.Core.Path.{_≡_};
 ghost use Rattle.document.specs.declared.Block.the-variants as block;
-ghost use Rattle.walk.specs.Walk.{skipParagraph, skipStart, skipEnd};
-ghost use Rattle.walk.specs.Answers.{held};
-use walk::Skip;
+ghost use Rattle.walk.specs.Walk.{hides, skipParagraph, skipStart, skipEnd};
+ghost use Rattle.skip.specs.Answers.{held};
 
-// The by-value form, on the counter's number.
-fn started(n: usize) -> usize
+pub struct Skip(pub usize);
+
+impl Skip {
+    pub fn enabled(self) -> bool
+        ensures { λ r. ⌜ r ≡ hides (self .0) ⌝ }
+    {
+        self.0 > 0
+    }
+
+    // By value: a paragraph with `full` off.
+    pub fn started(self) -> Skip
+        ensures { λ r. ⌜ r .0 ≡ skipParagraph (self .0) ⌝ }
+    {
+        Skip(1)
+    }
+
+    // The start of an InlineBlock.
+    pub fn pushed(self) -> Skip
+        ensures { λ r. ⌜ r .0 ≡ held (self .0) (skipStart block.InlineBlock (self .0)) ⌝ }
+    {
+        let n = self.0;
+        if n > 0 {
+            if n < 0xFFFF_FFFF_FFFF_FFFF {
+                return Skip(n + 1);
+            }
+        }
+        self
+    }
+
+    // The end of an InlineBlock.
+    pub fn popped(self) -> Skip
+        ensures { λ r. ⌜ r .0 ≡ skipEnd block.InlineBlock (self .0) ⌝ }
+    {
+        let n = self.0;
+        if n > 0 { Skip(n - 1) } else { self }
+    }
+
+    // Lent, as in the source: each is one assignment.
+    pub fn enable(&mut self)
+        ensures { λ _. ⌜ now (self .exit) .0 ≡ skipParagraph (now (self .entry) .0) ⌝ }
+    {
+        *self = self.started();
+    }
+
+    pub fn push(&mut self)
+        ensures { λ _. ⌜ now (self .exit) .0 ≡ held (now (self .entry) .0) (skipStart block.InlineBlock (now (self .entry) .0)) ⌝ }
+    {
+        *self = self.pushed();
+    }
+
+    pub fn pop(&mut self)
+        ensures { λ _. ⌜ now (self .exit) .0 ≡ skipEnd block.InlineBlock (now (self .entry) .0) ⌝ }
+    {
+        *self = self.popped();
+    }
+}
+
+// From a number to a number, through a local that is lent: a renderer's walk keeps the number, and needs no proof by hand.
+pub fn enable_number(n: usize) -> usize
     ensures { λ r. ⌜ r ≡ skipParagraph n ⌝ }
 {
-    let skip = Skip(n).started();
+    let mut skip = Skip(n);
+    skip.enable();
     skip.0
 }
 
-fn pushed(n: usize) -> usize
+pub fn push_number(n: usize) -> usize
     ensures { λ r. ⌜ r ≡ held n (skipStart block.InlineBlock n) ⌝ }
 {
-    let skip = Skip(n).pushed();
+    let mut skip = Skip(n);
+    skip.push();
     skip.0
 }
 
-fn popped(n: usize) -> usize
+pub fn pop_number(n: usize) -> usize
     ensures { λ r. ⌜ r ≡ skipEnd block.InlineBlock n ⌝ }
 {
-    let skip = Skip(n).popped();
-    skip.0
-}
-
-// A paragraph with `full` off.
-pub fn enable(skip: &mut Skip)
-    ensures { λ _. ⌜ now (skip .exit) .0 ≡ skipParagraph (now (skip .entry) .0) ⌝ }
-{
-    skip.0 = started(skip.0);
-}
-
-// The start of an InlineBlock.
-pub fn push(skip: &mut Skip)
-    ensures { λ _. ⌜ now (skip .exit) .0 ≡ held (now (skip .entry) .0) (skipStart block.InlineBlock (now (skip .entry) .0)) ⌝ }
-{
-    skip.0 = pushed(skip.0);
-}
-
-// The end of an InlineBlock.
-pub fn pop(skip: &mut Skip)
-    ensures { λ _. ⌜ now (skip .exit) .0 ≡ skipEnd block.InlineBlock (now (skip .entry) .0) ⌝ }
-{
-    skip.0 = popped(skip.0);
-}
-
-// The counter's number after an InlineBlock that holds nothing: a local is lent twice, and what it holds carries over.
-pub fn across_block(n: usize) -> usize
-    ensures { λ r. ⌜ r ≡ skipEnd block.InlineBlock (held n (skipStart block.InlineBlock n)) ⌝ }
-{
     let mut skip = Skip(n);
-    push(&mut skip);
-    pop(&mut skip);
+    skip.pop();
     skip.0
 }

@@ -1,4 +1,5 @@
-// The functions that lend a struct, run: how many chunks some bodies have, and a skip counter's number after an InlineBlock.
+// The functions that lend a struct, run: how many chunks some bodies have, and a skip counter's number after a paragraph, an InlineBlock's start
+// and its end.
 use libc::STDOUT_FILENO;
 
 fn digit(n: usize) -> bool {
@@ -18,6 +19,9 @@ fn main() {
     digit(splitter_iter::count_chunks(b"a b"));
     digit(splitter_iter::count_chunks(b"a\n b\n\n"));
     digit(splitter_iter::count_chunks(b"\n\n```\n\nx\n```\n"));
-    digit(skip::across_block(0));
-    digit(skip::across_block(3));
+    digit(skip::enable_number(3));
+    digit(skip::push_number(0));
+    digit(skip::push_number(3));
+    digit(skip::pop_number(0));
+    digit(skip::pop_number(3));
 }

@@ -1,4 +1,3 @@
-pub mod Counter
 pub mod Shown
 pub mod Leads
 pub mod Keeps

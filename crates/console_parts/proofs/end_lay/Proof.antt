@@ -7,7 +7,7 @@ use Rattle.console_parts.proofs.end_lay.Statement.{statement}
 use Rattle.console_parts.proofs.end_lay.Tie as tie
 use Rattle.base.specs.Choice.{if_then_else_}
 use Rattle.document.specs.declared.Block.the-variants as block
-use Rattle.walk.proofs.Counter.{skip-end-most}
+use Rattle.skip.proofs.Counter.{skip-end-most}
 use Rattle.console_parts.specs.Blocks.{endLay}
 
 returns : tie.Need-returns
@@ -30,7 +30,7 @@ returns-5 : tie.Need-returns-5
 unfolding endLay if_then_else_
 returns-5 c =
     let l = c .before .before .before .before .before .args .l in
-    let e = c .popped .ensures in
+    let e = c .pop-number .ensures in
     (rw (ne-eqb _ _ (c .before .before .before .before .if1 .left), ne-eqb _ _ (c .before .before .before .if2 .left), ne-eqb _ _ (c .before .before .if3 .left), eq-eqb _ _ (c .before .if5 .taken), e), refl, omega (arith, e, skip-end-most block.InlineBlock (l .skip)))
 
 returns-6 : tie.Need-returns-6

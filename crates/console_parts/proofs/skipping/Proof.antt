@@ -5,7 +5,7 @@ use Rattle.console_parts.proofs.skipping.Statement.{statement}
 use Rattle.console_parts.proofs.skipping.Tie as tie
 
 returns : tie.Need-returns
-returns c = (refl, rw (c .started .ensures))
+returns c = (refl, rw (c .enable-number .ensures))
 
 pub skipping-spec : {M : Type 1} → statement M
 skipping-spec =

@@ -7,7 +7,7 @@ use Rattle.console_parts.proofs.start_lay.Statement.{statement}
 use Rattle.console_parts.proofs.start_lay.Tie as tie
 use Rattle.base.specs.Choice.{if_then_else_}
 use Rattle.document.specs.declared.Block.the-variants as block
-use Rattle.walk.proofs.Counter.{skip-start-most}
+use Rattle.skip.proofs.Counter.{skip-start-most}
 use Rattle.console_parts.specs.Blocks.{startLay}
 use Rattle.console_parts.proofs.Blocks.{skip-fits}
 
@@ -31,7 +31,7 @@ returns-5 : tie.Need-returns-5
 unfolding startLay if_then_else_
 returns-5 c =
     let l = c .before .before .before .before .before .args .l in
-    let e = skip-fits (l .skip) _ (c .before .before .before .before .before .pre) (c .pushed .ensures) in
+    let e = skip-fits (l .skip) _ (c .before .before .before .before .before .pre) (c .push-number .ensures) in
     (rw (ne-eqb _ _ (c .before .before .before .before .if1 .left), le-ltb _ _ (c .before .before .before .if3 .left), ne-eqb _ _ (c .before .before .if4 .left), eq-eqb _ _ (c .before .if5 .taken), e), refl, omega (arith, e, skip-start-most block.InlineBlock (l .skip)))
 
 returns-6 : tie.Need-returns-6

@@ -100,37 +100,37 @@ records-again-3 : tie.Need-records-again-3 Inv-chunks μ-chunks Inv-records μ-r
 records-again-3 c = on-left _ _ _ _ _ (c .before .before .before .before .before .before .before .before .before .before .before .before .before .before .before .before .records .inv) (c .before .before .before .before .before .before .before .before .before .before .before .before .before .record-at .ensures) (c .before .before .before .before .before .before .before .before .before .before .before .before .before .before .before .records-test .taken) _ _ _ _ _ _ (c .before .before .before .before .before .before .before .before .before .before .before .kind2 .given .1) (c .before .before .before .before .before .before .before .before .before .index-of2 .ensures) (c .before .before .before .before .before .before .before .before .if3 .left) (c .before .before .before .put-block2 .kept .0) (c .before .before .before .before .before .before .in-list2 .ensures) (c .before .before .before .before .before .end-span .ensures) (c .before .before .before .put-block2 .ensures) (c .skip-end .ensures)
 
 records-less-4 : tie.Need-records-less-4 Inv-chunks μ-chunks Inv-records μ-records
-records-less-4 c = let r = c .before .before .before .before .record-at .ensures in let k = r .low (c .before .before .before .before .before .before .records-test .taken) in omega (arith, r .order, r .high)
+records-less-4 c = let r = c .before .before .before .before .before .record-at .ensures in let k = r .low (c .before .before .before .before .before .before .before .records-test .taken) in omega (arith, r .order, r .high)
 
 records-again-4 : tie.Need-records-again-4 Inv-chunks μ-chunks Inv-records μ-records
-records-again-4 c = on-hidden _ _ _ _ _ (c .before .before .before .before .before .before .before .records .inv) (c .before .before .before .before .record-at .ensures) (c .before .before .before .before .before .before .records-test .taken) (c .before .before .kind3 .given .1) (c .if4 .taken)
+records-again-4 c = on-hidden _ _ _ _ _ (c .before .before .before .before .before .before .before .before .records .inv) (c .before .before .before .before .before .record-at .ensures) (c .before .before .before .before .before .before .before .records-test .taken) (c .before .before .before .kind3 .given .1) (sym (c .before .enabled .ensures) ∙ c .if4 .taken)
 
 change-style-requires : tie.Need-change-style-requires Inv-chunks μ-chunks Inv-records μ-records
-change-style-requires c κs = c .before .before .before .before .before .before .before .before .before .before .before .before .before .pre .0
+change-style-requires c κs = c .before .before .before .before .before .before .before .before .before .before .before .before .before .before .pre .0
 
 sub-body : tie.Need-sub-body Inv-chunks μ-chunks Inv-records μ-records
-sub-body c = let r = c .before .before .before .before .before .before .before .before .record-at .ensures in omega (arith, r .order, r .high)
+sub-body c = let r = c .before .before .before .before .before .before .before .before .before .record-at .ensures in omega (arith, r .order, r .high)
 
 part-body-start : tie.Need-part-body-start Inv-chunks μ-chunks Inv-records μ-records
-part-body-start c = let r = c .before .before .before .before .before .before .before .before .record-at .ensures in omega (arith, r .order, r .high)
+part-body-start c = let r = c .before .before .before .before .before .before .before .before .before .record-at .ensures in omega (arith, r .order, r .high)
 
 part-body-end : tie.Need-part-body-end Inv-chunks μ-chunks Inv-records μ-records
-part-body-end c = let r = c .before .before .before .before .before .before .before .before .record-at .ensures in omega (arith, r .order, r .high)
+part-body-end c = let r = c .before .before .before .before .before .before .before .before .before .record-at .ensures in omega (arith, r .order, r .high)
 
 chunks-holds : tie.Need-chunks-holds Inv-chunks μ-chunks Inv-records μ-records
-chunks-holds c = (refl, refl, body-at (c .before .before .before .change-style .kept .0 ∙ c .before .before .before .before .before .before .before .before .before .before .before .before .records .inv .same) (on-body _ _ _ _ _ (c .before .before .before .before .before .before .before .before .before .before .before .before .records .inv) (c .before .before .before .before .before .before .before .before .before .record-at .ensures) (c .before .before .before .before .before .before .before .before .before .before .before .records-test .taken) (c .before .before .before .before .before .before .before .kind3 .given .1) _ _ (c .before .before .before .before .before .if4 .left) (c .before .before .before .change-style .ensures)))
+chunks-holds c = (refl, refl, body-at (c .before .before .before .change-style .kept .0 ∙ c .before .before .before .before .before .before .before .before .before .before .before .before .before .records .inv .same) (on-body _ _ _ _ _ (c .before .before .before .before .before .before .before .before .before .before .before .before .before .records .inv) (c .before .before .before .before .before .before .before .before .before .before .record-at .ensures) (c .before .before .before .before .before .before .before .before .before .before .before .before .records-test .taken) (c .before .before .before .before .before .before .before .before .kind3 .given .1) _ _ (sym (c .before .before .before .before .before .before .enabled .ensures) ∙ c .before .before .before .before .before .if4 .left) (c .before .before .before .change-style .ensures)))
 
 records-less-5 : tie.Need-records-less-5 Inv-chunks μ-chunks Inv-records μ-records
-records-less-5 c = let r = c .before .before .before .before .before .before .before .before .before .before .before .before .before .record-at .ensures in let k = r .low (c .before .before .before .before .before .before .before .before .before .before .before .before .before .before .before .records-test .taken) in omega (arith, r .order, r .high)
+records-less-5 c = let r = c .before .before .before .before .before .before .before .before .before .before .before .before .before .before .record-at .ensures in let k = r .low (c .before .before .before .before .before .before .before .before .before .before .before .before .before .before .before .before .records-test .taken) in omega (arith, r .order, r .high)
 
 records-again-5 : tie.Need-records-again-5 Inv-chunks μ-chunks Inv-records μ-records
-records-again-5 c = let e = c .before .before .before .before .before .before .before .change-style .kept .0 ∙ c .before .before .before .before .before .before .before .before .before .before .before .before .before .before .before .before .records .inv .same in rw (c .before .before .before .chunks .inv .1) (on-done _ _ _ _ _ (c .before .before .before .before .before .before .before .before .before .before .before .before .before .before .before .before .records .inv) (c .before .before .before .before .before .before .before .before .before .before .before .before .before .record-at .ensures) (c .before .before .before .before .before .before .before .before .before .before .before .before .before .before .before .records-test .taken) (c .before .before .before .before .before .before .before .before .before .before .before .kind3 .given .1) (c .before .before .before .chunks .inv .0 ∙ e) (body-at (sym e) (c .before .before .before .chunks .inv .2)) (ended _ _ _ (c .enum-told2 .given .1) (c .before .before .step-at .ensures)))
+records-again-5 c = let e = c .before .before .before .before .before .before .before .change-style .kept .0 ∙ c .before .before .before .before .before .before .before .before .before .before .before .before .before .before .before .before .before .records .inv .same in rw (c .before .before .before .chunks .inv .1) (on-done _ _ _ _ _ (c .before .before .before .before .before .before .before .before .before .before .before .before .before .before .before .before .before .records .inv) (c .before .before .before .before .before .before .before .before .before .before .before .before .before .before .record-at .ensures) (c .before .before .before .before .before .before .before .before .before .before .before .before .before .before .before .before .records-test .taken) (c .before .before .before .before .before .before .before .before .before .before .before .before .kind3 .given .1) (c .before .before .before .chunks .inv .0 ∙ e) (body-at (sym e) (c .before .before .before .chunks .inv .2)) (ended _ _ _ (c .enum-told2 .given .1) (c .before .before .step-at .ensures)))
 
 records-less-6 : tie.Need-records-less-6 Inv-chunks μ-chunks Inv-records μ-records
-records-less-6 c = let r = c .before .before .before .before .before .before .before .before .before .before .before .before .before .before .before .before .record-at .ensures in let k = r .low (c .before .before .before .before .before .before .before .before .before .before .before .before .before .before .before .before .before .before .records-test .taken) in omega (arith, r .order, r .high)
+records-less-6 c = let r = c .before .before .before .before .before .before .before .before .before .before .before .before .before .before .before .before .before .before .record-at .ensures in let k = r .low (c .before .before .before .before .before .before .before .before .before .before .before .before .before .before .before .before .before .before .before .before .records-test .taken) in omega (arith, r .order, r .high)
 
 records-again-6 : tie.Need-records-again-6 Inv-chunks μ-chunks Inv-records μ-records
-records-again-6 c = let e = c .before .before .before .before .before .before .before .before .before .before .change-style .kept .0 ∙ c .before .before .before .before .before .before .before .before .before .before .before .before .before .before .before .before .before .before .before .records .inv .same in on-stopped _ _ _ _ _ (c .before .before .before .before .before .before .before .before .before .before .before .before .before .before .before .before .before .before .before .records .inv) (c .before .before .before .before .before .before .before .before .before .before .before .before .before .before .before .before .record-at .ensures) (c .before .before .before .before .before .before .before .before .before .before .before .before .before .before .before .before .before .before .records-test .taken) (c .before .before .before .before .before .before .before .before .before .before .before .before .before .before .kind3 .given .1) (c .before .before .before .before .before .before .chunks .inv .0 ∙ e) (body-at (sym e) (c .before .before .before .before .before .before .chunks .inv .2)) (took _ _ _ _ _ (c .before .before .before .piece .given .1) (c .before .before .before .before .before .step-at .ensures)) (sym (c .before .ends-body .ensures _) ∙ c .if5 .taken)
+records-again-6 c = let e = c .before .before .before .before .before .before .before .before .before .before .before .change-style .kept .0 ∙ c .before .before .before .before .before .before .before .before .before .before .before .before .before .before .before .before .before .before .before .before .before .records .inv .same in on-stopped _ _ _ _ _ (c .before .before .before .before .before .before .before .before .before .before .before .before .before .before .before .before .before .before .before .before .before .records .inv) (c .before .before .before .before .before .before .before .before .before .before .before .before .before .before .before .before .before .before .record-at .ensures) (c .before .before .before .before .before .before .before .before .before .before .before .before .before .before .before .before .before .before .before .before .records-test .taken) (c .before .before .before .before .before .before .before .before .before .before .before .before .before .before .before .before .kind3 .given .1) (c .before .before .before .before .before .before .before .chunks .inv .0 ∙ e) (body-at (sym e) (c .before .before .before .before .before .before .before .chunks .inv .2)) (took _ _ _ _ _ (c .before .before .before .before .piece .given .1) (c .before .before .before .before .before .before .step-at .ensures)) (sym (c .before .before .ends-body .ensures _) ∙ c .before .if5 .taken) _ (c .enable-number .ensures)
 
 chunks-less : tie.Need-chunks-less Inv-chunks μ-chunks Inv-records μ-records
 chunks-less c = let t = took _ _ _ _ _ (c .before .before .before .before .before .before .before .piece .given .1) (c .before .before .before .before .before .before .before .before .before .step-at .ensures) in omega (arith, t .further, t .short)
@@ -191,6 +191,7 @@ walk-spec =
     records-less-3
     records-again-3
     (λ c. search needs)
+    (λ c κs. search needs)
     records-less-4
     records-again-4
     change-style-requires
@@ -203,6 +204,7 @@ walk-spec =
     (λ c. search needs)
     records-less-5
     records-again-5
+    (λ c κs. search needs)
     (λ c κs. search needs)
     records-less-6
     records-again-6

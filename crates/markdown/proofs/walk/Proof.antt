@@ -82,7 +82,7 @@ records-less-4 : tie.Need-records-less-4 Inv-chunks μ-chunks Inv-records μ-rec
 records-less-4 c = let r = c .before .before .before .before .before .record-at .ensures in let k = r .low (c .before .before .before .before .before .before .before .records-test .taken) in omega (arith, r .order, r .high)
 
 records-again-4 : tie.Need-records-again-4 Inv-chunks μ-chunks Inv-records μ-records
-records-again-4 c = on-hidden _ _ _ (c .before .before .before .before .before .before .before .before .records .inv) (c .before .before .before .before .before .record-at .ensures) (c .before .before .before .before .before .before .before .records-test .taken) (c .before .before .before .kind3 .given .1) (c .if4 .taken)
+records-again-4 c = on-hidden _ _ _ (c .before .before .before .before .before .before .before .before .records .inv) (c .before .before .before .before .before .record-at .ensures) (c .before .before .before .before .before .before .before .records-test .taken) (c .before .before .before .kind3 .given .1) (sym (c .before .enabled .ensures) ∙ c .if4 .taken)
 
 change-to-markdown-style-requires-3 : tie.Need-change-to-markdown-style-requires-3 Inv-chunks μ-chunks Inv-records μ-records
 change-to-markdown-style-requires-3 c κs = c .before .before .before .before .before .before .before .before .before .before .before .before .before .pre .0
@@ -97,7 +97,7 @@ part-body-end : tie.Need-part-body-end Inv-chunks μ-chunks Inv-records μ-recor
 part-body-end c = let r = c .before .before .before .before .before .before .before .before .before .before .record-at .ensures in omega (arith, r .order, r .high)
 
 chunks-holds : tie.Need-chunks-holds Inv-chunks μ-chunks Inv-records μ-records
-chunks-holds c = (refl, body-at (c .before .before .before .before .change-to-markdown-style3 .kept .0 ∙ c .before .before .before .before .before .before .before .before .before .before .before .before .before .before .records .inv .same) (on-body _ _ _ (c .before .before .before .before .before .before .before .before .before .before .before .before .before .before .records .inv) (c .before .before .before .before .before .before .before .before .before .before .before .record-at .ensures) (c .before .before .before .before .before .before .before .before .before .before .before .before .before .records-test .taken) (c .before .before .before .before .before .before .before .before .before .kind3 .given .1) _ _ _ (c .before .before .before .before .before .before .if4 .left) (c .before .before .before .before .change-to-markdown-style3 .ensures) (c .before .styled3 .ensures)))
+chunks-holds c = (refl, body-at (c .before .before .before .before .change-to-markdown-style3 .kept .0 ∙ c .before .before .before .before .before .before .before .before .before .before .before .before .before .before .records .inv .same) (on-body _ _ _ (c .before .before .before .before .before .before .before .before .before .before .before .before .before .before .records .inv) (c .before .before .before .before .before .before .before .before .before .before .before .record-at .ensures) (c .before .before .before .before .before .before .before .before .before .before .before .before .before .records-test .taken) (c .before .before .before .before .before .before .before .before .before .kind3 .given .1) _ _ _ (sym (c .before .before .before .before .before .before .before .enabled .ensures) ∙ c .before .before .before .before .before .before .if4 .left) (c .before .before .before .before .change-to-markdown-style3 .ensures) (c .before .styled3 .ensures)))
 
 put-plain-requires : tie.Need-put-plain-requires Inv-chunks μ-chunks Inv-records μ-records
 put-plain-requires c κs =
@@ -105,10 +105,10 @@ put-plain-requires c κs =
     body-few (now (c .before .before .before .before .before .before .before .before .before .before .before .before .before .before .before .before .before .before .before .before .args .document)) (h .result .start) (h .result .next) (c .before .before .before .before .before .before .before .before .before .before .before .before .before .before .before .before .records .inv .short) (h .ensures .high)
 
 records-less-5 : tie.Need-records-less-5 Inv-chunks μ-chunks Inv-records μ-records
-records-less-5 c = let r = c .before .before .before .before .before .before .before .before .before .before .before .before .before .before .before .before .before .before .before .before .before .before .before .before .before .before .before .record-at .ensures in let k = r .low (c .before .before .before .before .before .before .before .before .before .before .before .before .before .before .before .before .before .before .before .before .before .before .before .before .before .before .before .before .before .records-test .taken) in omega (arith, r .order, r .high)
+records-less-5 c = let r = c .before .before .before .before .before .before .before .before .before .before .before .before .before .before .before .before .before .before .before .before .before .before .before .before .before .before .before .before .record-at .ensures in let k = r .low (c .before .before .before .before .before .before .before .before .before .before .before .before .before .before .before .before .before .before .before .before .before .before .before .before .before .before .before .before .before .before .records-test .taken) in omega (arith, r .order, r .high)
 
 records-again-5 : tie.Need-records-again-5 Inv-chunks μ-chunks Inv-records μ-records
-records-again-5 c = let e = c .before .before .before .before .before .before .before .before .before .before .before .before .before .before .before .before .before .before .before .before .change-to-markdown-style3 .kept .0 ∙ c .before .before .before .before .before .before .before .before .before .before .before .before .before .before .before .before .before .before .before .before .before .before .before .before .before .before .before .before .before .before .records .inv .same in on-stopped _ _ _ (c .before .before .before .before .before .before .before .before .before .before .before .before .before .before .before .before .before .before .before .before .before .before .before .before .before .before .before .before .before .before .records .inv) (c .before .before .before .before .before .before .before .before .before .before .before .before .before .before .before .before .before .before .before .before .before .before .before .before .before .before .before .record-at .ensures) (c .before .before .before .before .before .before .before .before .before .before .before .before .before .before .before .before .before .before .before .before .before .before .before .before .before .before .before .before .before .records-test .taken) (c .before .before .before .before .before .before .before .before .before .before .before .before .before .before .before .before .before .before .before .before .before .before .before .before .before .kind3 .given .1) (c .before .before .before .before .before .before .before .before .before .before .before .before .before .put-plain .kept .0 ∙ c .before .before .before .before .before .before .before .before .before .before .before .before .before .before .before .chunks .inv .0 ∙ e) (body-at (sym e) (body-words _ _ _ (c .before .before .before .before .before .before .before .before .before .before .before .before .before .before .before .chunks .inv .1) _ _ _ (c .before .before .before .before .before .before .before .before .before .before .before .before .before .before .before .chunks .inv .0) (c .before .before .before .before .before .before .before .before .before .before .before .before .before .put-plain .ensures))) _ _ _ (c .before .before .put-span2 .kept .0) (span-is _ (codeEnds (c .before .before .before .before .before .before .before .before .before .before .before .before .before .before .before .chunks .lay)) (c .before .before .before .ends-span .result) (c .before .before .before .before .before .before .before .before .before .before .before .before .before .before .before .before .before .before .before .before .before .before .before .before .before .before .before .before .before .before .before .before .before .before .pre .0) (c .before .before .before .ends-span .ensures)) (c .before .before .put-span2 .ensures) (took _ _ _ _ _ (c .before .before .before .before .before .before .before .before .piece .given .1) (c .before .before .before .before .before .before .before .before .before .before .step-at .ensures)) (sym (c .before .before .before .before .before .before .ends-body .ensures _) ∙ c .before .before .before .before .before .if5 .taken)
+records-again-5 c = let e = c .before .before .before .before .before .before .before .before .before .before .before .before .before .before .before .before .before .before .before .before .before .change-to-markdown-style3 .kept .0 ∙ c .before .before .before .before .before .before .before .before .before .before .before .before .before .before .before .before .before .before .before .before .before .before .before .before .before .before .before .before .before .before .before .records .inv .same in on-stopped _ _ _ (c .before .before .before .before .before .before .before .before .before .before .before .before .before .before .before .before .before .before .before .before .before .before .before .before .before .before .before .before .before .before .before .records .inv) (c .before .before .before .before .before .before .before .before .before .before .before .before .before .before .before .before .before .before .before .before .before .before .before .before .before .before .before .before .record-at .ensures) (c .before .before .before .before .before .before .before .before .before .before .before .before .before .before .before .before .before .before .before .before .before .before .before .before .before .before .before .before .before .before .records-test .taken) (c .before .before .before .before .before .before .before .before .before .before .before .before .before .before .before .before .before .before .before .before .before .before .before .before .before .before .kind3 .given .1) (c .before .before .before .before .before .before .before .before .before .before .before .before .before .before .put-plain .kept .0 ∙ c .before .before .before .before .before .before .before .before .before .before .before .before .before .before .before .before .chunks .inv .0 ∙ e) (body-at (sym e) (body-words _ _ _ (c .before .before .before .before .before .before .before .before .before .before .before .before .before .before .before .before .chunks .inv .1) _ _ _ (c .before .before .before .before .before .before .before .before .before .before .before .before .before .before .before .before .chunks .inv .0) (c .before .before .before .before .before .before .before .before .before .before .before .before .before .before .put-plain .ensures))) _ _ _ (c .before .before .before .put-span2 .kept .0) (span-is _ (codeEnds (c .before .before .before .before .before .before .before .before .before .before .before .before .before .before .before .before .chunks .lay)) (c .before .before .before .before .ends-span .result) (c .before .before .before .before .before .before .before .before .before .before .before .before .before .before .before .before .before .before .before .before .before .before .before .before .before .before .before .before .before .before .before .before .before .before .before .pre .0) (c .before .before .before .before .ends-span .ensures)) (c .before .before .before .put-span2 .ensures) (took _ _ _ _ _ (c .before .before .before .before .before .before .before .before .before .piece .given .1) (c .before .before .before .before .before .before .before .before .before .before .before .step-at .ensures)) (sym (c .before .before .before .before .before .before .before .ends-body .ensures _) ∙ c .before .before .before .before .before .before .if5 .taken) _ (c .enable-number .ensures)
 
 put-chunk-requires : tie.Need-put-chunk-requires Inv-chunks μ-chunks Inv-records μ-records
 put-chunk-requires c κs = c .before .before .before .before .before .before .before .before .before .before .before .before .before .before .before .before .before .before .before .before .before .before .before .before .before .before .before .before .before .before .pre .0
@@ -174,6 +174,7 @@ walk-spec =
     records-less-3
     records-again-3
     (λ c. search needs)
+    (λ c κs. search needs)
     records-less-4
     records-again-4
     change-to-markdown-style-requires-3
@@ -186,6 +187,7 @@ walk-spec =
     (λ c κs. search needs)
     (λ c. search needs)
     (λ c. search needs)
+    (λ c κs. search needs)
     (λ c κs. search needs)
     (λ c κs. search needs)
     (λ c κs. search needs)

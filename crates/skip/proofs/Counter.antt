@@ -6,8 +6,8 @@ use borrow.Author.Tests.{lt-ltb, le-ltb}
 use Rattle.base.proofs.Choice.{pick, if-true, if-false}
 use Rattle.document.specs.declared.Block.{Block}
 use Rattle.document.specs.declared.Block.the-variants as block
 use Rattle.walk.specs.Walk.{skipStart, skipEnd}
-use Rattle.walk.specs.Answers.{held}
+use Rattle.skip.specs.Answers.{held}
 
 -- a number that fits is held
 pub held-fits : (old new : ℕ) → new < 2 ^ 64 → held old new ≡ new

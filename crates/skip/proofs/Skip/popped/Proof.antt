@@ -1,9 +1,9 @@
 use mathlib.Core.Path.{sym, _∙_}
 use native.Mathlib.Omega.{arith}
 use borrow.Author.Needs.{needs}
-use Rattle.walk.proofs.Skip.popped.Statement.{statement}
-use Rattle.walk.proofs.Skip.popped.Tie as tie
-use Rattle.walk.proofs.Counter.{pop-one}
+use Rattle.skip.proofs.Skip.popped.Statement.{statement}
+use Rattle.skip.proofs.Skip.popped.Tie as tie
+use Rattle.skip.proofs.Counter.{pop-one}
 
 returns : tie.Need-returns
 returns c = sym (pop-one _)

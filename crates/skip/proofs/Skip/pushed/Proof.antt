@@ -1,7 +1,7 @@
 use borrow.Author.Needs.{needs}
-use Rattle.walk.proofs.Skip.pushed.Statement.{statement}
-use Rattle.walk.proofs.Skip.pushed.Tie as tie
-use Rattle.walk.proofs.Counter.{pushes, pushes-no-further, pushes-none}
+use Rattle.skip.proofs.Skip.pushed.Statement.{statement}
+use Rattle.skip.proofs.Skip.pushed.Tie as tie
+use Rattle.skip.proofs.Counter.{pushes, pushes-no-further, pushes-none}
 
 returns : tie.Need-returns
 returns c = pushes _ (c .before .if1 .taken) (c .if2 .taken)
