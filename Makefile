@@ -14,13 +14,13 @@ run:
 	@tools/run
 
 compare:
-	@set -e; linked=$$(tools/link); set -- $$linked; "$$1" compare --seed $(SEED) --cases $(N) --only "$$2"
+	@set -e; oracle=$$(tools/link); $$oracle compare --seed $(SEED) --cases $(N)
 
 bench:
-	@set -e; linked=$$(tools/link); set -- $$linked; "$$1" bench samples/options-2k.doc samples/options-8k.doc samples/options-30k.doc samples/prose.doc samples/nonascii.doc
+	@set -e; oracle=$$(tools/link); $$oracle bench samples/options-2k.doc samples/options-8k.doc samples/options-30k.doc samples/prose.doc samples/nonascii.doc
 
 growth:
-	@set -e; linked=$$(tools/link); set -- $$linked; "$$1" growth samples/options-30k.doc
+	@set -e; oracle=$$(tools/link); $$oracle growth samples/options-30k.doc
 
 fuzz:
 	@tools/fuzz $(SECONDS)

@@ -1,11 +1,11 @@
-//! Links the port's static library, only where a `linked-*` feature asks for it.
+//! Links the port's static library, only where the feature `linked` asks for it.
 
 use std::env;
 
 fn main() {
     println!("cargo:rerun-if-changed=build.rs");
     println!("cargo:rerun-if-env-changed=SEFGRUNN_LIB_DIR");
-    if env::vars_os().any(|(name, _)| name.to_string_lossy().starts_with("CARGO_FEATURE_LINKED")) {
+    if env::var_os("CARGO_FEATURE_LINKED").is_some() {
         let dir = env::var("SEFGRUNN_LIB_DIR")
             .expect("SEFGRUNN_LIB_DIR must name the directory of libsefgrunn.a");
         println!("cargo:rustc-link-search=native={dir}");

@@ -10,8 +10,7 @@ use std::panic::{catch_unwind, AssertUnwindSafe};
 
 use crate::buffer::{Color, Token};
 use crate::cases::Call;
-use crate::generate::Subject;
-use crate::port::{is_linked, number};
+use crate::port::number;
 use crate::rules::{self, Kind, Operation, Record, Renderer};
 use crate::stored::{decode, put_record, Block, Ending, Style, MOST_BYTES};
 use crate::Doc;
@@ -86,29 +85,18 @@ fn port(call: Call, document: &[u8], room: &mut [u8]) -> u32 {
 }
 
 /// UTF-8 validation of the same bodies stands in for the Rust, which has no such check.
-fn check_times(document: &[u8], records: &[Record]) -> Option<Times> {
-    is_linked(Subject::Check).then(|| {
-        medians(
-            400,
-            || batch(BATCH, || assert_eq!(port(Call::Check, document, &mut []), 0)),
-            || {
-                batch(BATCH, || {
-                    for record in black_box(records) {
-                        black_box(std::str::from_utf8(record.body).is_ok());
-                    }
-                })
-            },
-        )
-    })
-}
-
-fn subject(renderer: Renderer) -> Subject {
-    match renderer {
-        Renderer::Console { .. } => Subject::Console,
-        Renderer::Html { .. } => Subject::Html,
-        Renderer::Markdown { .. } => Subject::Markdown,
-        Renderer::Roff => Subject::Roff,
-    }
+fn check_times(document: &[u8], records: &[Record]) -> Times {
+    medians(
+        400,
+        || batch(BATCH, || assert_eq!(port(Call::Check, document, &mut []), 0)),
+        || {
+            batch(BATCH, || {
+                for record in black_box(records) {
+                    black_box(std::str::from_utf8(record.body).is_ok());
+                }
+            })
+        },
+    )
 }
 
 fn rust_text(renderer: Renderer, doc: &Doc) -> String {
@@ -122,17 +110,14 @@ fn rust_text(renderer: Renderer, doc: &Doc) -> String {
     }
 }
 
-/// In a room of the size given, or else of what the text needs. `None` where a renderer is not linked
-/// or refuses the page.
+/// In a room of the size given, or else of what the text needs. `None` where a renderer refuses the
+/// page.
 fn render_times(
     renderer: Renderer,
     document: &[u8],
     doc: &Doc,
     room: Option<usize>,
 ) -> Option<Times> {
-    if !is_linked(subject(renderer)) {
-        return None;
-    }
     let text = catch_unwind(AssertUnwindSafe(|| rust_text(renderer, doc))).ok()?;
     let need = rules::render(renderer, document, usize::MAX).most;
     let (call, mut room) = (Call::Render(renderer), vec![0; room.unwrap_or(need)]);
@@ -178,8 +163,7 @@ fn write_times(document: &[u8], doc: &Doc) -> Option<Times> {
     let call = Call::Build(Operation::Write { style: 2 });
     let mut room = document.to_vec();
     room.resize(document.len() + 6 + WRITES * text.len(), 0);
-    let fits = is_linked(Subject::Builder) && room.len() <= MOST_BYTES;
-    fits.then(|| {
+    (room.len() <= MOST_BYTES).then(|| {
         medians(
             400,
             || {
@@ -199,9 +183,6 @@ fn write_times(document: &[u8], doc: &Doc) -> Option<Times> {
 
 /// A whole document from nothing, record by record.
 fn building_times(document: &[u8], records: &[Record]) -> Option<Times> {
-    if !is_linked(Subject::Builder) {
-        return None;
-    }
     let bodies: Vec<&str> =
         records.iter().map(|r| std::str::from_utf8(r.body)).collect::<Result<_, _>>().ok()?;
     let mut room = vec![0; MOST_BYTES];
@@ -254,11 +235,11 @@ pub fn head() {
     );
 }
 
-/// The rows of one page, for each function that is linked; `None` where the page is refused.
+/// The rows of one page; `None` where it is refused.
 pub fn page(name: &str, document: &[u8]) -> Option<()> {
     let (doc, records) = read(document)?;
     let bytes = document.len();
-    row("check (rust: from_utf8)", name, bytes, check_times(document, &records));
+    row("check (rust: from_utf8)", name, bytes, Some(check_times(document, &records)));
     let wide = render_times(CONSOLE, document, &doc, Some(65_536));
     row("console, room 65,536", name, bytes, wide);
     for (what, renderer) in [
@@ -346,7 +327,7 @@ pub fn growth(document: &[u8]) -> Option<()> {
         for page in &pages {
             let (doc, records) = read(page).expect("records of a document, all blocks closed");
             let times = match renderer {
-                None => check_times(page, &records),
+                None => Some(check_times(page, &records)),
                 Some(renderer) => render_times(renderer, page, &doc, None),
             };
             let Some(t) = times else { continue };

@@ -11,6 +11,9 @@ use oracle::port;
 use oracle::rules::{Misreading, Renderer};
 use oracle::worthless::Worthless;
 
+const NOT_LINKED: &str =
+    "the C interface is not linked: build with the feature linked and SEFGRUNN_LIB_DIR set";
+
 const USAGE: &str = "\
 usage: oracle answer console|html|html_strict|markdown|roff
               [--width N] [--full 0|1] [--css 0|1] [--room N] < document
@@ -99,6 +102,10 @@ fn main() -> ExitCode {
     let command = arguments.next().unwrap_or_default();
     let outcome =
         match command.as_str() {
+            "compare" | "bench" | "growth" if !port::LINKED => {
+                println!("{NOT_LINKED}");
+                return ExitCode::from(2);
+            }
             "answer" => Arguments::read(arguments, &["width", "full", "css", "room"])
                 .and_then(|a| run_answer(&a)),
             "record" => Arguments::read(arguments, &["seed", "cases", "max-bytes"])
@@ -284,17 +291,10 @@ fn run_compare(arguments: &Arguments) -> Parsed<ExitCode> {
     arguments.no_operand()?;
     let mut subjects = arguments.subjects()?;
     if arguments.value("only").is_none() {
-        subjects.retain(|&subject| port::is_linked(subject));
+        subjects.retain(|&subject| subject != Subject::Split);
     }
-    if subjects.is_empty() {
-        println!(
-            "the C interface is not linked: build with a linked feature and SEFGRUNN_LIB_DIR set"
-        );
-        return Ok(ExitCode::from(2));
-    }
-    if let Some(subject) = subjects.iter().find(|&&subject| !port::is_linked(subject)) {
-        println!("the C interface is not linked for {subject:?}");
-        return Ok(ExitCode::from(2));
+    if subjects.contains(&Subject::Split) {
+        return Err("--only split: the C interface has no split".into());
     }
     run_cases(&subjects, arguments, "mismatches", |case, expected| {
         if let Err(message) = confirm(case, expected) {

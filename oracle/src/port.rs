@@ -1,120 +1,15 @@
-//! The C interface of the port, where a `linked-*` feature links it.
-
-// Parts of this file are unused where some functions are not linked.
-#![allow(unused_imports, unused_unsafe, unused_variables, unreachable_patterns)]
+//! The C interface of the port, where the feature `linked` links it.
 
 use crate::cases::{Answer, Call, Case};
-use crate::generate::Subject;
+#[cfg(feature = "linked")]
 use crate::rules::{Operation, Renderer};
 
-extern "C" {
-    #[cfg(feature = "linked-check")]
-    fn sefgrunn_check(document: *const u8, n: usize, place: *mut usize) -> u32;
-    #[cfg(feature = "linked-console")]
-    fn sefgrunn_console(
-        document: *const u8,
-        n: usize,
-        width: usize,
-        full: bool,
-        room: *mut u8,
-        room_len: usize,
-        at: *mut usize,
-    ) -> u32;
-    #[cfg(feature = "linked-html")]
-    fn sefgrunn_html(
-        document: *const u8,
-        n: usize,
-        full: bool,
-        css: bool,
-        room: *mut u8,
-        room_len: usize,
-        at: *mut usize,
-    ) -> u32;
-    #[cfg(feature = "linked-html")]
-    fn sefgrunn_html_strict(
-        document: *const u8,
-        n: usize,
-        full: bool,
-        css: bool,
-        room: *mut u8,
-        room_len: usize,
-        at: *mut usize,
-    ) -> u32;
-    #[cfg(feature = "linked-markdown")]
-    fn sefgrunn_markdown(
-        document: *const u8,
-        n: usize,
-        full: bool,
-        room: *mut u8,
-        room_len: usize,
-        at: *mut usize,
-    ) -> u32;
-    #[cfg(feature = "linked-roff")]
-    fn sefgrunn_roff(
-        document: *const u8,
-        n: usize,
-        room: *mut u8,
-        room_len: usize,
-        at: *mut usize,
-    ) -> u32;
-    #[cfg(feature = "linked-builder")]
-    fn sefgrunn_write(
-        room: *mut u8,
-        room_len: usize,
-        length: *mut usize,
-        style: u32,
-        text: *const u8,
-        n: usize,
-        place: *mut usize,
-    ) -> u32;
-    #[cfg(feature = "linked-builder")]
-    fn sefgrunn_open(
-        room: *mut u8,
-        room_len: usize,
-        length: *mut usize,
-        block: u32,
-        place: *mut usize,
-    ) -> u32;
-    #[cfg(feature = "linked-builder")]
-    fn sefgrunn_close(
-        room: *mut u8,
-        room_len: usize,
-        length: *mut usize,
-        block: u32,
-        place: *mut usize,
-    ) -> u32;
-    #[cfg(feature = "linked-builder")]
-    fn sefgrunn_doc(
-        room: *mut u8,
-        room_len: usize,
-        length: *mut usize,
-        added: *const u8,
-        n: usize,
-        place: *mut usize,
-    ) -> u32;
-    #[cfg(feature = "linked-builder")]
-    fn sefgrunn_em_doc(
-        room: *mut u8,
-        room_len: usize,
-        length: *mut usize,
-        added: *const u8,
-        n: usize,
-        place: *mut usize,
-    ) -> u32;
-}
+#[cfg(feature = "linked")]
+#[path = "../../wrapper/src/c.rs"]
+mod c;
 
-/// Whether the functions of a subject are linked. The splitter has none in the C interface.
-pub const fn is_linked(subject: Subject) -> bool {
-    match subject {
-        Subject::Check => cfg!(feature = "linked-check"),
-        Subject::Console => cfg!(feature = "linked-console"),
-        Subject::Html | Subject::HtmlStrict => cfg!(feature = "linked-html"),
-        Subject::Markdown => cfg!(feature = "linked-markdown"),
-        Subject::Roff => cfg!(feature = "linked-roff"),
-        Subject::Builder => cfg!(feature = "linked-builder"),
-        Subject::Split => false,
-    }
-}
+/// Whether the C interface is linked.
+pub const LINKED: bool = cfg!(feature = "linked");
 
 /// Bytes before and after each buffer that the port must leave as they are.
 const GUARD: usize = 32;
@@ -141,7 +36,7 @@ impl Guarded {
     }
 }
 
-/// Calls a function that is linked. `Err` where a byte outside the room was changed.
+/// Makes a case's call. `Err` where a byte outside the room was changed.
 pub fn call(case: &Case) -> Result<Answer, String> {
     let mut document = Guarded::new(&case.document);
     let mut room = Guarded::new(&case.room);
@@ -166,7 +61,8 @@ pub fn call(case: &Case) -> Result<Answer, String> {
     Ok(answer)
 }
 
-/// One call of a function that is linked: the number that it returns.
+/// One call of the C interface, which has no split: the number that it returns.
+#[cfg(feature = "linked")]
 pub(crate) fn number(
     call: Call,
     document: &[u8],
@@ -180,35 +76,33 @@ pub(crate) fn number(
     // buffers overlap.
     unsafe {
         match call {
-            #[cfg(feature = "linked-check")]
-            Call::Check => sefgrunn_check(d, n, at),
-            #[cfg(feature = "linked-console")]
+            Call::Check => c::sefgrunn_check(d, n, at),
             Call::Render(Renderer::Console { width, full }) => {
-                sefgrunn_console(d, n, width as usize, full, r, r_len, at)
+                c::sefgrunn_console(d, n, width as usize, full, r, r_len, at)
             }
-            #[cfg(feature = "linked-html")]
             Call::Render(Renderer::Html { full, css, strict: false }) => {
-                sefgrunn_html(d, n, full, css, r, r_len, at)
+                c::sefgrunn_html(d, n, full, css, r, r_len, at)
             }
-            #[cfg(feature = "linked-html")]
             Call::Render(Renderer::Html { full, css, strict: true }) => {
-                sefgrunn_html_strict(d, n, full, css, r, r_len, at)
+                c::sefgrunn_html_strict(d, n, full, css, r, r_len, at)
             }
-            #[cfg(feature = "linked-markdown")]
             Call::Render(Renderer::Markdown { full }) => {
-                sefgrunn_markdown(d, n, full, r, r_len, at)
+                c::sefgrunn_markdown(d, n, full, r, r_len, at)
             }
-            #[cfg(feature = "linked-roff")]
-            Call::Render(Renderer::Roff) => sefgrunn_roff(d, n, r, r_len, at),
-            #[cfg(feature = "linked-builder")]
+            Call::Render(Renderer::Roff) => c::sefgrunn_roff(d, n, r, r_len, at),
             Call::Build(operation) => match operation {
-                Operation::Write { style } => sefgrunn_write(r, r_len, length, style, d, n, at),
-                Operation::Open { block } => sefgrunn_open(r, r_len, length, block, at),
-                Operation::Close { block } => sefgrunn_close(r, r_len, length, block, at),
-                Operation::Doc => sefgrunn_doc(r, r_len, length, d, n, at),
-                Operation::EmDoc => sefgrunn_em_doc(r, r_len, length, d, n, at),
+                Operation::Write { style } => c::sefgrunn_write(r, r_len, length, style, d, n, at),
+                Operation::Open { block } => c::sefgrunn_open(r, r_len, length, block, at),
+                Operation::Close { block } => c::sefgrunn_close(r, r_len, length, block, at),
+                Operation::Doc => c::sefgrunn_doc(r, r_len, length, d, n, at),
+                Operation::EmDoc => c::sefgrunn_em_doc(r, r_len, length, d, n, at),
             },
-            _ => unreachable!("asked only where the function is linked"),
+            Call::Split => unreachable!("the C interface has no split"),
         }
     }
+}
+
+#[cfg(not(feature = "linked"))]
+pub(crate) fn number(_: Call, _: &[u8], _: &mut [u8], _: &mut usize, _: &mut usize) -> u32 {
+    unreachable!("asked only where the C interface is linked")
 }

@@ -90,14 +90,7 @@ fn reach_says_what_is_not_caught() {
     assert!(!said.contains("NOT CAUGHT"), "{said}");
 }
 
-#[cfg(not(any(
-    feature = "linked-check",
-    feature = "linked-console",
-    feature = "linked-html",
-    feature = "linked-markdown",
-    feature = "linked-roff",
-    feature = "linked-builder"
-)))]
+#[cfg(not(feature = "linked"))]
 #[test]
 fn compare_without_the_port() {
     let output = oracle(&["compare", "--seed", "3", "--cases", "20"], b"");

@@ -24,6 +24,7 @@
 use std::error::Error;
 use std::fmt;
 
+mod c;
 mod linked;
 
 /// The most bytes that a document may have.

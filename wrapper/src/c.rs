@@ -1,0 +1,86 @@
+//! The functions of `include/sefgrunn.h` as Rust declares them.
+
+extern "C" {
+    pub fn sefgrunn_check(document: *const u8, n: usize, place: *mut usize) -> u32;
+    pub fn sefgrunn_console(
+        document: *const u8,
+        n: usize,
+        width: usize,
+        full: bool,
+        room: *mut u8,
+        room_len: usize,
+        at: *mut usize,
+    ) -> u32;
+    pub fn sefgrunn_html(
+        document: *const u8,
+        n: usize,
+        full: bool,
+        css: bool,
+        room: *mut u8,
+        room_len: usize,
+        at: *mut usize,
+    ) -> u32;
+    pub fn sefgrunn_html_strict(
+        document: *const u8,
+        n: usize,
+        full: bool,
+        css: bool,
+        room: *mut u8,
+        room_len: usize,
+        at: *mut usize,
+    ) -> u32;
+    pub fn sefgrunn_markdown(
+        document: *const u8,
+        n: usize,
+        full: bool,
+        room: *mut u8,
+        room_len: usize,
+        at: *mut usize,
+    ) -> u32;
+    pub fn sefgrunn_roff(
+        document: *const u8,
+        n: usize,
+        room: *mut u8,
+        room_len: usize,
+        at: *mut usize,
+    ) -> u32;
+    pub fn sefgrunn_write(
+        room: *mut u8,
+        room_len: usize,
+        length: *mut usize,
+        style: u32,
+        text: *const u8,
+        n: usize,
+        place: *mut usize,
+    ) -> u32;
+    pub fn sefgrunn_open(
+        room: *mut u8,
+        room_len: usize,
+        length: *mut usize,
+        block: u32,
+        place: *mut usize,
+    ) -> u32;
+    pub fn sefgrunn_close(
+        room: *mut u8,
+        room_len: usize,
+        length: *mut usize,
+        block: u32,
+        place: *mut usize,
+    ) -> u32;
+    pub fn sefgrunn_doc(
+        room: *mut u8,
+        room_len: usize,
+        length: *mut usize,
+        added: *const u8,
+        n: usize,
+        place: *mut usize,
+    ) -> u32;
+    pub fn sefgrunn_em_doc(
+        room: *mut u8,
+        room_len: usize,
+        length: *mut usize,
+        added: *const u8,
+        n: usize,
+        place: *mut usize,
+    ) -> u32;
+}
