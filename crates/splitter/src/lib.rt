@@ -3,7 +3,7 @@ ghost use mathlib.Core.Path.{_≡_};
 ghost use mathlib.Core.Bool.{false};
 ghost use Prim.Native.Nat.{_+_, _-_, _<_};
 ghost use lib.ListN.{length, take, drop};
-ghost use Rattle.splitter.specs.Split.{line, step, split, stripped, ticked as tickedLine, afterLineEnd};
+ghost use Rattle.splitter.specs.Split.{line, step, stripped, ticked as tickedLine, afterLineEnd};
 ghost use Rattle.splitter.specs.Answers.{cursor, told, firstChunk, textOf, Within};
 ghost use Rattle.splitter.specs.Parts.{Gives, wordFrom};
 ghost use Rattle.splitter.specs.declared.Code.the-variants as code;
@@ -215,22 +215,4 @@ pub fn strip_prefix<'a>(text: &'a [u8], prefix: &[u8]) -> &'a [u8]
         return &text[from..];
     }
     text
-}
-
-// How many chunks a body has.
-pub fn count_chunks(body: &[u8]) -> usize
-    ensures { λ r. ⌜ r ≡ length (split (now (body .entry))) ⌝ }
-{
-    let mut n: usize = 0;
-    let mut c = Cursor {
-        at: 0,
-        code: Code::No,
-    };
-    loop {
-        let Step::Take(_, next) = step_at(body, c) else {
-            return n;
-        };
-        n += 1;
-        c = next;
-    }
 }
