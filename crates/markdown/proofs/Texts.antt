@@ -19,8 +19,7 @@ use Rattle.html_rules.specs.declared.Markdown.{Markdown}
 use Rattle.html_parts.specs.Parts.{spanned}
 use Rattle.html_parts.specs.declared.Span.{Span}
 use Rattle.html_parts.proofs.Writes.{wrote-then, wrote-twice}
-use Rattle.markdown.specs.Parts.{tags, Starts, startRule, rawRule, chunkRule}
-use Rattle.markdown.specs.declared.Marks.{Marks}
+use Rattle.markdown.specs.Parts.{tags, startRule, rawRule, chunkRule}
 
 -- a text of the table
 pub span-is : (table x : List ℕ) (s : Span) → table ≡ tags → spanned tags s ≡ x → spanned table s ≡ x
@@ -31,21 +30,22 @@ pub by-rule : (old new : List ℕ) (len r : ℕ) (f g : List ℕ → Result (Lis
 by-rule old new len r f g e w = w ∙ ap (λ (h : List ℕ → Result (List ℕ)). seen old len >>= h) e
 
 module _ (limit : ℕ) (old mid new : List ℕ) (len n r m : ℕ) (same : m ≡ limit) where
-  -- A block's start
-  pub start-wrote : (table : List ℕ) (b : Block) (l : Markdown) (k : Marks) (mid₂ : List ℕ) (n₂ o : ℕ) → o ≡ limit → table ≡ tags → Starts k l b
-      → seen mid n ≡ (seen old len >>= extended limit (spanned table (k .lead)))
-      → seen mid₂ n₂ ≡ (seen mid n >>= separated m (spanned table (k .line)))
-      → seen new r ≡ (seen mid₂ n₂ >>= extended o (spanned table (k .text)))
+  -- A block's start: its three texts stand in the table
+  pub start-wrote : (table : List ℕ) (b : Block) (l : Markdown) (lead line text : Span) (mid₂ : List ℕ) (n₂ o : ℕ) → o ≡ limit → table ≡ tags
+      → spanned tags lead ≡ startLead l b → spanned tags line ≡ startLine b → spanned tags text ≡ startText l b
+      → seen mid n ≡ (seen old len >>= extended limit (spanned table lead))
+      → seen mid₂ n₂ ≡ (seen mid n >>= separated m (spanned table line))
+      → seen new r ≡ (seen mid₂ n₂ >>= extended o (spanned table text))
       → seen new r ≡ (seen old len >>= startRule limit l b)
   unfolding startRule
-  start-wrote table b l k mid₂ n₂ o q e s u v w =
+  start-wrote table b l lead line text mid₂ n₂ o q e f g h u v w =
       wrote-then old mid₂ len n₂ (λ x. extended limit (startLead l b) x >>= separated limit (startLine b)) (extended limit (startText l b)) (seen new r)
       (wrote-then old mid len n (extended limit (startLead l b)) (separated limit (startLine b)) (seen mid₂ n₂)
-      (u ∙ ap (λ (x : List ℕ). seen old len >>= extended limit x) (span-is table (startLead l b) (k .lead) e (s .lead)))
-      (v ∙ ap (λ (c : ℕ). seen mid n >>= separated c (spanned table (k .line))) same
-      ∙ ap (λ (x : List ℕ). seen mid n >>= separated limit x) (span-is table (startLine b) (k .line) e (s .line))))
-      (w ∙ ap (λ (c : ℕ). seen mid₂ n₂ >>= extended c (spanned table (k .text))) q
-      ∙ ap (λ (x : List ℕ). seen mid₂ n₂ >>= extended limit x) (span-is table (startText l b) (k .text) e (s .text)))
+      (u ∙ ap (λ (x : List ℕ). seen old len >>= extended limit x) (span-is table (startLead l b) lead e f))
+      (v ∙ ap (λ (c : ℕ). seen mid n >>= separated c (spanned table line)) same
+      ∙ ap (λ (x : List ℕ). seen mid n >>= separated limit x) (span-is table (startLine b) line e g)))
+      (w ∙ ap (λ (c : ℕ). seen mid₂ n₂ >>= extended c (spanned table text)) q
+      ∙ ap (λ (x : List ℕ). seen mid₂ n₂ >>= extended limit x) (span-is table (startText l b) text e h))
 
   -- A line
   pub line-wrote : (mid₂ : List ℕ) (n₂ o : ℕ) (x : List ℕ) → o ≡ limit → seen mid n ≡ (seen old len >>= extended limit (0x20 ∷ 0x20 ∷ []))

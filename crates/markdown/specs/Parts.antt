@@ -1,6 +1,5 @@
 -- What the functions inside this crate promise each other; no rule of 01 stands here.
 use Prim.Native.Nat.{ℕ}
-use mathlib.Core.Path.{_≡_}
 use mathlib.Core.Bool.{Bool, true, false}
 use mathlib.Core.List.{List}
 use lib.Dec.{eqb}
@@ -13,18 +12,10 @@ use Rattle.splitter.specs.Split.{Chunk, raw, paragraph, lineBreak}
 use Rattle.html_rules.specs.Marks.{separated}
 use Rattle.html_rules.specs.Markdown.{startLead, startLine, startText, codeBegins, codeStops, lineText, wordText, paragraphText}
 use Rattle.html_rules.specs.declared.Markdown.{Markdown}
-use Rattle.html_parts.specs.Parts.{spanned}
-use Rattle.markdown.specs.declared.Marks.{Marks}
 
 -- all marks in one text
 unfoldable pub tags : List ℕ
 tags = bytes "**`**_`_### - \n\n  ```text\n\n  ```\n &mdash; "
-
--- where the three texts of a block's start stand
-pub record Starts (m : Marks) (l : Markdown) (b : Block) : Type 0 where
-  pub lead : spanned tags (m .lead) ≡ startLead l b
-  pub line : spanned tags (m .line) ≡ startLine b
-  pub text : spanned tags (m .text) ≡ startText l b
 
 -- the text after a block's start
 unfoldable pub startRule : ℕ → Markdown → Block → List ℕ → Result (List ℕ)

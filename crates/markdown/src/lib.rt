@@ -11,9 +11,9 @@ ghost use Rattle.document.specs.declared.Style.the-variants as style;
 ghost use Rattle.splitter.specs.Answers.{chunkOf};
 ghost use Rattle.walk.specs.Walk.{isEnd, walk as records};
 ghost use Rattle.walk.specs.Rendered.{answered, standing, filled, Inside};
-ghost use Rattle.html_rules.specs.Markdown.{styled as withStyle, opening, closing, termEnds, metTerm, startLay, endText, endLay, codeBegins, codeStops, codeEnds, lineText, wordText, paragraphText, initial, turn, finish, markdown};
+ghost use Rattle.html_rules.specs.Markdown.{styled as withStyle, opening, closing, termEnds, metTerm, startLead, startLine, startText, startLay, endText, endLay, codeBegins, codeStops, codeEnds, lineText, wordText, paragraphText, initial, turn, finish, markdown};
 ghost use Rattle.html_parts.specs.Parts.{spanned};
-ghost use Rattle.markdown.specs.Parts.{tags as allTags, Starts, startRule, rawRule, chunkRule, fenceAfter};
+ghost use Rattle.markdown.specs.Parts.{tags as allTags, startRule, rawRule, chunkRule, fenceAfter};
 ghost use Rattle.markdown.specs.Onward.{Onward, Ahead, Moves};
 use document::Block;
 use document::Checked;
@@ -29,13 +29,6 @@ use splitter::Cursor;
 use splitter::Piece;
 use splitter::Step;
 use walk::Rendered;
-
-// Where the three texts of a block's start stand: at once, the mark of a line of its own, and after it.
-struct Marks {
-    lead: Span,
-    line: Span,
-    text: Span,
-}
 
 // Where the marks that open a style stand.
 fn opening_span(st: Style) -> Span
@@ -92,118 +85,68 @@ fn styled(l: Markdown, st: Style) -> Markdown
     }
 }
 
-// Where the texts of a block's start stand.
-fn start_marks(b: Block, l: Markdown) -> Marks
-    ensures { λ r. ⌜ Starts r l b ⌝ }
+// Where the text stands that goes out at a block's start at once.
+fn lead_span(b: Block, l: Markdown) -> Span
+    ensures { λ r. ⌜ spanned allTags r ≡ startLead l b ⌝ }
 {
-    let none = Span(0, 0);
-    let end = Span(14, 15);
     match b {
-        Block::Header => {
-            let line = Span(14, 16);
-            if l.titled {
-                return Marks {
-                    lead: none,
-                    line,
-                    text: Span(9, 12),
-                };
-            }
-            Marks {
-                lead: none,
-                line,
-                text: Span(10, 12),
-            }
-        }
-        Block::Section2 => Marks {
-            lead: none,
-            line: none,
-            text: none,
-        },
-        Block::Section3 => Marks {
-            lead: none,
-            line: none,
-            text: Span(8, 12),
-        },
-        Block::Section4 => {
-            if l.bare {
-                return Marks {
-                    lead: none,
-                    line: end,
-                    text: Span(16, 18),
-                };
-            }
-            Marks {
-                lead: none,
-                line: end,
-                text: Span(12, 14),
-            }
-        }
-        Block::ItemTerm => {
-            if l.bare {
-                return Marks {
-                    lead: none,
-                    line: end,
-                    text: Span(16, 18),
-                };
-            }
-            Marks {
-                lead: none,
-                line: end,
-                text: Span(12, 14),
-            }
-        }
+        Block::Header => Span(0, 0),
+        Block::Section2 => Span(0, 0),
+        Block::Section3 => Span(0, 0),
+        Block::Section4 => Span(0, 0),
+        Block::ItemTerm => Span(0, 0),
         Block::ItemBody => {
-            let text = Span(16, 18);
             if !l.listed {
-                return Marks {
-                    lead: none,
-                    line: end,
-                    text,
-                };
+                return Span(0, 0);
             }
-            if l.bare {
-                return Marks {
-                    lead: Span(16, 17),
-                    line: end,
-                    text,
-                };
-            }
-            Marks {
-                lead: Span(33, 42),
-                line: end,
-                text,
-            }
+            if l.bare { Span(16, 17) } else { Span(33, 42) }
         }
-        Block::DefinitionList => Marks {
-            lead: none,
-            line: none,
-            text: none,
-        },
-        Block::Block => Marks {
-            lead: none,
-            line: none,
-            text: end,
-        },
-        Block::InlineBlock => Marks {
-            lead: none,
-            line: none,
-            text: none,
-        },
-        Block::TermRef => Marks {
-            lead: none,
-            line: none,
-            text: none,
-        },
-        Block::Meta => Marks {
-            lead: none,
-            line: none,
-            text: none,
-        },
-        Block::Mono => Marks {
-            lead: none,
-            line: none,
-            text: none,
-        },
+        Block::DefinitionList => Span(0, 0),
+        Block::Block => Span(0, 0),
+        Block::InlineBlock => Span(0, 0),
+        Block::TermRef => Span(0, 0),
+        Block::Meta => Span(0, 0),
+        Block::Mono => Span(0, 0),
+    }
+}
+
+// Where the mark of its own line stands.
+fn line_span(b: Block) -> Span
+    ensures { λ r. ⌜ spanned allTags r ≡ startLine b ⌝ }
+{
+    match b {
+        Block::Header => Span(14, 16),
+        Block::Section2 => Span(0, 0),
+        Block::Section3 => Span(0, 0),
+        Block::Section4 => Span(14, 15),
+        Block::ItemTerm => Span(14, 15),
+        Block::ItemBody => Span(14, 15),
+        Block::DefinitionList => Span(0, 0),
+        Block::Block => Span(0, 0),
+        Block::InlineBlock => Span(0, 0),
+        Block::TermRef => Span(0, 0),
+        Block::Meta => Span(0, 0),
+        Block::Mono => Span(0, 0),
+    }
+}
+
+// And the text after that.
+fn text_span(b: Block, l: Markdown) -> Span
+    ensures { λ r. ⌜ spanned allTags r ≡ startText l b ⌝ }
+{
+    match b {
+        Block::Header => if l.titled { Span(9, 12) } else { Span(10, 12) },
+        Block::Section2 => Span(0, 0),
+        Block::Section3 => Span(8, 12),
+        Block::Section4 => if l.bare { Span(16, 18) } else { Span(12, 14) },
+        Block::ItemTerm => if l.bare { Span(16, 18) } else { Span(12, 14) },
+        Block::ItemBody => Span(16, 18),
+        Block::DefinitionList => Span(0, 0),
+        Block::Block => Span(14, 15),
+        Block::InlineBlock => Span(0, 0),
+        Block::TermRef => Span(0, 0),
+        Block::Meta => Span(0, 0),
+        Block::Mono => Span(0, 0),
     }
 }
 
@@ -212,13 +155,9 @@ fn put_start(room: &mut [u8], len: usize, tags: &[u8], l: Markdown, b: Block) ->
     requires { ⌜ now tags ≡ allTags ⌝ }
     ensures { λ r. ⌜ seen (now (room .exit)) r ≡ bind (seen (now (room .entry)) len) (startRule (length (now (room .entry))) l b) ⌝ }
 {
-    let m = start_marks(b, l);
-    let lead = m.lead;
-    let line = m.line;
-    let text = m.text;
-    let n = html_parts::put_span(room, len, tags, lead);
-    let k = html_parts::separate_span(room, n, tags, line);
-    html_parts::put_span(room, k, tags, text)
+    let n = html_parts::put_span(room, len, tags, lead_span(b, l));
+    let k = html_parts::separate_span(room, n, tags, line_span(b));
+    html_parts::put_span(room, k, tags, text_span(b, l))
 }
 
 // Whether a record is the end of a term.
