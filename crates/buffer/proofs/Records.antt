@@ -3,7 +3,6 @@ use Prim.Native.Nat.{ℕ, zero, suc, _+_, _-_, _/_, _≤_, _<_}
 use mathlib.Core.Path.{_≡_, refl, sym, ap, ap₂, _∙_}
 use mathlib.Core.Bool.{Bool, true, false}
 use mathlib.Core.List.{List, [], _∷_, _++_, append-nil}
-use lib.Dec.{leb}
 use lib.ListN.{take-append-drop, length, take, drop, length-append, length-drop}
 use lib.Seq.{length-take-le, take-take, take-append-le, drop-at, drop-append-le, take-append-seam}
 use native.Mathlib.Nat.{add-zero, div-add-mod', mod-lt}

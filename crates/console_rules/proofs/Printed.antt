@@ -16,7 +16,7 @@ use Rattle.utf8.specs.Utf8.{rowOf, table}
 use Rattle.utf8.specs.White.{whites, white, printing, blank, trim}
 use Rattle.utf8.proofs.Text.{Valid, valid-both}
 use Rattle.utf8.proofs.White.{printing-append, blank-valid, blank-printing, blank-join, empty-blank, trim-same, trim-shorter}
-use Rattle.document.specs.Document.{Token, tokens, short, check, adds, order, printingOrder}
+use Rattle.document.specs.Document.{Token, tokens, short, adds, order, printingOrder}
 use Rattle.document.specs.declared.Block.{Block}
 use Rattle.document.specs.declared.Block.the-variants as block
 use Rattle.document.specs.declared.Kind.{Kind}

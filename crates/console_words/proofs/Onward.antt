@@ -15,7 +15,7 @@ use Rattle.base.proofs.Choice.{if-false, le-or-lt}
 use Rattle.splitter.specs.Split.{raw}
 use Rattle.splitter.specs.declared.Code.{Code}
 use Rattle.splitter.specs.declared.Code.the-variants as code
-use Rattle.walk.specs.Walk.{page, write, withLay, empty}
+use Rattle.walk.specs.Walk.{page, withLay, empty}
 use Rattle.console_rules.specs.Console.{State, column, settled, reach, place, put, rawChunk, chunk}
 use Rattle.console_rules.specs.declared.Settings.{Settings}
 use Rattle.console_rules.specs.declared.Lay.{Lay}

@@ -18,7 +18,7 @@ use Rattle.manpage.specs.declared.roff.Font.the-variants as font
 use Rattle.manpage.specs.Escape.{unescapedAtNewline, special, specialNoNewline, unescaped, escape, lineStart, atNewline}
 use Rattle.document.specs.declared.Style.{Style}
 use Rattle.document.specs.declared.Style.the-variants as style
-use Rattle.manpage.specs.Roff.{State, Flags, fresh, strip, subsection, newLine, put, push, control0, plaintext, fontEscape, text}
+use Rattle.manpage.specs.Roff.{State, Flags, fresh, subsection, newLine, put, push, control0, plaintext, fontEscape, text}
 
 -- one rule after another, where a room keeps its length
 pub steps : (f g : ℕ → State → Result State) (n m : ℕ) (s₀ s₁ s₂ : Result State) → m ≡ n → s₁ ≡ (s₀ >>= f n) → s₂ ≡ (s₁ >>= g m)

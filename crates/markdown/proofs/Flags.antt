@@ -24,7 +24,7 @@ use Rattle.splitter.specs.declared.Piece.the-variants.{Raw, Space}
 use Rattle.walk.specs.Walk.{isEnd, skipStart, skipEnd}
 use Rattle.skip.specs.Answers.{held}
 use Rattle.skip.proofs.Counter.{held-fits, skip-start-most, skip-end-most}
-use Rattle.html_rules.specs.Markdown.{skip, mono, bare, termEnds, metTerm, startLay, endLay}
+use Rattle.html_rules.specs.Markdown.{skip, bare, termEnds, metTerm, startLay, endLay}
 use Rattle.html_rules.specs.declared.Markdown.{Markdown}
 use Rattle.markdown.specs.Parts.{fenceAfter}
 

@@ -11,7 +11,6 @@ use Rattle.base.specs.Bytes.{part}
 use Rattle.base.specs.Result.{gives, _>>=_}
 use Rattle.base.proofs.Choice.{if-false}
 use Rattle.utf8.specs.Utf8.{bytes}
-use Rattle.splitter.specs.Split.{raw}
 use Rattle.splitter.specs.declared.Code.{Code}
 use Rattle.splitter.specs.declared.Code.the-variants as code
 use Rattle.walk.specs.Walk.{page, write}

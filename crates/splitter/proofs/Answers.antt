@@ -16,7 +16,7 @@ use Rattle.base.proofs.Choice.{pick}
 use Rattle.base.proofs.Prefix.{starts-fits}
 use Rattle.base.proofs.Parts.{part-over}
 use Rattle.splitter.specs.Split.{raw, line, word, ticks, four, isLineEnd, isLineEndOrSpace, Step, afterLineEnd, ticked, step, stripped}
-use Rattle.splitter.specs.Answers.{First, first, firstChunk, told, chunkOf, cursor, chunksFrom, textOf, PieceWithin, Within}
+use Rattle.splitter.specs.Answers.{first, firstChunk, told, chunkOf, cursor, chunksFrom, textOf, PieceWithin, Within}
 use Rattle.splitter.specs.Parts.{Gives, wordFrom}
 use Rattle.splitter.specs.declared.Code.{Code}
 use Rattle.splitter.specs.declared.Code.the-variants as code

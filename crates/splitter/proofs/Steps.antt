@@ -15,7 +15,7 @@ use Rattle.base.proofs.Choice.{pick, and-left, and-fails, le-or-lt}
 use Rattle.base.proofs.Prefix.{starts-length}
 use Rattle.base.proofs.Parts.{drop-less}
 use Rattle.splitter.specs.Split.{Chunk, before, line, word, ticks, four, isLineEnd, isLineEndOrSpace, Step, afterLineEnd, ticked, step, chunks, split}
-use Rattle.splitter.specs.Answers.{First, first, none, firstChunk, told, chunkOf, cursor, start, chunksFrom}
+use Rattle.splitter.specs.Answers.{first, none, firstChunk, told, chunkOf, cursor, start, chunksFrom}
 use Rattle.splitter.specs.declared.Code.{Code}
 use Rattle.splitter.specs.declared.Code.the-variants as code
 use Rattle.splitter.specs.declared.Cursor.{Cursor}

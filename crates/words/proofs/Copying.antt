@@ -9,7 +9,7 @@ use native.Mathlib.Nat.{add-zero}
 use native.Mathlib.Numerals.{add-one}
 use native.Mathlib.Omega.{arith}
 use Rattle.room.proofs.Laws.{copied-more}
-use Rattle.splitter.specs.Split.{word, isLineEndOrSpace, raw}
+use Rattle.splitter.specs.Split.{isLineEndOrSpace, raw}
 use Rattle.splitter.specs.Parts.{wordFrom}
 use Rattle.splitter.specs.Answers.{chunksFrom, cursor}
 use Rattle.splitter.specs.declared.Code.the-variants as code

@@ -4,7 +4,6 @@ use native.Mathlib.Omega.{arith}
 use borrow.Author.Needs.{needs}
 use borrow.Author.Tests.{eq-eqb, ne-eqb}
 use denote.Ref.{now}
-use lib.Dec.{eqb}
 use lib.ListN.{length, drop}
 use Rattle.base.proofs.starts_with.Statement.{statement}
 use Rattle.base.proofs.starts_with.Tie as tie

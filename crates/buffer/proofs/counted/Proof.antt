@@ -1,5 +1,4 @@
 use mathlib.Core.Path.{sym, ap}
-use Prim.Native.Nat.{_-_}
 use native.Mathlib.Omega.{arith}
 use borrow.Author.Needs.{needs}
 use Rattle.buffer.proofs.counted.Statement.{statement}

@@ -1,4 +1,3 @@
-use Prim.Native.Nat.{_-_}
 use borrow.Author.Needs.{needs}
 use Rattle.buffer.proofs.is_text.Statement.{statement}
 use Rattle.buffer.proofs.is_text.Tie as tie

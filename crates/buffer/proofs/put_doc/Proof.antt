@@ -1,6 +1,6 @@
 use mathlib.Core.Path.{_≡_, sym, _∙_, subst}
 use mathlib.Core.List.{[], _++_}
-use Prim.Native.Nat.{ℕ, _+_, _-_}
+use Prim.Native.Nat.{ℕ, _+_}
 use native.Mathlib.Omega.{arith}
 use borrow.Author.Needs.{needs}
 use borrow.Author.Tests.{not-true, not-false}

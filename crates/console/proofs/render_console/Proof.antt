@@ -1,8 +1,7 @@
 use mathlib.Core.Path.{ap, _∙_}
-use Prim.Native.Nat.{_-_}
 use borrow.Author.Needs.{needs}
 use denote.Ref.{now}
-use lib.ListN.{length, set}
+use lib.ListN.{length}
 use Rattle.console.proofs.render_console.Statement.{statement}
 use Rattle.console.proofs.render_console.Tie as tie
 use Rattle.base.specs.Result.{measured}

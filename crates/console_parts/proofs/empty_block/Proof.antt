@@ -1,5 +1,4 @@
 use mathlib.Core.Path.{sym, _∙_}
-use Prim.Native.Nat.{_-_}
 use borrow.Author.Needs.{needs}
 use Rattle.console_parts.proofs.empty_block.Statement.{statement}
 use Rattle.console_parts.proofs.empty_block.Tie as tie

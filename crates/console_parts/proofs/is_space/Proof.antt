@@ -1,4 +1,3 @@
-use Prim.Native.Nat.{_-_}
 use borrow.Author.Needs.{needs}
 use Rattle.console_parts.proofs.is_space.Statement.{statement}
 use Rattle.console_parts.proofs.is_space.Tie as tie

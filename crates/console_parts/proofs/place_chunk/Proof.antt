@@ -1,10 +1,9 @@
 use mathlib.Core.Path.{sym, ap, _∙_}
-use Prim.Native.Nat.{_+_, _-_}
+use Prim.Native.Nat.{_+_}
 use native.Mathlib.Omega.{arith}
 use borrow.Author.Needs.{needs}
 use denote.Ref.{now}
 use lib.Dec.{ltb}
-use lib.ListN.{set}
 use Rattle.console_parts.proofs.place_chunk.Statement.{statement}
 use Rattle.console_parts.proofs.place_chunk.Tie as tie
 use Rattle.console_parts.proofs.Chunks.{raw-first, raw-next, rest-put, rest-dropped, rest-folded, near-then, near-on}

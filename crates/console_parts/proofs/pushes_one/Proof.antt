@@ -1,4 +1,3 @@
-use Prim.Native.Nat.{_-_}
 use Rattle.console_parts.proofs.pushes_one.Statement.{statement}
 use Rattle.console_parts.proofs.pushes_one.Tie as tie
 use Rattle.console_parts.proofs.Blocks.{pushes-low, pushes-high}

@@ -1,8 +1,7 @@
-use Prim.Native.Nat.{_-_}
 use native.Mathlib.Omega.{arith}
 use borrow.Author.Needs.{needs}
 use denote.Ref.{now}
-use lib.ListN.{length, set}
+use lib.ListN.{length}
 use Rattle.console_parts.proofs.put_paragraph.Statement.{statement}
 use Rattle.console_parts.proofs.put_paragraph.Tie as tie
 use Rattle.console_parts.proofs.Bodies.{paragraph-full, paragraph-short, skipped}

@@ -1,6 +1,6 @@
 use mathlib.Core.Path.{ap}
 use mathlib.Core.List.{[], _∷_}
-use Prim.Native.Nat.{_+_, _-_}
+use Prim.Native.Nat.{_+_}
 use native.Mathlib.Omega.{arith}
 use borrow.Author.Needs.{needs}
 use denote.Ref.{now}

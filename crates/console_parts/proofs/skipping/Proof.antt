@@ -1,5 +1,4 @@
 use mathlib.Core.Path.{refl}
-use Prim.Native.Nat.{_-_}
 use borrow.Author.Needs.{needs}
 use Rattle.console_parts.proofs.skipping.Statement.{statement}
 use Rattle.console_parts.proofs.skipping.Tie as tie

@@ -1,4 +1,3 @@
-use Prim.Native.Nat.{_-_}
 use borrow.Author.Needs.{needs}
 use Rattle.html.proofs.closing_span.Statement.{statement}
 use Rattle.html.proofs.closing_span.Tie as tie

@@ -1,5 +1,5 @@
 use mathlib.Core.Path.{subst}
-use Prim.Native.Nat.{ℕ, _-_}
+use Prim.Native.Nat.{ℕ}
 use borrow.Author.Needs.{needs}
 use Rattle.html.proofs.meet_meta.Statement.{statement}
 use Rattle.html.proofs.meet_meta.Tie as tie

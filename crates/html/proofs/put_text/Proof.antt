@@ -1,6 +1,5 @@
 use mathlib.Core.Path.{sym, ap}
 use mathlib.Core.Bool.{Bool}
-use Prim.Native.Nat.{_-_}
 use borrow.Author.Needs.{needs}
 use denote.Ref.{now}
 use Rattle.html.proofs.put_text.Statement.{statement}

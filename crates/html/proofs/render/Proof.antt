@@ -1,4 +1,3 @@
-use Prim.Native.Nat.{_-_}
 use borrow.Author.Needs.{needs}
 use Rattle.html.proofs.render.Statement.{statement}
 use Rattle.html.proofs.render.Tie as tie

@@ -1,6 +1,5 @@
 use mathlib.Core.Path.{refl, sym}
 use mathlib.Core.List.{[]}
-use Prim.Native.Nat.{_-_}
 use borrow.Author.Needs.{needs}
 use Rattle.html.proofs.rendered.Statement.{statement}
 use Rattle.html.proofs.rendered.Tie as tie

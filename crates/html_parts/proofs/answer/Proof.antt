@@ -1,4 +1,3 @@
-use Prim.Native.Nat.{_-_}
 use denote.Ref.{now}
 use Rattle.html_parts.proofs.answer.Statement.{statement}
 use Rattle.html_parts.proofs.answer.Tie as tie

@@ -1,4 +1,3 @@
-use Prim.Native.Nat.{_-_}
 use denote.Ref.{now}
 use Rattle.html_parts.proofs.no_form.Statement.{statement}
 use Rattle.html_parts.proofs.no_form.Tie as tie

@@ -1,5 +1,4 @@
 use mathlib.Core.List.{[]}
-use Prim.Native.Nat.{_-_}
 use borrow.Author.Needs.{needs}
 use Rattle.html_parts.proofs.put_entity.Statement.{statement}
 use Rattle.html_parts.proofs.put_entity.Tie as tie

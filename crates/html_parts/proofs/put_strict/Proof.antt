@@ -1,5 +1,4 @@
 use mathlib.Core.Path.{sym, _∙_}
-use Prim.Native.Nat.{_-_}
 use borrow.Author.Needs.{needs}
 use Rattle.html_parts.proofs.put_strict.Statement.{statement}
 use Rattle.html_parts.proofs.put_strict.Tie as tie

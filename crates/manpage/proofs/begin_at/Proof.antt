@@ -1,4 +1,3 @@
-use Prim.Native.Nat.{_-_}
 use Rattle.manpage.proofs.begin_at.Statement.{statement}
 use Rattle.manpage.proofs.begin_at.Tie as tie
 use Rattle.manpage.proofs.Capturing.{begins-before, begins-here}

@@ -1,6 +1,5 @@
 use mathlib.Core.Path.{sym, ap}
 use mathlib.Core.Bool.{_&&_}
-use Prim.Native.Nat.{_-_}
 use borrow.Author.Needs.{needs}
 use lib.Dec.{ltb}
 use Rattle.manpage.proofs.holds_text.Statement.{statement}

@@ -1,5 +1,4 @@
 use mathlib.Core.Path.{sym, _∙_}
-use Prim.Native.Nat.{_-_}
 use borrow.Author.Needs.{needs}
 use Rattle.manpage.proofs.opens_capture.Statement.{statement}
 use Rattle.manpage.proofs.opens_capture.Tie as tie

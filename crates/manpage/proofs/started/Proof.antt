@@ -1,6 +1,5 @@
 use mathlib.Core.Path.{sym, ap, _∙_}
 use mathlib.Core.Bool.{true}
-use Prim.Native.Nat.{_-_}
 use borrow.Author.Needs.{needs}
 use denote.Ref.{now}
 use lib.ListN.{length}
@@ -13,7 +12,7 @@ use Rattle.base.proofs.Results.{bind-end}
 use Rattle.document.specs.declared.Block.{Block}
 use Rattle.document.specs.declared.Kind.the-variants as kind
 use Rattle.utf8.specs.Utf8.{encode, bytes}
-use Rattle.manpage.specs.Roff.{started, control0}
+use Rattle.manpage.specs.Roff.{started}
 use Rattle.manpage.specs.Parts.{marked, isHeading, isTermRef}
 use Rattle.manpage.proofs.Blocks.{stripped, started-as, started-heading}
 

@@ -1,5 +1,5 @@
 use mathlib.Core.Path.{ap}
-use Prim.Native.Nat.{ℕ, _-_}
+use Prim.Native.Nat.{ℕ}
 use borrow.Author.Needs.{needs}
 use Rattle.markdown.proofs.after_end.Statement.{statement}
 use Rattle.markdown.proofs.after_end.Tie as tie

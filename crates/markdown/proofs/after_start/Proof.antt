@@ -1,4 +1,3 @@
-use Prim.Native.Nat.{_-_}
 use borrow.Author.Needs.{needs}
 use Rattle.markdown.proofs.after_start.Statement.{statement}
 use Rattle.markdown.proofs.after_start.Tie as tie

@@ -1,4 +1,3 @@
-use Prim.Native.Nat.{_-_}
 use borrow.Author.Needs.{needs}
 use Rattle.markdown.proofs.change_to_markdown_style.Statement.{statement}
 use Rattle.markdown.proofs.change_to_markdown_style.Tie as tie

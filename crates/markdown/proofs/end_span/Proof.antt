@@ -1,4 +1,3 @@
-use Prim.Native.Nat.{_-_}
 use borrow.Author.Needs.{needs}
 use Rattle.markdown.proofs.end_span.Statement.{statement}
 use Rattle.markdown.proofs.end_span.Tie as tie

@@ -1,4 +1,3 @@
-use Prim.Native.Nat.{_-_}
 use borrow.Author.Needs.{needs}
 use Rattle.markdown.proofs.is_term_end.Statement.{statement}
 use Rattle.markdown.proofs.is_term_end.Tie as tie

@@ -1,6 +1,5 @@
 use mathlib.Core.Path.{refl}
 use mathlib.Core.List.{[]}
-use Prim.Native.Nat.{_-_}
 use borrow.Author.Needs.{needs}
 use Rattle.markdown.proofs.rendered.Statement.{statement}
 use Rattle.markdown.proofs.rendered.Tie as tie

@@ -1,4 +1,3 @@
-use Prim.Native.Nat.{_-_}
 use borrow.Author.Needs.{needs}
 use Rattle.sefgrunn.proofs.sefgrunn_check.Statement.{statement}
 use Rattle.sefgrunn.proofs.sefgrunn_check.Tie as tie

@@ -1,5 +1,4 @@
 use mathlib.Core.Path.{sym, _∙_}
-use Prim.Native.Nat.{_-_}
 use borrow.Author.Needs.{needs}
 use denote.Ref.{now}
 use Rattle.splitter.proofs.after_line_end.Statement.{statement}

@@ -3,7 +3,6 @@ use Prim.Native.Nat.{_+_, _-_, _≤_}
 use native.Mathlib.Omega.{arith}
 use borrow.Author.Needs.{needs}
 use borrow.Author.Tests.{not-true, not-false}
-use denote.Ref.{now}
 use lib.ListN.{length, drop}
 use Rattle.utf8.proofs.count_printing.Statement.{statement}
 use Rattle.utf8.proofs.count_printing.Tie as tie

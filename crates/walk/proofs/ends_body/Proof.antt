@@ -1,5 +1,4 @@
 use mathlib.Core.Path.{sym, ap}
-use Prim.Native.Nat.{_-_}
 use borrow.Author.Needs.{needs}
 use Rattle.walk.proofs.ends_body.Statement.{statement}
 use Rattle.walk.proofs.ends_body.Tie as tie

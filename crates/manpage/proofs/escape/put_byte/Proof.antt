@@ -1,5 +1,4 @@
 use mathlib.Core.Path.{ap}
-use Prim.Native.Nat.{_-_}
 use borrow.Author.Needs.{needs}
 use Rattle.manpage.proofs.escape.put_byte.Statement.{statement}
 use Rattle.manpage.proofs.escape.put_byte.Tie as tie

@@ -1,4 +1,3 @@
-use Prim.Native.Nat.{_-_}
 use borrow.Author.Needs.{needs}
 use Rattle.manpage.proofs.escape.put_space.Statement.{statement}
 use Rattle.manpage.proofs.escape.put_space.Tie as tie

@@ -1,5 +1,4 @@
 use mathlib.Core.Path.{sym, ap}
-use Prim.Native.Nat.{_-_}
 use borrow.Author.Needs.{needs}
 use Rattle.manpage.proofs.escape.starts_line.Statement.{statement}
 use Rattle.manpage.proofs.escape.starts_line.Tie as tie

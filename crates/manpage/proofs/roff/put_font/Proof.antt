@@ -1,4 +1,3 @@
-use Prim.Native.Nat.{_-_}
 use borrow.Author.Needs.{needs}
 use Rattle.manpage.proofs.roff.put_font.Statement.{statement}
 use Rattle.manpage.proofs.roff.put_font.Tie as tie
