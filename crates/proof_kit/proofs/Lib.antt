@@ -1,3 +1,4 @@
+pub mod Local
 pub mod Tokens
 pub mod Kit
 pub mod While

@@ -1,29 +1,15 @@
 -- A local that holds a `Skip`, lent by `&mut` to a function whose promise is a rule of the counter's number: one step of a walk.
 -- All that the proof knows of the function is that it meets its contract.
 -- Assumes nothing.
-use Rattle.proof_kit.proofs.Kit.{_≡_, ℕ, List, [], _∷_, URA, fullShare, Name, named, tyUnit, Val, WT, hasTy, vptr, ent, sep, id⊢, GName, Fml, ftrue, fsep, fat, flft, flent, Heap, Env, Calls, Loops, Atoms, sem, fact, Given, Item, ‵, raw, _⊛_, ⋆, some, later, Post, runs, lands, Seq, _$_, _∵_, !, qed, move, drop, use1, use2, use3, split, join, pick, fsplit, fjoin, fpick, fpack, feqL, frame, await, done, Opds, Body, lft-new, lft-end, FmC, Is, shows, lends-ref, ref-back, unit, mem, cellAt, partOf, RefT, MutRef, now, heard, nothing, only, ap, subst, sym, spelt, Triple, calls-at, ensured, lasts}
+use Rattle.proof_kit.proofs.Kit.{_≡_, ℕ, List, [], _∷_, URA, fullShare, Name, named, tyUnit, Val, WT, hasTy, vptr, ent, id⊢, GName, Fml, ftrue, flft, flent, Heap, Env, Calls, Loops, Atoms, fact, Given, Item, ‵, raw, _⊛_, ⋆, some, later, Post, runs, lands, Seq, _$_, _∵_, !, qed, move, drop, use1, use2, use3, split, join, pick, fsplit, fjoin, feqL, frame, await, done, Opds, Body, lft-new, lft-end, FmC, lends-ref, ref-back, unit, mem, RefT, MutRef, now, heard, nothing, only, ap, subst, sym, Triple, calls-at, ensured, lasts}
 use lib.Dec.{T as Holds}
 use mir.Syntax.{Place, Opd as Operand, Body as Code, seq, call}
 use denote.Struct.Laws as LL
 use Rattle.skip.specs.declared.Skip.{Skip}
 use Rattle.skip.proofs.Skip as T
 use Rattle.skip.proofs.Skip.Laws as T′
-use Rattle.skip.proofs.InPlace.{mach, Lent, in-place}
+use Rattle.skip.proofs.InPlace.{Lent, in-place}
 use Rattle.skip.proofs.Skip.push as lent
-
--- what lies in a local: its cell and what the counter owns, and back
-module _ {M : Type 1} (𝓤 : URA M) (H : Heap 𝓤) (A : Atoms 𝓤) (W : Given 𝓤 H A) (h : Skip) (b o : ℕ) where
-  pub lay : ent 𝓤 (sep 𝓤 (H .at fullShare T′.mir b o (mach h)) (sem 𝓤 H A (T.the-row .own h (mach h ∷ [])))) (sem 𝓤 H A (mem T.the-row .lies h b o))
-  unfolding partOf
-  lay =
-      qed W (‵ (fat fullShare T′.mir b o (mach h)) ∷ ‵ (T.the-row .own h (mach h ∷ [])) ∷ []) ∵ use1 W (‵ (cellAt fullShare (T.the-row .mir) (mach h ∷ []) b o)) (W .laws .at-raw fullShare T′.mir b o (mach h)) $
-      fjoin ! $ fpack ! (List Val) (λ vs. fsep (cellAt fullShare (T.the-row .mir) vs b o) (T.the-row .own h vs)) (mach h ∷ []) $ done !
-
-  pub take : ent 𝓤 (sem 𝓤 H A (mem T.the-row .lies h b o)) (sep 𝓤 (H .at fullShare T′.mir b o (mach h)) (sem 𝓤 H A (T.the-row .own h (mach h ∷ []))))
-  unfolding partOf
-  take =
-      qed W (‵ (mem T.the-row .lies h b o) ∷ []) ∵ fpick ! (λ vs. fsplit ! $ spelt ! T.the-row (Is T.the-row) (shows 𝓤 H A T.the-row) (LL.vals T.the-type T′.the-laws) (LL.tells T.the-type T′.the-laws) fullShare h vs b o $
-      use1 W (‵ (fat fullShare T′.mir b o (mach h))) (W .laws .raw-at fullShare T′.mir b o (mach h)) $ done !)
 
 module _ {M : Type 1} (𝓤 : URA M) (H : Heap 𝓤) (A : Atoms 𝓤) (W : Given 𝓤 H A) (rule : ℕ → ℕ) (h : Skip) (l ν : ℕ) (γ : GName) where
   -- the loan of the local at l, under the name γ, for the lifetime ν

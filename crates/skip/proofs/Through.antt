@@ -11,7 +11,8 @@ use Rattle.skip.specs.declared.Skip.{Skip}
 use Rattle.skip.proofs.Skip as T
 use Rattle.skip.proofs.Skip.Laws as T′
 use Rattle.skip.proofs.InPlace.{mach, is-of, fits-of, Lent}
-use Rattle.skip.proofs.Lent.{lay, take, lends}
+use Rattle.proof_kit.proofs.Local.{lay, take}
+use Rattle.skip.proofs.Lent.{lends}
 use Rattle.skip.proofs.push_number as outer
 
 abbrev pub function : Name → Fn
@@ -53,10 +54,10 @@ module _ {M : Type 1} (𝓤 : URA M) (H : Heap 𝓤) (A : Atoms 𝓤) (rule : �
           -- [_4; …; _3; …; _2; …; _1; …; room for _0; …; what n owns]
           assigns ! (agg ! (and-then ! (load ! (from ! (stop !)) (look ! 6 refl)) (no-more !))) (from ! (stop !)) (init ! 4 refl (LL.lawful T.the-type T′.the-laws 𝓤 H A W .typed h _ (is-of h fits) .0)) $
           assigns ! (addr ! (from ! (stop !))) (from ! (stop !)) (init ! 0 refl (tt, tt)) $
-          move ! (4 ∷ []) $ owned ! T.the-row (Is T.the-row) (LL.makes T.the-type T′.the-plain 𝓤 H A) h _ (is-of h fits) $ move ! (1 ∷ 0 ∷ []) $ use2 W (‵ (mem T.the-row .lies h l₂ 0)) (lay 𝓤 H A W h l₂ 0) $
+          move ! (4 ∷ []) $ owned ! T.the-row (Is T.the-row) (LL.makes T.the-type T′.the-plain 𝓤 H A) h _ (is-of h fits) $ move ! (1 ∷ 0 ∷ []) $ use2 W (‵ (mem T.the-row .lies h l₂ 0)) (lay 𝓤 H A W T.the-type T′.the-laws h l₂ 0) $
           -- [what lies in _2; _4; …; _3; …; _2's end; _1; …; room for _0; …]
           lends ! fm f rule known h l₂ (λ ν γ. and-then ! (load ! (from ! (stop !)) (look ! 2 refl)) (no-more !)) (λ w z e u. land ! (from ! (stop !)) (init ! 3 refl u) $
-          use1 W (‵ (fat fullShare T′.mir l₂ 0 (mach z)) ⊛ ‵ (T.the-row .own z (mach z ∷ []))) (take 𝓤 H A W z l₂ 0) $ split ! $
+          use1 W (‵ (fat fullShare T′.mir l₂ 0 (mach z)) ⊛ ‵ (T.the-row .own z (mach z ∷ []))) (take 𝓤 H A W T.the-type T′.the-laws z l₂ 0) $ split ! $
           move ! (1 ∷ []) $ peeks ! T.the-row (Is T.the-row) (shows 𝓤 H A T.the-row) z (mach z ∷ []) (λ is. drop ! $
           -- [_2; _4; …; _3; …; _2's end; _1; …; room for _0; …]
           assigns ! (of-opd ! (load ! (from ! (fld ! refl (stop !))) (look-in ! 0 (sub ! 0 refl (whole !))))) (from ! (stop !)) (init ! 8 refl (tt, record { fits = fits-of z _ is })) $

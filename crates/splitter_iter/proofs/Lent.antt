@@ -1,7 +1,7 @@
 -- A local that holds a `Splitter`, lent by `&mut` to `next`: one step of a walk.
 -- All that the proof knows of `next` is that it meets its contract.
 -- Assumes nothing.
-use Rattle.proof_kit.proofs.Kit.{_≡_, ℕ, List, [], _∷_, URA, PosShare·left, PosShare·right, fullShare, Val, vptr, SProp, ent, sep, id⊢, GName, Lft, Share, Fml, ftrue, fsep, fat, flft, fdead, flent, Memory, Routine, Heap, Env, Calls, Loops, Atoms, sem, meet-⊑-right, Fun, fact, Given, Item, ‵, raw, _⊛_, ⋆, some, later, Post, runs, lands, Seq, _$_, _∵_, !, qed, move, drop, use1, use2, use3, split, join, pick, fsplit, fjoin, fpick, fpack, frame, await, done, Opds, Body, lft-new, FmC, RattleType, Is, shows, lends-ref, ref-back, mem, cellAt, partOf, RefT, MutRef, NamedLft, now, peeks, heard, nothing, spelt, Contract, Triple, calls-at, ensured, lasts, tripleOf}
+use Rattle.proof_kit.proofs.Kit.{_≡_, ℕ, List, [], _∷_, URA, PosShare·left, PosShare·right, Val, vptr, SProp, ent, id⊢, GName, Lft, Share, Fml, ftrue, flft, fdead, flent, Memory, Routine, Heap, Env, Calls, Loops, Atoms, meet-⊑-right, Fun, fact, Given, Item, ‵, raw, _⊛_, ⋆, some, later, Post, runs, lands, Seq, _$_, _∵_, !, qed, move, drop, use1, use2, use3, split, join, pick, fsplit, fjoin, frame, await, done, Opds, Body, lft-new, FmC, RattleType, Is, shows, lends-ref, ref-back, mem, RefT, MutRef, NamedLft, now, peeks, heard, nothing, Contract, Triple, calls-at, ensured, lasts, tripleOf}
 use mir.Syntax.{named, erased, Place, Opd as Operand, Body as Code, seq, call}
 use denote.Struct.Laws as LL
 use lib.ListN.{drop as drop-bytes}
@@ -22,20 +22,6 @@ abbrev pub α : Lft → NamedLft
 
 abbrev pub R : Lft → RattleType
 R κ = P.R (α κ)
-
--- what lies in a local: its cell and what the struct owns, and back
-module _ {M : Type 1} (𝓤 : URA M) (H : Heap 𝓤) (A : Atoms 𝓤) (W : Given 𝓤 H A) (κ : Lft) (h : Splitter) (b o : ℕ) where
-  pub lay : ent 𝓤 (sep 𝓤 (H .at fullShare (T′.mir erased) b o (P.val (α κ) h)) (sem 𝓤 H A (R κ .own h (P.val (α κ) h ∷ [])))) (sem 𝓤 H A (mem (R κ) .lies h b o))
-  unfolding partOf
-  lay =
-      qed W (‵ (fat fullShare (T′.mir erased) b o (P.val (α κ) h)) ∷ ‵ (R κ .own h (P.val (α κ) h ∷ [])) ∷ []) ∵ use1 W (‵ (cellAt fullShare (R κ .mir) (P.val (α κ) h ∷ []) b o)) (W .laws .at-raw fullShare (T′.mir erased) b o (P.val (α κ) h)) $
-      fjoin ! $ fpack ! (List Val) (λ vs. fsep (cellAt fullShare (R κ .mir) vs b o) (R κ .own h vs)) (P.val (α κ) h ∷ []) $ done !
-
-  pub take : ent 𝓤 (sem 𝓤 H A (mem (R κ) .lies h b o)) (sep 𝓤 (H .at fullShare (T′.mir erased) b o (P.val (α κ) h)) (sem 𝓤 H A (R κ .own h (P.val (α κ) h ∷ []))))
-  unfolding partOf
-  take =
-      qed W (‵ (mem (R κ) .lies h b o) ∷ []) ∵ fpick ! (λ vs. fsplit ! $ spelt ! (R κ) (Is (R κ)) (shows 𝓤 H A (R κ)) (LL.vals (P.D (α κ)) (P.L (α κ))) (LL.tells (P.D (α κ)) (P.L (α κ))) fullShare h vs b o $
-      use1 W (‵ (fat fullShare (T′.mir erased) b o (P.val (α κ) h))) (W .laws .raw-at fullShare (T′.mir erased) b o (P.val (α κ) h)) $ done !)
 
 -- the contract that the proof cites
 abbrev pub Next : {M : Type 1} (𝓤 : URA M) (H : Heap 𝓤) (A : Atoms 𝓤) (mem : Memory → SProp 𝓤) (run : Routine → Fun 𝓤) → Contract 𝓤

@@ -23,7 +23,8 @@ use Rattle.splitter_iter.specs.declared.Splitter.{Splitter}
 use Rattle.splitter_iter.proofs.Splitter as T
 use Rattle.splitter_iter.proofs.Splitter.Laws as T′
 use Rattle.splitter_iter.proofs.Parts as P
-use Rattle.splitter_iter.proofs.Lent.{Next, Said, lay, take, lends-next}
+use Rattle.proof_kit.proofs.Local.{lay, take}
+use Rattle.splitter_iter.proofs.Lent.{Next, Said, lends-next}
 use Rattle.splitter_iter.proofs.Lent as lent
 use Rattle.splitter_iter.proofs.Left.{split-few, one-less, none-left}
 use Rattle.splitter_iter.proofs.split as split′
@@ -178,7 +179,7 @@ module _ {M : Type 1} (𝓤 : URA M) (H : Heap 𝓤) (A : Atoms 𝓤) (W : Given
         rewrite ! 0 (λ (us : List Val). ‵ (B (κ, tt) .own h₀ us)) (LL.tells (P.D αᵉ) (P.L αᵉ) h₀ _ is) refl $ rewrite ! 9 (λ (z : Val). ‵ (fat fullShare (T′.mir erased) l₄ 0 z)) (ap only (LL.tells (P.D αᵉ) (P.L αᵉ) h₀ _ is)) refl $
         assigns ! (of-opd ! (load ! (from ! (stop !)) (look ! 9 refl))) (from ! (stop !)) (init ! 13 refl (P.typed αᵉ 𝓤 H A W h₀ (LL.owes (P.D αᵉ) (P.L αᵉ) h₀ (LL.owed (P.D αᵉ) (P.L αᵉ) h₀ _ is)))) $
         assigns ! (of-opd ! (lit ! tt)) (from ! (stop !)) (init ! 11 refl (tt, record { fits = lit< tt })) $ forget ! 9 refl $ rewrite ! 11 (λ (k : ℕ). ‵ (fat fullShare (tyInt w64) l₃ 0 (vint w64 k))) {x = 0} {y = 0} refl refl $
-        move ! (13 ∷ 0 ∷ []) $ use2 W (‵ (at-rest (lent.R κ) .lies h₀ l₂ 0)) (lay 𝓤 H A W κ h₀ l₂ 0) $ move ! (1 ∷ []) $ split ! $
+        move ! (13 ∷ 0 ∷ []) $ use2 W (‵ (at-rest (lent.R κ) .lies h₀ l₂ 0)) (lay 𝓤 H A W (P.D αᵉ) (P.L αᵉ) h₀ l₂ 0) $ move ! (1 ∷ []) $ split ! $
         -- [the token; true; what lies in _2; what s owns; _7; …; _6; …; _5; …; _4; …; _3; …; _2's end; _1; …; room for _0; …]
         keep ! (2 ∷ 0 ∷ 12 ∷ 4 ∷ 6 ∷ 8 ∷ 5 ∷ 7 ∷ 9 ∷ 10 ∷ 11 ∷ 13 ∷ 14 ∷ 15 ∷ 16 ∷ 17 ∷ 18 ∷ 3 ∷ []) $
         whiles ! 𝓣 ≺ ends (I l₀ l₁ l₂ l₃ l₄ l₅ l₆ l₇) (λ t Q rounds leaves.
@@ -200,7 +201,7 @@ module _ {M : Type 1} (𝓤 : URA M) (H : Heap 𝓤) (A : Atoms 𝓤) (W : Given
         forget ! 3 refl $ forget ! 4 refl $ forget ! 5 refl $ rounds t′ (fewer t a z said one))
         (λ none. leaves ! _ $
         assigns ! (of-opd ! (load ! (from ! (stop !)) (look ! 2 refl))) (from ! (stop !)) (init ! 15 refl (tt, record { fits = count-fits _ _ (t .sum) })) $
-        use1 W (‵ (fat fullShare (T′.mir erased) l₂ 0 (P.val αᵉ z)) ⊛ ‵ (lent.R κ .own z (P.val αᵉ z ∷ []))) (take 𝓤 H A W κ z l₂ 0) $ split ! $
+        use1 W (‵ (fat fullShare (T′.mir erased) l₂ 0 (P.val αᵉ z)) ⊛ ‵ (lent.R κ .own z (P.val αᵉ z ∷ []))) (take 𝓤 H A W (P.D αᵉ) (P.L αᵉ) z l₂ 0) $ split ! $
         -- [_2; what it owns; the token; _3; _7; _6; _5; their ends; _4; _4's, _3's and _2's ends; _1; …; _0; …; what s owns]
         returns ! (look ! 16 refl) $ forget ! 0 refl $ forget ! 3 refl $ forget ! 4 refl $ forget ! 5 refl $ forget ! 6 refl $ forget ! 14 refl $ forget ! 16 refl $
         move ! (16 ∷ 17 ∷ []) $ free1 ! $ move ! (14 ∷ 15 ∷ []) $ free1 ! $ move ! (0 ∷ 13 ∷ []) $ free1 ! $ move ! (2 ∷ 11 ∷ []) $ free1 ! $ move ! (8 ∷ 9 ∷ []) $ free1 ! $ move ! (4 ∷ 7 ∷ []) $ free1 ! $ move ! (3 ∷ 5 ∷ []) $ free1 ! $ move ! (2 ∷ 3 ∷ []) $ free1 ! $ free0 ! $
