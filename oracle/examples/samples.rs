@@ -88,6 +88,23 @@ const GENERAL: &[Row] = &[
     ("V", "version", "", "", "Prints version information"),
 ];
 
+/// Words that a reader of a text may take for marks of its own: addresses, paths, globs, variables,
+/// expressions, quoting. What each is for is invented.
+const MARKED: &[Row] = &[
+    ("", "upstream", "URL", "http://127.0.0.1:8080/a?b=1&c=2#top", "Where requests go; <URL> may have a user: https://ops@example.net:8443/~ops/_status_/"),
+    ("", "include", "GLOB", "/etc/balancer/*.d/*.conf", "Files to read: conf.d/**/[a-z]*.conf, !conf.d/old_*.conf, {a,b}.conf"),
+    ("", "log-format", "FORMAT", "%h %t \"%r\" %>s", r"Fields of a line: %h, %{Host}i, $status, ${request_time}, \t and \n"),
+    ("", "rewrite", "FROM=TO", "", r"Regular expression and text: ^/(.*)\.php$=/\1, with \d, [^/]+ and a|b"),
+    ("", "windows-root", "DIR", r"C:\balancer\new", r"Directory on Windows, for example C:\Users\*\Temp or \\host\share"),
+    ("", "env-file", "FILE", "~/.config/balancer/env", "Variables, one on each line:\n\n    BALANCER_PORT=8080\n    BALANCER__LOG__LEVEL='info'\n\nA name of two parts has __ between them, as __init__ has around it"),
+    ("", "when", "EXPRESSION", "load > 0.9 && up < 3", "Condition: a < b, a <= b, a<b>c, a & b, not &lt;, 2*3*4, x^2, #1, $1 and `date`"),
+    ("", "header", "NAME:VALUE", "'X-Name: \"a b\"'", "Added to each request, e.g. 'X-A: 1' or \"X-B: 2\"; -H 'A: b' does so too"),
+    ("", "steps", "LIST", "1,2,3", "In this order:\n 1. read\n 2) check\n - start\n + log\n # done\n > end\n=== or ---"),
+    ("", "no-color", "", "", "[env:NO_COLOR: N/A] see [the list](colors) and [1]: or ![logo](x.png)"),
+    ("", "commands", "", "", "Run in turn:\n    stop --all\n    start --best\nthen wait"),
+    ("", "dots", "", "", "Lines that begin with a dot or an apostrophe:\n .SH is none\n 'tis one\n ...and so on"),
+];
+
 /// One option as bpaf writes it: its term, and a body that brackets the help.
 fn option<'d>(draft: &'d mut Draft, row: Row, suffix: &str) -> &'d mut Draft {
     let (short, long, metavar, default, help) = row;
@@ -278,6 +295,49 @@ fn nonascii() -> Draft {
     page
 }
 
+/// A page whose words look like marks: options, a usage line with brackets inside and beside literals, headings with quotation marks
+/// and backslashes.
+fn paths() -> Draft {
+    let mut page = Draft::new();
+    let d = block(&mut page, "Reads *.conf from /etc/balancer.d, then $HOME/.config/balancer; see <https://example.net/a_b_c?x=1&copy=2>.");
+    let d = d.within(Block::Block, |d| {
+        d.emphasis("Usage").text(": ").within(Block::Mono, |d| {
+            d.literal("balancer")
+                .text(" ")
+                .literal("--color[=WHEN]")
+                .text(" [")
+                .literal("--include")
+                .text("=")
+                .metavar("GLOB")
+                .text("]... (")
+                .literal("-a")
+                .text("|")
+                .literal("-b")
+                .text(") x")
+                .literal("-p")
+                .text(" ")
+                .metavar("[FILE]")
+                .text("...")
+        })
+    });
+    let d = group(d, "Options with \"quoted\" words:", MARKED);
+    let d = d.within(Block::Block, |d| {
+        d.within(Block::Section3, |d| d.text("\"Exit\" status, 0-255")).within(
+            Block::DefinitionList,
+            |d| {
+                d.within(Block::ItemTerm, |d| d.literal("0"))
+                    .within(Block::ItemBody, |d| d.text("All is well"))
+                    .within(Block::ItemTerm, |d| d.literal("*"))
+                    .within(Block::ItemBody, |d| {
+                        d.text("Any other number: see ").literal("balancer.log")
+                    })
+            },
+        )
+    });
+    block(d, "* a star\n\n1. a number\n\n# a hash\n\n    code *with* stars\n\n```sh\nbalancer --when 'a<b' # comment\n```\n\nC:\\new is a path, and --a--b---c has dashes.");
+    page
+}
+
 /// Text between starts and ends of the blocks given, the first outermost.
 fn nested(blocks: &[Block], text: &str) -> Draft {
     let mut draft = Draft::new();
@@ -296,6 +356,7 @@ fn samples() -> Vec<(&'static str, Vec<u8>)> {
         ("options-2k.doc", options(2_000).stored()),
         ("options-8k.doc", options(8_000).stored()),
         ("options-30k.doc", options(30_000).stored()),
+        ("paths.doc", paths().stored()),
         ("prose.doc", prose().stored()),
         ("nonascii.doc", nonascii().stored()),
         ("empty.doc", Vec::new()),
