@@ -284,6 +284,26 @@ fn refusals_10_to_13() {
     assert_eq!(refusal(console(100), &text("a"), 0), (13, 0));
 }
 
+/// The first captured text with a byte over 127, not one outside a heading, a later one or one of a heading around it.
+#[test]
+fn refusal_12_is_at_the_first_captured_byte() {
+    let document = records(&[(1, "é"), (0x0100, ""), (1, "a"), (3, "é"), (1, "é"), (0x0200, "")]);
+    assert_eq!(refusal(ROFF, &document, ROOM), (12, 21));
+    // a character without an upper-case form is refused too
+    let document = records(&[(0x0100, ""), (1, "京"), (0x0200, "")]);
+    assert_eq!(refusal(ROFF, &document, ROOM), (12, 6));
+    // the end of an inner heading ends capture, so what follows in the outer one is text
+    let document = records(&[(0x0100, ""), (0x0101, ""), (0x0201, ""), (1, "é"), (0x0200, "")]);
+    assert_eq!(shown(ROFF, &document), PREAMBLE.to_string() + ".SS \"\"\n\\fRé\\fP\n.SH \"\"\n");
+    // 11 and 12 in the order of their records
+    let term_ref = [(0x0109, ""), (0x0209, "")];
+    let heading = [(0x0100, ""), (1, "é"), (0x0200, "")];
+    let document = records(&[&term_ref[..], &heading].concat());
+    assert_eq!(refusal(ROFF, &document, ROOM), (11, 0));
+    let document = records(&[&heading[..], &term_ref].concat());
+    assert_eq!(refusal(ROFF, &document, ROOM), (12, 6));
+}
+
 #[test]
 fn order_within_a_record() {
     // 2 before 3 before 4; 5 before 8; 6 and 7 in their turn
