@@ -1,25 +1,15 @@
-/* Sefgrunn: help text of a stored document (docs/RULES.md says where each rule stands).
+/* Sefgrunn: help text of a stored document. docs/FORMAT.md says what a stored document is and what each renderer writes.
  *
  * Link libsefgrunn.a, which `rt staticlib sefgrunn` writes to target/staticlib.
  *
- * Every function returns 0 where it accepts, else the number of the refusal:
- *
- *    1  document over 32,768 bytes                    place 0
- *    2  under 6 bytes left, or a body cut short       place of the record
- *    3  unknown kind                                  place of the record
- *    4  block record with a body                      place of the record
- *    5  text that is not UTF-8 by itself              place of the record
- *    6  end not of the innermost open block           place of the record
- *    7  start with 32 blocks open                     place of the record
- *    8  document ends with a block open               the document's length
- *    9  width over 10,000                             place 0
- *   10  a chunk misses more than 50 columns to its margin (console)   place of its text record
- *   11  Meta in HTML or Markdown, TermRef in roff     place of the record
- *   12  byte over 127 in a roff heading               place of its text record
- *   13  no room                                       place 0
+ * Every function returns 0 (SEFGRUNN_ACCEPTED) where it accepts, else the number of the refusal, and stores where it was met: enum
+ * sefgrunn_refusal.
  *
  * No pointer may be null, save that of an empty slice. No two of the slices and numbers given may overlap. Nothing outside
- * the given lengths is read or written, whatever the bytes are. */
+ * the given lengths is read or written, whatever the bytes are.
+ *
+ * Nothing is kept between calls: the library has no variables of its own, allocates nothing and calls nothing but memcpy and memset. Any
+ * thread may call any function at any time, as long as no other thread uses what this call writes, or writes what it reads. */
 #ifndef SEFGRUNN_H
 #define SEFGRUNN_H
 
@@ -30,6 +20,60 @@
 #ifdef __cplusplus
 extern "C" {
 #endif
+
+/* The version of this header. */
+#define SEFGRUNN_VERSION "0.1.0"
+#define SEFGRUNN_VERSION_MAJOR 0
+#define SEFGRUNN_VERSION_MINOR 1
+#define SEFGRUNN_VERSION_PATCH 0
+
+/* The limits of a document: its bytes, the blocks that may be open at once, and the columns of console text. */
+#define SEFGRUNN_MOST_BYTES 32768
+#define SEFGRUNN_MOST_OPEN 32
+#define SEFGRUNN_MOST_WIDTH 10000
+
+/* Why a call was refused, and what its place is, in bytes from the document's start. */
+enum sefgrunn_refusal {
+    SEFGRUNN_ACCEPTED = 0,
+    SEFGRUNN_TOO_LONG = 1,           /* document over 32,768 bytes; place 0 */
+    SEFGRUNN_CUT_SHORT = 2,          /* under 6 bytes left, or a body longer than what is left; place of the record */
+    SEFGRUNN_UNKNOWN_KIND = 3,       /* unknown kind; place of the record */
+    SEFGRUNN_BLOCK_WITH_BODY = 4,    /* block record with a body; place of the record */
+    SEFGRUNN_NOT_UTF8 = 5,           /* text that is not UTF-8 by itself; place of the record */
+    SEFGRUNN_WRONG_END = 6,          /* end not of the innermost open block; place of the record */
+    SEFGRUNN_TOO_DEEP = 7,           /* start with 32 blocks open; place of the record */
+    SEFGRUNN_LEFT_OPEN = 8,          /* document ends with a block open; the place is the document's length */
+    SEFGRUNN_TOO_WIDE = 9,           /* width over 10,000 (console); place 0 */
+    SEFGRUNN_BEYOND_MARGIN = 10,     /* a chunk misses more than 50 columns to its margin (console); place of its text record */
+    SEFGRUNN_NO_FORM = 11,           /* Meta in HTML or Markdown, TermRef in roff; place of the record */
+    SEFGRUNN_HEADING_NOT_ASCII = 12, /* byte over 127 in a roff heading; place of its text record */
+    SEFGRUNN_NO_ROOM = 13            /* no room; place 0 */
+};
+
+/* The style of a text record: its kind. */
+enum sefgrunn_style {
+    SEFGRUNN_STYLE_TEXT = 1,
+    SEFGRUNN_STYLE_EMPHASIS = 2,
+    SEFGRUNN_STYLE_LITERAL = 3,
+    SEFGRUNN_STYLE_METAVAR = 4,
+    SEFGRUNN_STYLE_INVALID = 5
+};
+
+/* A block: its start is of kind 0x0100 plus this number, its end of kind 0x0200 plus it. */
+enum sefgrunn_block {
+    SEFGRUNN_BLOCK_HEADER = 0,
+    SEFGRUNN_BLOCK_SECTION2 = 1,
+    SEFGRUNN_BLOCK_SECTION3 = 2,
+    SEFGRUNN_BLOCK_SECTION4 = 3,
+    SEFGRUNN_BLOCK_ITEM_TERM = 4,
+    SEFGRUNN_BLOCK_ITEM_BODY = 5,
+    SEFGRUNN_BLOCK_DEFINITION_LIST = 6,
+    SEFGRUNN_BLOCK_BLOCK = 7,
+    SEFGRUNN_BLOCK_INLINE_BLOCK = 8,
+    SEFGRUNN_BLOCK_TERM_REF = 9,
+    SEFGRUNN_BLOCK_META = 10,
+    SEFGRUNN_BLOCK_MONO = 11
+};
 
 /* Whether a document is accepted: refusals 1 to 8. Reads n bytes at document. Writes *place: the refusal's place, or 0. */
 uint32_t sefgrunn_check(const uint8_t *document, size_t n, size_t *place);
@@ -50,7 +94,13 @@ uint32_t sefgrunn_html_strict(const uint8_t *document, size_t n, bool full, bool
 /* Markdown. As sefgrunn_console; refusals 1 to 8, 11 and 13. */
 uint32_t sefgrunn_markdown(const uint8_t *document, size_t n, bool full, uint8_t *room, size_t room_len, size_t *at);
 
-/* Roff. As sefgrunn_console; refusals 1 to 8 and 11 to 13. */
+/* Roff, for man pages. As sefgrunn_console; refusals 1 to 8 and 11 to 13. The text is a page's body. Write two lines before it:
+ *
+ *     .TH NAME 1
+ *     .nh
+ *
+ * Without .TH, groff shows no headings and other characters for `-` and backticks. Without .nh, it hyphenates words at line ends, options
+ * too: `--certificate` becomes `--cer`, a hyphen that the document does not have, and `tificate` on the next line. */
 uint32_t sefgrunn_roff(const uint8_t *document, size_t n, uint8_t *room, size_t room_len, size_t *at);
 
 /* The builder. A document, whose blocks may be open, stands in the first *length bytes at room. An accepted call writes the new
@@ -59,12 +109,11 @@ uint32_t sefgrunn_roff(const uint8_t *document, size_t n, uint8_t *room, size_t 
  * written text (place 0) or 1 to 8 of an added document (places from its own start), 6 or 7 of the result (place where the record
  * would stand), 13 when the result exceeds the room or 32,768 bytes. */
 
-/* Text in a style: 1 Text, 2 Emphasis, 3 Literal, 4 Metavar, 5 Invalid; any other number is refused as 3 with place 0, first of all.
- * The last record is lengthened if it is text of that style; else a record is added, even for empty text. */
+/* Text in a style, one of enum sefgrunn_style; any other number is refused as 3 with place 0, first of all. The last
+ * record is lengthened if it is text of that style; else a record is added, even for empty text. */
 uint32_t sefgrunn_write(uint8_t *room, size_t room_len, size_t *length, uint32_t style, const uint8_t *text, size_t n, size_t *place);
 
-/* The start, and the end, of a block: 0 Header, 1 Section2, 2 Section3, 3 Section4, 4 ItemTerm, 5 ItemBody, 6 DefinitionList, 7 Block,
- * 8 InlineBlock, 9 TermRef, 10 Meta, 11 Mono; any other number is refused as 3 with place 0, first of all. */
+/* The start, and the end, of a block, one of enum sefgrunn_block; any other number is refused as 3 with place 0, first of all. */
 uint32_t sefgrunn_open(uint8_t *room, size_t room_len, size_t *length, uint32_t block, size_t *place);
 uint32_t sefgrunn_close(uint8_t *room, size_t room_len, size_t *length, uint32_t block, size_t *place);
 

@@ -9,15 +9,14 @@
 #include <stdlib.h>
 #include <string.h>
 
-/* The header's numbers of styles and blocks that this page uses. */
-enum { TEXT = 1, EMPHASIS = 2, LITERAL = 3, METAVAR = 4 };
-enum { HEADER = 0, SECTION2 = 1, ITEM_TERM = 4, ITEM_BODY = 5, DEFINITION_LIST = 6, BLOCK = 7 };
+enum { ROOM = 4096 };
 
-enum { MOST_BYTES = 32768, ROOM = 4096 };
+/* What roff text needs before it: .TH, without which groff shows no headings, and .nh, without which it hyphenates options. */
+static const char MAN_PAGE[] = ".TH BALANCER 1\n.nh\n";
 
 /* A document under construction: its room, and how much of it is used. */
 struct page {
-    uint8_t room[MOST_BYTES];
+    uint8_t room[SEFGRUNN_MOST_BYTES];
     size_t length;
 };
 
@@ -45,7 +44,7 @@ static const char *meaning(uint32_t number)
 /* Ends the program where a call was refused. */
 static void accepted(const char *what, uint32_t number, size_t place)
 {
-    if (number != 0) {
+    if (number != SEFGRUNN_ACCEPTED) {
         fprintf(stderr, "example: %s: refused %u at %lu: %s\n", what, (unsigned)number, (unsigned long)place, meaning(number));
         exit(1);
     }
@@ -91,35 +90,35 @@ static void option(struct page *page, const char *name, const char *metavar, con
     uint32_t number;
 
     body.length = 0;
-    put(&body, TEXT, help);
-    open_block(page, ITEM_TERM);
-    put(page, LITERAL, name);
+    put(&body, SEFGRUNN_STYLE_TEXT, help);
+    open_block(page, SEFGRUNN_BLOCK_ITEM_TERM);
+    put(page, SEFGRUNN_STYLE_LITERAL, name);
     if (metavar[0] != '\0') {
-        put(page, TEXT, "=");
-        put(page, METAVAR, metavar);
+        put(page, SEFGRUNN_STYLE_TEXT, "=");
+        put(page, SEFGRUNN_STYLE_METAVAR, metavar);
     }
-    close_block(page, ITEM_TERM);
-    open_block(page, ITEM_BODY);
+    close_block(page, SEFGRUNN_BLOCK_ITEM_TERM);
+    open_block(page, SEFGRUNN_BLOCK_ITEM_BODY);
     number = sefgrunn_doc(page->room, sizeof page->room, &page->length, body.room, body.length, &place);
     accepted("doc", number, place);
-    close_block(page, ITEM_BODY);
+    close_block(page, SEFGRUNN_BLOCK_ITEM_BODY);
 }
 
 static void build(struct page *page)
 {
     page->length = 0;
-    open_block(page, HEADER);
-    put(page, TEXT, "balancer");
-    close_block(page, HEADER);
-    open_block(page, BLOCK);
-    open_block(page, SECTION2);
-    put(page, EMPHASIS, "Available options:");
-    close_block(page, SECTION2);
-    open_block(page, DEFINITION_LIST);
+    open_block(page, SEFGRUNN_BLOCK_HEADER);
+    put(page, SEFGRUNN_STYLE_TEXT, "balancer");
+    close_block(page, SEFGRUNN_BLOCK_HEADER);
+    open_block(page, SEFGRUNN_BLOCK_BLOCK);
+    open_block(page, SEFGRUNN_BLOCK_SECTION2);
+    put(page, SEFGRUNN_STYLE_EMPHASIS, "Available options:");
+    close_block(page, SEFGRUNN_BLOCK_SECTION2);
+    open_block(page, SEFGRUNN_BLOCK_DEFINITION_LIST);
     option(page, "--port", "PORT", "Port to listen on\n\nGive 0 to take any free port.");
     option(page, "--quiet", "", "Print nothing on start");
-    close_block(page, DEFINITION_LIST);
-    close_block(page, BLOCK);
+    close_block(page, SEFGRUNN_BLOCK_DEFINITION_LIST);
+    close_block(page, SEFGRUNN_BLOCK_BLOCK);
 }
 
 /* What the page must give. */
@@ -180,8 +179,9 @@ static const char ROFF[] =
     "\\fRPrint nothing on start\\fP\n"
     ".PP\n";
 
-/* Prints a text under its name; ends the program where it is not the one expected or where the room behind it is not 0. */
-static void show(const char *what, uint32_t number, const uint8_t *room, size_t length, const char *want)
+/* Prints a text under its name, after what has to stand before it; ends the program where it is not the one expected or where the
+ * room behind it is not 0. */
+static void show(const char *what, const char *before, uint32_t number, const uint8_t *room, size_t length, const char *want)
 {
     size_t i;
 
@@ -197,7 +197,7 @@ static void show(const char *what, uint32_t number, const uint8_t *room, size_t 
             exit(1);
         }
     }
-    printf("== %s\n", what);
+    printf("== %s\n%s", what, before);
     fwrite(room, 1, length, stdout);
     printf("\n");
 }
@@ -209,17 +209,17 @@ static void show_all(const struct page *page)
     uint32_t number;
 
     number = sefgrunn_console(page->room, page->length, 40, true, room, sizeof room, &at);
-    show("console, width 40", number, room, at, CONSOLE_40);
+    show("console, width 40", "", number, room, at, CONSOLE_40);
     number = sefgrunn_console(page->room, page->length, 100, true, room, sizeof room, &at);
-    show("console, width 100", number, room, at, CONSOLE_100);
+    show("console, width 100", "", number, room, at, CONSOLE_100);
     number = sefgrunn_console(page->room, page->length, 100, false, room, sizeof room, &at);
-    show("console, width 100, up to each first paragraph", number, room, at, CONSOLE_SHORT);
+    show("console, width 100, up to each first paragraph", "", number, room, at, CONSOLE_SHORT);
     number = sefgrunn_html(page->room, page->length, true, false, room, sizeof room, &at);
-    show("HTML", number, room, at, HTML);
+    show("HTML", "", number, room, at, HTML);
     number = sefgrunn_markdown(page->room, page->length, true, room, sizeof room, &at);
-    show("Markdown", number, room, at, MARKDOWN);
+    show("Markdown", "", number, room, at, MARKDOWN);
     number = sefgrunn_roff(page->room, page->length, room, sizeof room, &at);
-    show("roff", number, room, at, ROFF);
+    show("roff", MAN_PAGE, number, room, at, ROFF);
 }
 
 int main(void)
@@ -236,13 +236,13 @@ int main(void)
 
     /* No block is open, so none can be closed; the page stays as it is. */
     length = page.length;
-    number = sefgrunn_close(page.room, sizeof page.room, &page.length, BLOCK, &place);
-    refused("a second end of the block", number, place, 6, length);
+    number = sefgrunn_close(page.room, sizeof page.room, &page.length, SEFGRUNN_BLOCK_BLOCK, &place);
+    refused("a second end of the block", number, place, SEFGRUNN_WRONG_END, length);
     if (page.length != length) {
         fprintf(stderr, "example: a refused call changed the length\n");
         return 1;
     }
     number = sefgrunn_console(page.room, page.length, 100, true, small, sizeof small, &place);
-    refused("a room of 8 bytes", number, place, 13, 0);
+    refused("a room of 8 bytes", number, place, SEFGRUNN_NO_ROOM, 0);
     return 0;
 }

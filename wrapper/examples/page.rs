@@ -2,6 +2,10 @@
 
 use sefgrunn::{Block, Builder, Html, Refusal, Settings, Style};
 
+/// What roff text needs before it: `.TH`, without which groff shows no headings, and `.nh`, without
+/// which it hyphenates options.
+const MAN_PAGE: &str = ".TH BALANCER 1\n.nh\n";
+
 /// An option: its term, then its help as a document of its own, so that a shortened page ends at
 /// the help's first paragraph.
 fn option(page: &mut Builder, name: &str, metavar: &str, help: &str) -> Result<(), Refusal> {
@@ -37,7 +41,7 @@ fn main() -> Result<(), Refusal> {
     println!("== console, width 100, up to each first paragraph\n{}", console(100, false)?);
     println!("== HTML\n{}", sefgrunn::html_string(&document, Html::default())?);
     println!("== Markdown\n{}", sefgrunn::markdown_string(&document, true)?);
-    println!("== roff\n{}", sefgrunn::roff_string(&document)?);
+    println!("== roff\n{MAN_PAGE}{}", sefgrunn::roff_string(&document)?);
 
     // no block is open, so none can be closed
     if let Err(refusal) = page.close(Block::Block) {

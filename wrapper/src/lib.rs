@@ -4,7 +4,8 @@
 //! makes one; [`check`] says whether bytes are one; [`console`], [`html`], [`html_strict`],
 //! [`markdown`] and [`roff`] write its text into a room that the caller lends, and the functions
 //! whose names end in `_string` do so into a `String`. Whatever the bytes, the width and the room
-//! are, the answer is a text or one [`Refusal`].
+//! are, the answer is a text or one [`Refusal`]. The library keeps nothing between calls, so any
+//! thread may call it. `docs/FORMAT.md` describes stored documents and what each renderer writes.
 //!
 //! ```
 //! use sefgrunn::{Block, Builder, Settings, Style};
@@ -40,7 +41,7 @@ const FIRST_ROOM: usize = 4_096;
 // ---------------------------------------------------------------------------------------------
 // Refusals
 
-/// Why a call was refused, by the numbers of `include/sefgrunn.h`.
+/// Why a call was refused, by the names and numbers of `include/sefgrunn.h`.
 #[derive(Debug, Clone, Copy, PartialEq, Eq, Hash, PartialOrd, Ord)]
 #[repr(u32)]
 pub enum Number {
@@ -55,7 +56,7 @@ pub enum Number {
     /// A text is not UTF-8 by itself. Place of the record; 0 for text given to [`Builder::write`].
     NotUtf8 = 5,
     /// An end is not of the innermost open block. Place of the record.
-    NotInnermost = 6,
+    WrongEnd = 6,
     /// A block starts where 32 are open. Place of the record.
     TooDeep = 7,
     /// The document ends with a block open. The place is its length.
@@ -63,9 +64,9 @@ pub enum Number {
     /// The width is over 10,000. Place 0.
     TooWide = 9,
     /// A chunk misses more than 50 columns to its margin. Place of its text record.
-    MarginTooFar = 10,
+    BeyondMargin = 10,
     /// Meta in HTML or Markdown, TermRef in roff. Place of the record.
-    NoSuchBlockHere = 11,
+    NoForm = 11,
     /// A roff heading has a byte over 127. Place of its text record.
     HeadingNotAscii = 12,
     /// The room is too small. Place 0.
@@ -80,12 +81,12 @@ impl Number {
         Number::UnknownKind,
         Number::BlockWithBody,
         Number::NotUtf8,
-        Number::NotInnermost,
+        Number::WrongEnd,
         Number::TooDeep,
         Number::LeftOpen,
         Number::TooWide,
-        Number::MarginTooFar,
-        Number::NoSuchBlockHere,
+        Number::BeyondMargin,
+        Number::NoForm,
         Number::HeadingNotAscii,
         Number::NoRoom,
     ];
@@ -102,12 +103,12 @@ impl Number {
             Number::UnknownKind => "unknown kind",
             Number::BlockWithBody => "a block record has a body",
             Number::NotUtf8 => "text is not UTF-8",
-            Number::NotInnermost => "an end is not of the innermost open block",
+            Number::WrongEnd => "an end is not of the innermost open block",
             Number::TooDeep => "more than 32 blocks are open",
             Number::LeftOpen => "the document ends with a block open",
             Number::TooWide => "the width is over 10,000",
-            Number::MarginTooFar => "text is more than 50 columns before its margin",
-            Number::NoSuchBlockHere => "this form has no such block",
+            Number::BeyondMargin => "text is more than 50 columns before its margin",
+            Number::NoForm => "this form has no such block",
             Number::HeadingNotAscii => "a heading has a byte over 127",
             Number::NoRoom => "no room",
         }
@@ -233,6 +234,17 @@ pub fn markdown<'r>(document: &[u8], full: bool, room: &'r mut [u8]) -> Result<&
 }
 
 /// Roff, for man pages. Refusals 1 to 8 and 11 to 13. The room as for [`console`].
+///
+/// The text is a page's body. Write two lines before it, a title and one that turns hyphenation off:
+///
+/// ```text
+/// .TH NAME 1
+/// .nh
+/// ```
+///
+/// Without `.TH`, groff shows no headings and other characters for `-` and backticks. Without `.nh`,
+/// it hyphenates words at line ends, options too: `--certificate` becomes `--cer`, a hyphen that the
+/// document does not have, and `tificate` on the next line.
 pub fn roff<'r>(document: &[u8], room: &'r mut [u8]) -> Result<&'r str, Refusal> {
     let answer = linked::roff(document, room);
     text(room, answer)
@@ -275,7 +287,8 @@ pub fn markdown_string(document: &[u8], full: bool) -> Result<String, Refusal> {
     grown(|room| markdown(document, full, room).map(str::len))
 }
 
-/// [`roff`] as a `String`; 13 only where [`MOST_ROOM`] is too small.
+/// [`roff`] as a `String`, without the two lines that it needs before it; 13 only where
+/// [`MOST_ROOM`] is too small.
 pub fn roff_string(document: &[u8]) -> Result<String, Refusal> {
     grown(|room| roff(document, room).map(str::len))
 }

@@ -28,7 +28,7 @@ fn of_documents() {
         (&[0, 0, 0, 0, 6, 0], Number::UnknownKind, 0),
         (&[1, 0, 0, 0, 0, 1, 0x61], Number::BlockWithBody, 0),
         (&[1, 0, 0, 0, 1, 0, 0xC3], Number::NotUtf8, 0),
-        (&[0, 0, 0, 0, 0, 2], Number::NotInnermost, 0),
+        (&[0, 0, 0, 0, 0, 2], Number::WrongEnd, 0),
         (&deep, Number::TooDeep, 192),
         (&[0, 0, 0, 0, 11, 1], Number::LeftOpen, 6),
     ];
@@ -55,15 +55,15 @@ fn of_renderers() {
     let far = nested(&[Block::ItemBody; 9], "x");
     assert_eq!(
         sefgrunn::console_string(&far, Settings::default()),
-        refusal(Number::MarginTooFar, 54)
+        refusal(Number::BeyondMargin, 54)
     );
     let meta = nested(&[Block::Meta], "x");
     let html = Html::default();
-    assert_eq!(sefgrunn::html_string(&meta, html), refusal(Number::NoSuchBlockHere, 0));
-    assert_eq!(sefgrunn::html_strict_string(&meta, html), refusal(Number::NoSuchBlockHere, 0));
-    assert_eq!(sefgrunn::markdown_string(&meta, true), refusal(Number::NoSuchBlockHere, 0));
+    assert_eq!(sefgrunn::html_string(&meta, html), refusal(Number::NoForm, 0));
+    assert_eq!(sefgrunn::html_strict_string(&meta, html), refusal(Number::NoForm, 0));
+    assert_eq!(sefgrunn::markdown_string(&meta, true), refusal(Number::NoForm, 0));
     let term_ref = nested(&[Block::Mono, Block::TermRef], "x");
-    assert_eq!(sefgrunn::roff_string(&term_ref), refusal(Number::NoSuchBlockHere, 6));
+    assert_eq!(sefgrunn::roff_string(&term_ref), refusal(Number::NoForm, 6));
     let heading = nested(&[Block::Header], "é");
     assert_eq!(sefgrunn::roff_string(&heading), refusal(Number::HeadingNotAscii, 6));
 }
@@ -84,7 +84,7 @@ fn of_the_builder() {
     let at = |number, place| Refusal { number, place };
     let mut builder = Builder::new();
     builder.open(Block::Mono).unwrap().write(Style::Text, "a").unwrap();
-    unchanged(&mut builder, |b| b.close(Block::Block), at(Number::NotInnermost, 13));
+    unchanged(&mut builder, |b| b.close(Block::Block), at(Number::WrongEnd, 13));
     unchanged(&mut builder, |b| b.write(Style::Text, b"\xC3"), at(Number::NotUtf8, 0));
     unchanged(&mut builder, |b| b.doc(&[0, 0, 0, 0, 11, 1]), at(Number::LeftOpen, 6));
     unchanged(&mut builder, |b| b.em_doc(&[1, 0]), at(Number::CutShort, 0));
