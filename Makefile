@@ -1,6 +1,6 @@
 # Targets: test (everything that a change must pass), run (the console program on a sample page), compare (N cases beside the
-# oracle), bench (times beside the Rust), growth (times of pages from 1 to 32 KB), fuzz (SECONDS of calls on inputs made by chance,
-# between pages that cannot be read), samples and record (make samples/ and the replayed list anew).
+# oracle), bench (times beside the Rust), growth (times of pages from 1 to 32 KB), fuzz (SECONDS of calls on random inputs,
+# between guard pages), samples and record (make samples/ and the recorded lists again).
 .PHONY: test run compare bench growth fuzz samples record clean
 
 N ?= 1000000
