@@ -4,3 +4,4 @@ pub mod Prefix
 pub mod Stack
 pub mod Parts
 pub mod Results
+pub mod Pasting

@@ -12,18 +12,21 @@ use Rattle.base.specs.Choice.{if_then_else_}
 use Rattle.base.specs.Result.{Result, gives, refused, _>>=_, measured}
 use Rattle.base.proofs.Choice.{if-true, if-false, and-left, same-test}
 use Rattle.base.proofs.Results.{bind-gives, if-gives, else-gives, gives-same}
-use Rattle.document.specs.Document.{number, openBlocks, short}
-use Rattle.document.specs.Answers.{refusalNumber, refusalPlace, openedAs}
-use Rattle.document.specs.declared.Refusal.{Refusal}
+use Rattle.records.specs.Records.{number}
+use Rattle.document.specs.Document.{openBlocks, short}
+use Rattle.refusal.specs.Numbers.{refusalNumber, refusalPlace}
+use Rattle.document.specs.Answers.{openedAs}
+use Rattle.refusal.specs.declared.Refusal.{Refusal}
 use Rattle.document.specs.declared.Opened.{Opened}
 use Rattle.document.specs.declared.Checked.the-variants as checked
 use Rattle.document.proofs.Walks.{verdict-gives, verdict-refused}
 use Rattle.utf8.specs.Utf8.{utf8}
-use Rattle.document.specs.declared.Style.{Style}
+use Rattle.records.specs.declared.Style.{Style}
 use Rattle.buffer.specs.Builder.{written, soFar, fit, writes}
 use Rattle.buffer.specs.Answers.{builtAs, kept}
 use Rattle.buffer.specs.declared.Built.the-variants as built
-use Rattle.buffer.specs.Parts.{pasted, longer, Accepted, Goes}
+use Rattle.base.specs.Bytes.{pasted}
+use Rattle.buffer.specs.Parts.{longer, Accepted, Goes}
 use Rattle.buffer.proofs.Pasting.{kept-pasted, front}
 
 -- The two promises of a call

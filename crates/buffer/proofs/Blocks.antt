@@ -6,9 +6,10 @@ use lib.ListN.{length, take, getD}
 use lib.Seq.{length-take-le}
 use native.Mathlib.Omega.{arith}
 use Rattle.base.specs.Result.{gives, refused, _>>=_}
-use Rattle.document.specs.Document.{index, reads}
-use Rattle.document.specs.Stored.{stored, start, end}
-use Rattle.document.specs.declared.Block.{Block}
+use Rattle.records.specs.Records.{index}
+use Rattle.document.specs.Document.{reads}
+use Rattle.records.specs.Stored.{stored, start, end}
+use Rattle.records.specs.declared.Block.{Block}
 use Rattle.document.proofs.Opening.{opens-deep, opens-more, closes-none, closes-other, closes-same}
 use Rattle.buffer.specs.Builder.{fit, add, opensBlock, closesBlock}
 use Rattle.buffer.proofs.Records.{reads-start, reads-finish}
@@ -23,7 +24,8 @@ pub add-given : (room doc stack x after : List ℕ) → reads (length doc) 0 sta
 unfolding add _>>=_
 add-given room doc stack x after e = rw e
 
-module _ {room : List ℕ} {n : ℕ} (array : List ℕ) (depth : ℕ) (s : So-far room n (take depth array)) (shallow : (depth ≤ 32) × (length array ≡ 32)) (b : Block) where
+module _ {room : List ℕ} {n : ℕ} (array : List ℕ) (depth : ℕ) (s : So-far room n (take depth array)) (shallow : (depth ≤ 32) × (length array ≡ 32))
+    (b : Block) where
   at-end : length (take n room) ≡ n
   at-end = length-take-le n room (s .inside)
 
@@ -39,28 +41,34 @@ module _ {room : List ℕ} {n : ℕ} (array : List ℕ) (depth : ℕ) (s : So-fa
   opens-too-deep h =
       opens-on
       ∙ add-refused room (take n room) (take depth array) (start b) 7 n
-      (ap (λ (p : ℕ). reads p 0 (take depth array) (start b)) at-end ∙ reads-start n b (take depth array) ∙ sym (opens-deep array depth (index b) n (omega arith) h))
+      (ap (λ (p : ℕ). reads p 0 (take depth array) (start b)) at-end ∙ reads-start n b (take depth array)
+      ∙ sym (opens-deep array depth (index b) n (omega arith) h))
 
   pub opens-in : depth < 32 → (k : ℕ) → k ≡ 0x0100 + index b → fit room (take n room ++ stored k []) ≡ opensBlock room n b
   unfolding start
   opens-in h k e =
       ap (λ (k : ℕ). fit room (take n room ++ stored k [])) e
-      ∙ sym (opens-on ∙ add-given room (take n room) (take depth array) (start b) _ (reads-start (length (take n room)) b (take depth array) ∙ sym (opens-more array depth (index b) (length (take n room)) (omega arith) h (omega arith))))
+      ∙ sym (opens-on ∙ add-given room (take n room) (take depth array) (start b) _ (reads-start (length (take n room)) b (take depth array)
+      ∙ sym (opens-more array depth (index b) (length (take n room)) (omega arith) h (omega arith))))
 
   pub closes-not-open : depth < 1 → closesBlock room n b ≡ refused 6 n
   closes-not-open h =
       closes-on
       ∙ add-refused room (take n room) (take depth array) (end b) 6 n
-      (ap (λ (p : ℕ). reads p 0 (take depth array) (end b)) at-end ∙ reads-finish n b (take depth array) ∙ sym (closes-none array depth (index b) n (omega arith) h))
+      (ap (λ (p : ℕ). reads p 0 (take depth array) (end b)) at-end ∙ reads-finish n b (take depth array)
+      ∙ sym (closes-none array depth (index b) n (omega arith) h))
 
   pub closes-another : 1 ≤ depth → (getD array (depth - 1) 0 ≡ index b → ⊥) → closesBlock room n b ≡ refused 6 n
   closes-another h d =
       closes-on
       ∙ add-refused room (take n room) (take depth array) (end b) 6 n
-      (ap (λ (p : ℕ). reads p 0 (take depth array) (end b)) at-end ∙ reads-finish n b (take depth array) ∙ sym (closes-other array depth (index b) n (omega arith) h d))
+      (ap (λ (p : ℕ). reads p 0 (take depth array) (end b)) at-end ∙ reads-finish n b (take depth array)
+      ∙ sym (closes-other array depth (index b) n (omega arith) h d))
 
-  pub closes-in : 1 ≤ depth → getD array (depth - 1) 0 ≡ index b → (k : ℕ) → k ≡ 0x0200 + index b → fit room (take n room ++ stored k []) ≡ closesBlock room n b
+  pub closes-in : 1 ≤ depth → getD array (depth - 1) 0 ≡ index b → (k : ℕ) → k ≡ 0x0200 + index b
+      → fit room (take n room ++ stored k []) ≡ closesBlock room n b
   unfolding end
   closes-in h d k e =
       ap (λ (k : ℕ). fit room (take n room ++ stored k [])) e
-      ∙ sym (closes-on ∙ add-given room (take n room) (take depth array) (end b) _ (reads-finish (length (take n room)) b (take depth array) ∙ sym (closes-same array depth (index b) (length (take n room)) (omega arith) h d)))
+      ∙ sym (closes-on ∙ add-given room (take n room) (take depth array) (end b) _ (reads-finish (length (take n room)) b (take depth array)
+      ∙ sym (closes-same array depth (index b) (length (take n room)) (omega arith) h d)))

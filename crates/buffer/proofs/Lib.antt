@@ -2,8 +2,4 @@ pub mod Pasting
 pub mod Written
 pub mod Answering
 pub mod Records
-pub mod Nesting
 pub mod Blocks
-pub mod Adding
-pub mod Titles
-pub mod Laws

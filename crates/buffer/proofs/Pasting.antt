@@ -1,20 +1,18 @@
 -- Bytes put into a room from a place on. Assumes nothing.
-use Prim.Native.Nat.{ℕ, _+_, _-_, _/_, _%_, _≤_}
+use Prim.Native.Nat.{ℕ, _+_, _-_, _≤_, max}
 use mathlib.Core.Path.{_≡_, refl, sym, ap, ap₂, _∙_}
-use mathlib.Core.List.{List, [], _∷_, _++_, append-assoc, append-nil}
+use mathlib.Core.List.{List, [], _++_, append-assoc, append-nil}
 use lib.ListN.{length, take, drop, length-append, length-drop, take-append-drop}
-use lib.Seq.{length-take-le, take-take, take-add, take-at, drop-at, drop-drop, take-length, paste}
+use lib.Seq.{length-take-le, take-take, take-add, take-at, drop-at, drop-drop}
 use native.Mathlib.Nat.{add-assoc}
 use native.Mathlib.Omega.{arith}
 use Rattle.base.specs.Result.{gives}
 use Rattle.buffer.specs.Answers.{kept}
 use Rattle.base.proofs.Parts.{part-end}
-use Rattle.document.specs.Stored.{stored, littleBytes}
-use Rattle.buffer.specs.Parts.{head, pasted, longer}
-
--- a copy that is complete
-pub paste-whole : (room : List ℕ) (at : ℕ) (x : List ℕ) → paste room at x (length x) ≡ pasted room at x
-paste-whole room at x = ap (λ (l : List ℕ). take at room ++ l ++ drop (at + length x) room) (take-length x)
+use Rattle.records.specs.Stored.{stored, littleBytes, head}
+use Rattle.base.specs.Bytes.{pasted, overwritten}
+use Rattle.base.proofs.Pasting.{overwritten-fits}
+use Rattle.buffer.specs.Parts.{longer}
 
 module _ (room : List ℕ) (at : ℕ) (x : List ℕ) (h : at ≤ length room) where
   pub front : length (take at room ++ x) ≡ at + length x
@@ -69,6 +67,11 @@ pub length-head : (size k : ℕ) → length (head size k) ≡ 6
 unfolding head littleBytes
 length-head size k = refl
 
+-- one that was set within the room
+pub set-fits : (room : List ℕ) {new : List ℕ} (at size k : ℕ) → new ≡ overwritten room at (head size k) → at + 6 ≤ length room
+    → new ≡ pasted room at (head size k)
+set-fits room at size k e h = e ∙ overwritten-fits room at (head size k) (omega (arith, length-head size k))
+
 pub length-stored : (k : ℕ) (body : List ℕ) → length (stored k body) ≡ 6 + length body
 unfolding stored littleBytes
 length-stored k body = omega arith
@@ -77,11 +80,6 @@ length-stored k body = omega arith
 pub stored-none : (k : ℕ) → stored k [] ≡ head 0 k
 unfolding stored head
 stored-none k = append-nil (head 0 k)
-
-pub head-bytes : (size k : ℕ) {a b c d e f : ℕ} → a ≡ size % 256 → b ≡ size / 256 % 256 → c ≡ size / 256 / 256 % 256 → d ≡ size / 256 / 256 / 256 % 256
-    → e ≡ k % 256 → f ≡ k / 256 % 256 → a ∷ b ∷ c ∷ d ∷ e ∷ f ∷ [] ≡ head size k
-unfolding head littleBytes
-head-bytes size k p q r s t u = rw (p, q, r, s, t, u)
 
 -- a record's head and the text after what stands of its body already
 module _ (room : List ℕ) (last len k : ℕ) (t : List ℕ) (h : last ≤ len) (j : len ≤ length room) where
@@ -94,12 +92,12 @@ module _ (room : List ℕ) (last len k : ℕ) (t : List ℕ) (h : last ≤ len) 
   pub longer-is : longer (take len room) last k t ≡ take last room ++ stored k (drop (last + 6) (take len room) ++ t)
   longer-is = ap (λ (l : List ℕ). l ++ stored k (drop (last + 6) (take len room) ++ t)) (take-take last len room h)
 
-  module _ (to : ℕ) (e : to ≡ last + 6 + (len - (last + 6))) where
+  module _ (to : ℕ) (e : to ≡ max len (last + 6)) where
     pub longer-ends : to + length t ≡ last + length (stored k (drop (last + 6) (take len room) ++ t))
     longer-ends = omega (arith, length-stored k (drop (last + 6) (take len room) ++ t), length-append (drop (last + 6) (take len room)) t, length-standing)
 
-    pub put-longer : (mid new : List ℕ) → to + length t ≤ length room → mid ≡ pasted room last (head (to - (last + 6) + length t) k) → new ≡ pasted mid to t
-        → new ≡ pasted room last (stored k (drop (last + 6) (take len room) ++ t))
+    pub put-longer : (mid new : List ℕ) → to + length t ≤ length room → mid ≡ overwritten room last (head (to - (last + 6) + length t) k)
+        → new ≡ overwritten mid to t → new ≡ pasted room last (stored k (drop (last + 6) (take len room) ++ t))
     unfolding stored head
     put-longer mid new i f g =
         let m = drop (last + 6) (take len room) in
@@ -107,7 +105,11 @@ module _ (room : List ℕ) (last len k : ℕ) (t : List ℕ) (h : last ≤ len) 
         let n : length (m ++ t) ≡ size = omega (arith, length-append m t, length-standing) in
         let six : length (head size k) ≡ 6 = length-head size k in
         let q : to ≡ last + length (head size k) + length m = omega (arith, length-standing) in
-        let w : m ≡ take (length m) (drop (last + length (head size k)) room) = is-standing ∙ ap (λ (i : ℕ). take (length m) (drop (last + i) room)) (sym six) in
-        g ∙ ap₂ (λ (r : List ℕ) (p : ℕ). pasted r p t) f q
+        let w : m ≡ take (length m) (drop (last + length (head size k)) room) = is-standing
+        ∙ ap (λ (i : ℕ). take (length m) (drop (last + i) room)) (sym six) in
+        let f' : mid ≡ pasted room last (head size k) = set-fits room last size k f (omega arith) in
+        let l : length mid ≡ length room = ap length f' ∙ length-pasted room last (head size k) (omega arith) (omega arith) in
+        g ∙ overwritten-fits mid to t (omega arith)
+        ∙ ap₂ (λ (r : List ℕ) (p : ℕ). pasted r p t) f' q
         ∙ pasted-over room last (head size k) m t (omega (arith, length-standing)) w
         ∙ ap (pasted room last) (append-assoc (head size k) m t ∙ ap (λ (s : ℕ). head s k ++ (m ++ t)) (sym n))

@@ -12,18 +12,17 @@ use Rattle.base.specs.Result.{Result, gives, refused, _>>=_}
 use Rattle.base.proofs.Choice.{and-both, if-true, if-false}
 use Rattle.base.proofs.Results.{refused-gives, bind-end}
 use Rattle.utf8.specs.Utf8.{utf8}
-use Rattle.document.specs.Document.{Token, little, number, index, kindOf, size, tokenAt, fits, opens, closes, bodiless, accept, first, reads}
-use Rattle.document.specs.Stored.{littleBytes, stored, text, start, end}
-use Rattle.document.specs.declared.Style.{Style}
-use Rattle.document.specs.declared.Style.the-variants as style
-use Rattle.document.specs.declared.Block.{Block}
-use Rattle.document.specs.declared.Block.the-variants as block
-use Rattle.document.specs.declared.Kind.{Kind}
-use Rattle.document.specs.declared.Kind.the-variants as kind
-use Rattle.document.proofs.Tables.{kind-style, kind-opens, kind-closes}
-use Rattle.document.proofs.Reading.{fits-room}
-use Rattle.document.proofs.Tokens.{reads-some}
-use Rattle.document.proofs.Opening.{index-small}
+use Rattle.records.specs.Records.{Token, little, number, index, kindOf, size, tokenAt, fits}
+use Rattle.document.specs.Document.{opens, closes, bodiless, accept, first, reads}
+use Rattle.records.specs.Stored.{littleBytes, stored, text, start, end}
+use Rattle.records.specs.declared.Style.{Style}
+use Rattle.records.specs.declared.Style.the-variants as style
+use Rattle.records.specs.declared.Block.{Block}
+use Rattle.records.specs.declared.Kind.{Kind}
+use Rattle.records.specs.declared.Kind.the-variants as kind
+use Rattle.records.proofs.Tables.{kind-style, kind-opens, kind-closes, index-small}
+use Rattle.records.proofs.Reading.{fits-room}
+use Rattle.document.proofs.Refusals.{reads-some}
 use Rattle.buffer.proofs.Pasting.{length-stored}
 
 -- Numbers
@@ -57,16 +56,19 @@ module _ (p k : ℕ) (body rest : List ℕ) (hk : Holds 2 k) (hn : Holds 4 (leng
   unfolding fits
   stored-fits =
       let n : length (stored k body ++ rest) ≡ 6 + length body + length rest = omega (arith, length-append (stored k body) rest, length-stored k body) in
-      and-both (le-leb 6 (length (stored k body ++ rest)) (omega arith)) (le-leb (size (stored k body ++ rest)) (length (stored k body ++ rest) - 6) (omega (arith, stored-size)))
+      and-both (le-leb 6 (length (stored k body ++ rest)) (omega arith))
+      (le-leb (size (stored k body ++ rest)) (length (stored k body ++ rest) - 6) (omega (arith, stored-size)))
 
   pub stored-after : drop (6 + size (stored k body ++ rest)) (stored k body ++ rest) ≡ rest
   stored-after = drop-at (stored k body) rest (6 + size (stored k body ++ rest)) (omega (arith, length-stored k body, stored-size))
 
-  pub reads-stored : (stack : List ℕ) → reads p 0 stack (stored k body ++ rest) ≡ (accept p (kindOf k) body stack >>= λ after. reads (p + (6 + length body)) 0 after rest)
+  pub reads-stored : (stack : List ℕ)
+      → reads p 0 stack (stored k body ++ rest) ≡ (accept p (kindOf k) body stack >>= λ after. reads (p + (6 + length body)) 0 after rest)
   unfolding first
   reads-stored stack =
       reads-some (stored k body ++ rest) p stack (omega (arith, length-append (stored k body) rest, length-stored k body))
-      ∙ ap (λ (r : Result (List ℕ)). r >>= λ after. reads (p + (6 + size (stored k body ++ rest))) 0 after (drop (6 + size (stored k body ++ rest)) (stored k body ++ rest)))
+      ∙ ap (λ (r : Result (List ℕ)). r >>= λ after. reads (p + (6 + size (stored k body ++ rest))) 0 after
+      (drop (6 + size (stored k body ++ rest)) (stored k body ++ rest)))
       (if-true _ _ stored-fits ∙ ap₂ (λ (i : Kind) (y : List ℕ). accept p i y stack) stored-kind stored-body)
       ∙ ap₂ (λ (n : ℕ) (t : List ℕ). accept p (kindOf k) body stack >>= λ after. reads (p + (6 + n)) 0 after t) stored-size stored-after
 
@@ -130,7 +132,8 @@ module _ (p : ℕ) (s b : List ℕ) (e : fits s ≡ true) where
   unfolding fits
   fits-before =
       let h = fits-room s e in
-      and-both (le-leb 6 (length (s ++ b)) (omega (arith, length-append s b))) (le-leb (size (s ++ b)) (length (s ++ b) - 6) (omega (arith, length-append s b, size-before)))
+      and-both (le-leb 6 (length (s ++ b)) (omega (arith, length-append s b)))
+      (le-leb (size (s ++ b)) (length (s ++ b) - 6) (omega (arith, length-append s b, size-before)))
 
   pub token-before : tokenAt p (s ++ b) ≡ tokenAt p s
   unfolding tokenAt
@@ -138,8 +141,10 @@ module _ (p : ℕ) (s b : List ℕ) (e : fits s ≡ true) where
       let h = fits-room s e in
       let d : drop 4 (s ++ b) ≡ drop 4 s ++ b = drop-append-le 4 s b (omega arith) in
       let f : drop 6 (s ++ b) ≡ drop 6 s ++ b = drop-append-le 6 s b (omega arith) in
+      let g : take 6 (s ++ b) ≡ take 6 s = take-append-le 6 s b (omega arith) in
       λ i. record {
         place = p;
+        start = p + length (g i);
         kind = kindOf (little ((ap (take 2) d ∙ take-append-le 2 (drop 4 s) b (omega (arith, length-drop 4 s))) i));
         body = (ap₂ take size-before f ∙ take-append-le (size s) (drop 6 s) b (omega (arith, length-drop 6 s))) i;
       }
@@ -171,15 +176,18 @@ reads-append (x ∷ s) b p zero stack h w = go (λ after i v. reads-append s b (
         → reads (p + 1) (5 + size (x ∷ s)) after (s ++ b) ≡ (reads (p + 1) (5 + size (x ∷ s)) after s >>= λ after. reads (p + 1 + length s) 0 after b)
 
     on : Rest → fits (x ∷ s) ≡ true → (r : Result (List ℕ)) → first p stack (x ∷ s) ≡ r
-        → (r >>= λ after. reads (p + 1) (5 + n) after (s ++ b)) ≡ (r >>= (λ after. reads (p + 1) (5 + n) after s) >>= λ after. reads (p + length (x ∷ s)) 0 after b)
+        → (r >>= λ after. reads (p + 1) (5 + n) after (s ++ b))
+        ≡ (r >>= (λ after. reads (p + 1) (5 + n) after s) >>= λ after. reads (p + length (x ∷ s)) 0 after b)
     on rest f (gives after) e =
         rest after (omega (arith, fits-room (x ∷ s) f)) (λ q z. w q (ap (λ (r : Result (List ℕ)). r >>= λ after. reads (p + 1) (5 + n) after s) e ∙ z))
         ∙ ap (λ (k : ℕ). reads (p + 1) (5 + n) after s >>= λ after. reads k 0 after b) (omega arith)
     on rest f (refused m q) e = refl
 
-    go : Rest → (t : Bool) → fits (x ∷ s) ≡ t → reads p zero stack (x ∷ s ++ b) ≡ (reads p zero stack (x ∷ s) >>= λ after. reads (p + length (x ∷ s)) 0 after b)
+    go : Rest → (t : Bool) → fits (x ∷ s) ≡ t
+        → reads p zero stack (x ∷ s ++ b) ≡ (reads p zero stack (x ∷ s) >>= λ after. reads (p + length (x ∷ s)) 0 after b)
     go rest true f =
-        ap₂ (λ (r : Result (List ℕ)) (k : ℕ). r >>= λ after. reads (p + 1) (5 + k) after (s ++ b)) (first-before p (x ∷ s) b f stack) (size-before p (x ∷ s) b f)
+        ap₂ (λ (r : Result (List ℕ)) (k : ℕ). r >>= λ after. reads (p + 1) (5 + k) after (s ++ b)) (first-before p (x ∷ s) b f stack)
+        (size-before p (x ∷ s) b f)
         ∙ on rest f (first p stack (x ∷ s)) refl
     go rest false f = absurd (w p (ap (λ (r : Result (List ℕ)). r >>= λ after. reads (p + 1) (5 + n) after s) (cut-short p stack (x ∷ s) f)))
 

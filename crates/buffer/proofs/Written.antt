@@ -10,15 +10,15 @@ use lib.Seq.{take-add, take-all, drop-drop}
 use native.Mathlib.Omega.{arith}
 use borrow.Author.Tests.{eq-eqb, ne-eqb}
 use Rattle.base.proofs.Choice.{if-true, if-false, and-both}
-use Rattle.document.specs.declared.Kind.the-variants as kind
+use Rattle.records.specs.declared.Kind.the-variants as kind
 use Rattle.utf8.proofs.Text.{Valid}
-use Rattle.document.specs.Document.{Token, number, tokenAt, size}
-use Rattle.document.specs.Answers.{Read}
-use Rattle.document.specs.Stored.{text}
-use Rattle.document.specs.declared.Style.{Style}
-use Rattle.document.specs.declared.Kind.{Kind}
-use Rattle.document.specs.declared.Head.{Head}
-use Rattle.document.proofs.Reading.{read-token}
+use Rattle.records.specs.Records.{Token, number, tokenAt, size}
+use Rattle.records.specs.Answers.{Read}
+use Rattle.records.specs.Stored.{text}
+use Rattle.records.specs.declared.Style.{Style}
+use Rattle.records.specs.declared.Kind.{Kind}
+use Rattle.records.specs.declared.Head.{Head}
+use Rattle.records.proofs.Reading.{read-token}
 use Rattle.document.proofs.Walks.{Sane, Open-at, open-at-0, open-whole, open-next, openAfter}
 use Rattle.buffer.specs.Builder.{isText, oneText, written}
 use Rattle.buffer.specs.Parts.{Accepted, Goes}
@@ -128,7 +128,8 @@ module _ {st : Style} {s : List ℕ} {at : ℕ} {h : Head} (g : Going st s at) (
       let m : length (drop at s) ≡ length s - at = length-drop at s in
       let k : 6 + size (drop at s) ≤ length (drop at s) = omega (arith, ends, r .high) in
       let no : oneText st (drop at s) ≡ false = not-one-text st (drop at s)
-      (⊎-elim (λ (q : h .next ≡ length s → ⊥). inl (λ z. q (omega (arith, ends)))) (λ (q : isText st (h .kind) ≡ false). inr (ap (isText st) same-kind ∙ q)) o) in
+      (⊎-elim (λ (q : h .next ≡ length s → ⊥). inl (λ z. q (omega (arith, ends))))
+      (λ (q : isText st (h .kind) ≡ false). inr (ap (isText st) same-kind ∙ q)) o) in
       record {
         left = g .left;
         stack = openAfter (h .kind) (g .stack);

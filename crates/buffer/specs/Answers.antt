@@ -3,7 +3,7 @@ use Prim.Native.Nat.{ℕ}
 use mathlib.Core.List.{List, _++_}
 use lib.ListN.{length, drop}
 use Rattle.base.specs.Result.{Result, gives, refused}
-use Rattle.document.specs.Answers.{refusalNumber, refusalPlace}
+use Rattle.refusal.specs.Numbers.{refusalNumber, refusalPlace}
 use Rattle.buffer.specs.declared.Built.{Built}
 use Rattle.buffer.specs.declared.Built.the-variants as built
 

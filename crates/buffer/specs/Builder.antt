@@ -9,14 +9,15 @@ use Rattle.base.specs.Choice.{if_then_else_}
 use Rattle.base.specs.Result.{Result, gives, refused, _>>=_}
 use Rattle.utf8.specs.Utf8.{utf8}
 use Rattle.splitter.specs.Split.{line}
-use Rattle.document.specs.Document.{tokenAt, size, number, reads, openBlocks, short, check}
-use Rattle.document.specs.Stored.{text, start, end, around}
-use Rattle.document.specs.declared.Style.{Style}
-use Rattle.document.specs.declared.Style.the-variants as style
-use Rattle.document.specs.declared.Block.{Block}
-use Rattle.document.specs.declared.Block.the-variants as block
-use Rattle.document.specs.declared.Kind.{Kind}
-use Rattle.document.specs.declared.Kind.the-variants as kind
+use Rattle.records.specs.Records.{tokenAt, size, number}
+use Rattle.document.specs.Document.{reads, openBlocks, short, check}
+use Rattle.records.specs.Stored.{text, start, end, around}
+use Rattle.records.specs.declared.Style.{Style}
+use Rattle.records.specs.declared.Style.the-variants as style
+use Rattle.records.specs.declared.Block.{Block}
+use Rattle.records.specs.declared.Block.the-variants as block
+use Rattle.records.specs.declared.Kind.{Kind}
+use Rattle.records.specs.declared.Kind.the-variants as kind
 
 -- 'text of that style'
 abbrev pub isText : Style → Kind → Bool

@@ -1,4 +1,3 @@
 pub mod Builder
 pub mod Answers
 pub mod Parts
-pub mod Text

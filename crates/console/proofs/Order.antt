@@ -7,15 +7,16 @@ use lib.Seq.{take-append-seam}
 use borrow.Author.Tests.{lt-ltb, le-ltb}
 use Rattle.base.specs.Choice.{if_then_else_}
 use Rattle.base.specs.Result.{Result, gives, refused, _>>=_}
-use Rattle.utf8.specs.White.{printing}
-use Rattle.document.specs.Document.{tokens, short, check}
-use Rattle.document.specs.Answers.{refusalNumber, refusalPlace}
-use Rattle.document.specs.declared.Refusal.{Refusal}
+use Rattle.white.specs.White.{printing}
+use Rattle.records.specs.Records.{tokens}
+use Rattle.document.specs.Document.{short, check}
+use Rattle.refusal.specs.Numbers.{refusalNumber, refusalPlace}
+use Rattle.refusal.specs.declared.Refusal.{Refusal}
 use Rattle.room.specs.Room.{padded}
-use Rattle.walk.specs.Rendered.{standing, filled}
-use Rattle.walk.specs.declared.Rendered.{Rendered}
-use Rattle.walk.specs.declared.Rendered.the-variants as rendered
-use Rattle.console_rules.specs.Console.{tabstop, narrow, textBy, consoleBy, console}
+use Rattle.renderer.specs.Rendered.{standing, filled}
+use Rattle.renderer.specs.declared.Rendered.{Rendered}
+use Rattle.renderer.specs.declared.Rendered.the-variants as rendered
+use Rattle.console_rules.specs.Console.{tabstop, narrow, measureOf, textBy, consoleBy, console}
 use Rattle.console_rules.specs.declared.Settings.{Settings}
 use Rattle.console_rules.proofs.Printed.{console-prints}
 use Rattle.console.specs.Answers.{Stands, Demand3}
@@ -35,7 +36,7 @@ module _ (set : Settings) (room : ℕ) (s : List ℕ) where
       unfolding console consoleBy short narrow _>>=_ if_then_else_
       console-refused n p e = rw (le-ltb 32_768 (length s) few, le-ltb 10_000 (set .width) low, e)
 
-      pub console-text : (x : List ℕ) → check s ≡ gives x → console set room s ≡ textBy length set room (tabstop (tokens 0 0 s)) s
+      pub console-text : (x : List ℕ) → check s ≡ gives x → console set room s ≡ textBy (measureOf set) set room (tabstop (tokens 0 0 s)) (tokens 0 0 s)
       unfolding console consoleBy short narrow _>>=_ if_then_else_
       console-text x e = rw (le-ltb 32_768 (length s) few, le-ltb 10_000 (set .width) low, e)
 

@@ -12,14 +12,16 @@ use Rattle.base.specs.Result.{Result, gives, refused, _>>=_}
 use Rattle.base.specs.Stack.{top}
 use Rattle.base.proofs.Choice.{if-true, if-false, le-or-lt}
 use Rattle.base.proofs.Results.{bind-assoc, bind-end}
-use Rattle.document.specs.Document.{tokensFrom, check}
-use Rattle.document.specs.Answers.{Read, refusalNumber, refusalPlace}
-use Rattle.document.specs.declared.Refusal.{Refusal}
-use Rattle.document.specs.declared.Refusal.the-variants as refusal
-use Rattle.document.specs.declared.Head.{Head}
-use Rattle.document.specs.declared.Block.{Block}
-use Rattle.document.specs.declared.Style.{Style}
-use Rattle.document.specs.declared.Kind.the-variants as kind
+use Rattle.records.specs.Records.{tokens, tokensFrom}
+use Rattle.document.specs.Document.{check}
+use Rattle.records.specs.Answers.{Read}
+use Rattle.refusal.specs.Numbers.{refusalNumber, refusalPlace}
+use Rattle.refusal.specs.declared.Refusal.{Refusal}
+use Rattle.refusal.specs.declared.Refusal.the-variants as refusal
+use Rattle.records.specs.declared.Head.{Head}
+use Rattle.records.specs.declared.Block.{Block}
+use Rattle.records.specs.declared.Style.{Style}
+use Rattle.records.specs.declared.Kind.the-variants as kind
 use Rattle.document.proofs.Walks.{Deep-at, deep-bound, deep-from, deep-less, deep-text, deep-start, deep-end, accepted-at-0, open-known, open-whole}
 use Rattle.splitter.specs.Split.{Chunk}
 use Rattle.splitter.specs.Answers.{chunkOf, chunksFrom, cursor, start}
@@ -27,19 +29,20 @@ use Rattle.splitter.specs.declared.Cursor.{Cursor}
 use Rattle.splitter.specs.declared.Piece.{Piece}
 use Rattle.splitter.proofs.Steps.{split-start}
 use Rattle.splitter.proofs.Answers.{Took}
-use Rattle.walk.specs.Walk.{page, last, body}
-use Rattle.walk.specs.declared.Rendered.{Rendered}
-use Rattle.walk.specs.declared.Rendered.the-variants as rendered
-use Rattle.walk.proofs.Shown.{shown-in, shown-out}
-use Rattle.walk.proofs.Leads.{Leads, leads-start, leads-on, leads-out, leads-refused, leads-shown, records, turned, walk-record, walk-end, chunksThen, body-chunk, body-last, body-end}
-use Rattle.console_rules.specs.Console.{State, initial, blankLay, gapAhead, started, ended, chunk, turn, finish, textBy}
+use Rattle.renderer.specs.Walk.{page, last, body}
+use Rattle.renderer.specs.declared.Rendered.{Rendered}
+use Rattle.renderer.specs.declared.Rendered.the-variants as rendered
+use Rattle.renderer.proofs.Shown.{shown-in, shown-out}
+use Rattle.renderer.proofs.Leads.{Leads, leads-start, leads-on, leads-out, leads-refused, leads-shown, records, turned, walk-record, walk-end, chunksThen, body-chunk, body-last, body-end}
+use Rattle.console_rules.specs.Console.{State, initial, blankLay, gapAhead, started, ended, measureOf, chunk, turn, finish, textBy}
 use Rattle.console_rules.specs.declared.Settings.{Settings}
 use Rattle.console_rules.specs.declared.Lay.{Lay}
-use Rattle.console_parts.specs.Shown.{held, told, Near, Nearby, Shallow, Changed}
-use Rattle.console_parts.specs.declared.Placed.{Placed}
-use Rattle.console_parts.specs.declared.Placed.the-variants as placed
-use Rattle.console_parts.specs.declared.Mark.{Mark}
-use Rattle.console_parts.proofs.Margins.{top-shallow}
+use Rattle.console_chunks.specs.Shown.{held, told, Fits, Near, Nearby}
+use Rattle.console_blocks.specs.Depth.{Shallow, Startable, Moved}
+use Rattle.console_chunks.specs.declared.Placed.{Placed}
+use Rattle.console_chunks.specs.declared.Placed.the-variants as placed
+use Rattle.console_chunks.specs.declared.Mark.{Mark}
+use Rattle.console_blocks.proofs.Margins.{top-shallow, shallow-on}
 use Rattle.console_words.specs.Onward.{onward, Moves}
 use Rattle.console.specs.Answers.{textAfter, Stands}
 
@@ -49,18 +52,18 @@ module _ (document : List ℕ) (set : Settings) (tab limit : ℕ) where
   ending s = finish limit s >>= λ t. gives (t .out)
 
   abbrev pub rest : ℕ → State → Result (List ℕ)
-  rest at s = records (turn length set limit tab) document at s >>= ending
+  rest at s = records (turn (measureOf set) set limit tab) document at s >>= ending
 
   abbrev pub whole : Result (List ℕ)
   whole = rest 0 initial
 
   -- what is left to do from a chunk of a body on, where the next record is at `next`
   abbrev pub chunksRest : ℕ → ℕ → ℕ → List Chunk → State → Result (List ℕ)
-  chunksRest margin place next = chunksThen (set .full) (chunk length set limit margin place) (rest next)
+  chunksRest margin place next = chunksThen (set .full) (chunk (measureOf set) set limit margin place) (rest next)
 
-  rest-record : (at : ℕ) (h : Head) → Read document at h → at < length document → (s : State) → rest at s ≡ (turned (turn length set limit tab) document at h s >>= rest (h .next))
+  rest-record : (at : ℕ) (h : Head) → Read document at h → at < length document → (s : State) → rest at s ≡ (turned (turn (measureOf set) set limit tab) document at h s >>= rest (h .next))
   rest-record at h r l s =
-      ap (λ (x : Result State). x >>= ending) (walk-record (turn length set limit tab) document at h r l s) ∙ sym (bind-assoc _ (records (turn length set limit tab) document (h .next)) ending)
+      ap (λ (x : Result State). x >>= ending) (walk-record (turn (measureOf set) set limit tab) document at h r l s) ∙ sym (bind-assoc _ (records (turn (measureOf set) set limit tab) document (h .next)) ending)
 
   -- Before a record: the margins are the first `count` of an array of 32, at least as many blocks are open, and the numbers are small.
   pub record Standing (room margins : List ℕ) (count : ℕ) (m : Mark) (at : ℕ) : Type 0 where
@@ -75,29 +78,32 @@ module _ (document : List ℕ) (set : Settings) (tab limit : ℕ) where
 
   module _ (room margins : List ℕ) (count : ℕ) (m : Mark) (at : ℕ) (w : Standing room margins count m at) where
     -- a text that is longer than the room
-    pub stand-over : length room < m .len → whole ≡ refused 13 0
-    stand-over h = leads-out whole (rest at) (held room (take count margins) m) (w .leads) 13 0 (shown-out room (m .len) (take count margins) (m .lay) h)
+    pub stand-over : length room < m .len .0 → whole ≡ refused 13 0
+    stand-over h = leads-out whole (rest at) (held room (take count margins) m) (w .leads) 13 0 (shown-out room (m .len .0) (take count margins) (m .lay) h)
 
     -- nothing is left but the end
     pub stand-done : length document ≤ at → Leads whole ending (held room (take count margins) m)
     unfolding _>>=_
     stand-done l =
         leads-on whole (rest at) (held room (take count margins) m) (w .leads) gives ending (held room (take count margins) m)
-        (λ s. ap (λ (x : Result State). x >>= ending) (walk-end (turn length set limit tab) document at l s)) (sym (bind-end (held room (take count margins) m)))
+        (λ s. ap (λ (x : Result State). x >>= ending) (walk-end (turn (measureOf set) set limit tab) document at l s)) (sym (bind-end (held room (take count margins) m)))
 
     -- there are no more margins than slots, and the numbers are far below what a number holds
     pub stand-count : count ≤ length margins
     stand-count = omega (arith, deep-bound (w .deep), w .slots)
 
-    pub stand-column : length document ≤ 32_768 → m .lay .column .0 ≤ 2 ^ 50
+    pub stand-column : length document ≤ 32_768 → Fits (m .lay .column .0 + 1)
     stand-column few = omega (arith, w .column, w .near)
 
     module _ (h : Head) (r : Read document at h) (l : at < length document) where
-      -- what the start of a block asks for
-      pub stand-slot : (b : Block) → h .kind ≡ kind.Start b → length document ≤ 32_768
-          → (count < length margins) × (m .lay .column .0 ≤ 2 ^ 50) × (m .lay .skip ≤ 2 ^ 50) × Shallow (2 ^ 50) margins
-      stand-slot b e few =
-          (omega (arith, deep-start (w .deep) r l e .0, w .slots), stand-column few, omega (arith, w .skip, w .near), record { each = λ i. omega (arith, w .shallow .each i, w .near) })
+      -- what the start of a block asks for, and the end
+      pub stand-startable : (b : Block) → h .kind ≡ kind.Start b → length document ≤ 32_768 → tab ≤ 28 → Startable margins count (m .lay) tab
+      stand-startable b e few low = record {
+        slot = omega (arith, deep-start (w .deep) r l e .0, w .slots);
+        column = omega (arith, w .column, w .near);
+        skip = omega (arith, w .skip, w .near);
+        margin = omega (arith, top-shallow margins count (30 * at) (w .shallow), w .near);
+      }
 
       pub stand-less : length document - h .next < length document - at
       stand-less = omega (arith, r .low l, r .order, r .high)
@@ -111,31 +117,29 @@ module _ (document : List ℕ) (set : Settings) (tab limit : ℕ) where
       -- the start and the end of a block
       pub stand-started : (b : Block) (room′ margins′ : List ℕ) (count′ : ℕ) (m′ : Mark) → h .kind ≡ kind.Start b → length room′ ≡ length room → length margins′ ≡ length margins
           → held room′ (take count′ margins′) m′ ≡ (held room (take count margins) m >>= started (length room) tab b (gapAhead (tokensFrom document (h .next))))
-          → count′ ≤ count + 1 → Changed (m .lay) (m′ .lay) margins margins′ → Standing room′ margins′ count′ m′ (h .next)
+          → count′ ≤ count + 1 → Moved (m .lay) (m′ .lay) → ((n : ℕ) → Shallow n margins → Shallow (n + (tab + 4)) margins′) → tab ≤ 28
+          → Standing room′ margins′ count′ m′ (h .next)
       unfolding turn
-      stand-started b room′ margins′ count′ m′ e f g q c d = record {
+      stand-started b room′ margins′ count′ m′ e f g q c d deeper low = record {
         size = f ∙ w .size;
         slots = g ∙ w .slots;
-        leads = leads-on whole (rest at) (held room (take count margins) m) (w .leads) (turned (turn length set limit tab) document at h) (rest (h .next)) (held room′ (take count′ margins′) m′) (rest-record at h r l)
+        leads = leads-on whole (rest at) (held room (take count margins) m) (w .leads) (turned (turn (measureOf set) set limit tab) document at h) (rest (h .next)) (held room′ (take count′ margins′) m′) (rest-record at h r l)
             (rw e (q ∙ ap (λ (n : ℕ). held room (take count margins) m >>= started n tab b (gapAhead (tokensFrom document (h .next)))) (w .size)));
         deep = deep-less count′ c (deep-start (w .deep) r l e .1);
         near = r .high;
         column = omega (arith, d .column, w .column, next-far);
         skip = omega (arith, d .skip, w .skip, next-far);
-        shallow = small (d .deeper (30 * at) (w .shallow));
+        shallow = shallow-on _ _ _ (omega (arith, next-far)) (deeper (30 * at) (w .shallow));
       }
-        where
-          small : Shallow (30 * at + 30) margins′ → Shallow (30 * h .next) margins′
-          small s = record { each = λ i. omega (arith, s .each i, next-far) }
 
       pub stand-ended : (b : Block) (room′ : List ℕ) (count′ : ℕ) (m′ : Mark) → h .kind ≡ kind.End b → length room′ ≡ length room
           → held room′ (take count′ margins) m′ ≡ (held room (take count margins) m >>= ended (length room) b)
-          → count′ ≡ count - 1 → Changed (m .lay) (m′ .lay) margins margins → Standing room′ margins count′ m′ (h .next)
+          → count′ ≡ count - 1 → Moved (m .lay) (m′ .lay) → Standing room′ margins count′ m′ (h .next)
       unfolding turn
       stand-ended b room′ count′ m′ e f q c d = record {
         size = f ∙ w .size;
         slots = w .slots;
-        leads = leads-on whole (rest at) (held room (take count margins) m) (w .leads) (turned (turn length set limit tab) document at h) (rest (h .next)) (held room′ (take count′ margins) m′) (rest-record at h r l)
+        leads = leads-on whole (rest at) (held room (take count margins) m) (w .leads) (turned (turn (measureOf set) set limit tab) document at h) (rest (h .next)) (held room′ (take count′ margins) m′) (rest-record at h r l)
             (rw e (q ∙ ap (λ (n : ℕ). held room (take count margins) m >>= ended n b) (w .size)));
         deep = deep-less count′ (omega arith) (deep-end (w .deep) r l e);
         near = r .high;
@@ -150,7 +154,7 @@ module _ (document : List ℕ) (set : Settings) (tab limit : ℕ) where
       stand-hidden st e k = record {
         size = w .size;
         slots = w .slots;
-        leads = leads-shown room (m .len) (take count margins) (m .lay) whole (rest at) (rest (h .next))
+        leads = leads-shown room (m .len .0) (take count margins) (m .lay) whole (rest at) (rest (h .next))
             (λ x. rest-record at h r l (page (take count margins) (m .lay) x) ∙ rw e (ap (λ (z : Result State). z >>= rest (h .next)) (if-true _ _ (lt-ltb 0 (m .lay .skip) k)))) (w .leads);
         deep = deep-text (w .deep) r l e;
         near = r .high;
@@ -161,13 +165,13 @@ module _ (document : List ℕ) (set : Settings) (tab limit : ℕ) where
 
       -- text that is not: its chunks are left, and then the next record
       pub stand-text : (st : Style) (margin : ℕ) → h .kind ≡ kind.Text st → m .lay .skip ≤ 0 → margin ≡ top (take count margins)
-          → Leads whole (chunksRest margin at (h .next) (chunksFrom (part document (h .start) (h .next)) start)) (held room (take count margins) m)
+          → Leads whole (chunksRest margin at (h .next) (chunksFrom (part document (h .start) (h .stop)) start)) (held room (take count margins) m)
       unfolding turn
       stand-text st margin e k g =
-          leads-shown room (m .len) (take count margins) (m .lay) whole (rest at) (chunksRest margin at (h .next) (chunksFrom (part document (h .start) (h .next)) start))
+          leads-shown room (m .len .0) (take count margins) (m .lay) whole (rest at) (chunksRest margin at (h .next) (chunksFrom (part document (h .start) (h .stop)) start))
           (λ x. rest-record at h r l (page (take count margins) (m .lay) x)
           ∙ rw (e, g) (ap (λ (z : Result State). z >>= rest (h .next)) (if-false _ _ (le-ltb 0 (m .lay .skip) k)
-          ∙ ap (λ (cs : List Chunk). body (set .full) (chunk length set limit (top (take count margins)) at) cs (page (take count margins) (m .lay) x)) (split-start (part document (h .start) (h .next)))))) (w .leads)
+          ∙ ap (λ (cs : List Chunk). body (set .full) (chunk (measureOf set) set limit (top (take count margins)) at) cs (page (take count margins) (m .lay) x)) (split-start (part document (h .start) (h .stop)))))) (w .leads)
 
   -- Before a chunk of a body that starts at `start` and ends at `next`.
   pub record Writing (x : List ℕ) (margin place next : ℕ) (kept room : List ℕ) (m : Mark) (c : Cursor) : Type 0 where
@@ -183,15 +187,15 @@ module _ (document : List ℕ) (set : Settings) (tab limit : ℕ) where
     unfolding _>>=_
     write-end e =
         leads-on whole (chunksRest margin place next (chunksFrom x c)) (held room kept m) (w .leads) gives (rest next) (held room kept m)
-        (λ s. body-end (set .full) (chunk length set limit margin place) (rest next) (chunksFrom x c) e s) (sym (bind-end (held room kept m)))
+        (λ s. body-end (set .full) (chunk (measureOf set) set limit margin place) (rest next) (chunksFrom x c) e s) (sym (bind-end (held room kept m)))
 
     -- words followed on their line
-    pub write-words : (room′ : List ℕ) (m′ : Mark) (at′ : ℕ) → length room′ ≡ length room → Moves (set .width) margin x (c .code) room m (c .at) room′ m′ at′
+    pub write-words : (room′ : List ℕ) (m′ : Mark) (at′ : ℕ) → length room′ ≡ length room → Moves set margin x (c .code) room m (c .at) room′ m′ at′
         → Writing x margin place next kept room′ m′ (cursor at′ (c .code))
     write-words room′ m′ at′ f v =
-        let some = body (set .full) (chunk length set limit margin place) in
+        let some = body (set .full) (chunk (measureOf set) set limit margin place) in
         let same : (held room′ kept m′ >>= some (chunksFrom x (cursor at′ (c .code)))) ≡ (held room kept m >>= some (chunksFrom x c)) =
-        subst (λ (n : ℕ). (held room′ kept m′ >>= onward set n margin place x at′ (c .code)) ≡ (held room kept m >>= onward set n margin place x (c .at) (c .code))) (w .size) (v .same set place kept refl) in
+        subst (λ (n : ℕ). (held room′ kept m′ >>= onward set n margin place x at′ (c .code)) ≡ (held room kept m >>= onward set n margin place x (c .at) (c .code))) (w .size) (v .same place kept) in
         record {
           size = f ∙ w .size;
           leads = bind-assoc (held room′ kept m′) (some (chunksFrom x (cursor at′ (c .code)))) (rest next)
@@ -205,28 +209,28 @@ module _ (document : List ℕ) (set : Settings) (tab limit : ℕ) where
 
     module _ (p : Piece) (d : Cursor) (t : Took x c p d) where
       -- a chunk was refused by 10
-      pub write-deep : (q : ℕ) → refused 10 q ≡ (held room kept m >>= chunk length set limit margin place (chunkOf x p)) → (b : Bool) → b ≡ last (set .full) (chunkOf x p) → whole ≡ refused 10 q
+      pub write-deep : (q : ℕ) → refused 10 q ≡ (held room kept m >>= chunk (measureOf set) set limit margin place (chunkOf x p)) → (b : Bool) → b ≡ last (set .full) (chunkOf x p) → whole ≡ refused 10 q
       write-deep q e true f =
-          leads-refused whole (chunksRest margin place next (chunksFrom x c)) (held room kept m) (w .leads) (chunk length set limit margin place (chunkOf x p)) (rest next) 10 q
-          (body-last (set .full) (chunk length set limit margin place) (rest next) (chunkOf x p) (chunksFrom x c) (chunksFrom x d) (t .chunks) (sym f)) (sym e)
+          leads-refused whole (chunksRest margin place next (chunksFrom x c)) (held room kept m) (w .leads) (chunk (measureOf set) set limit margin place (chunkOf x p)) (rest next) 10 q
+          (body-last (set .full) (chunk (measureOf set) set limit margin place) (rest next) (chunkOf x p) (chunksFrom x c) (chunksFrom x d) (t .chunks) (sym f)) (sym e)
       write-deep q e false f =
-          leads-refused whole (chunksRest margin place next (chunksFrom x c)) (held room kept m) (w .leads) (chunk length set limit margin place (chunkOf x p)) (chunksRest margin place next (chunksFrom x d)) 10 q
-          (body-chunk (set .full) (chunk length set limit margin place) (rest next) (chunkOf x p) (chunksFrom x c) (chunksFrom x d) (t .chunks) (sym f)) (sym e)
+          leads-refused whole (chunksRest margin place next (chunksFrom x c)) (held room kept m) (w .leads) (chunk (measureOf set) set limit margin place (chunkOf x p)) (chunksRest margin place next (chunksFrom x d)) 10 q
+          (body-chunk (set .full) (chunk (measureOf set) set limit margin place) (rest next) (chunkOf x p) (chunksFrom x c) (chunksFrom x d) (t .chunks) (sym f)) (sym e)
 
-      module _ (room′ : List ℕ) (m′ : Mark) (f : length room′ ≡ length room) (e : held room′ kept m′ ≡ (held room kept m >>= chunk length set limit margin place (chunkOf x p)))
+      module _ (room′ : List ℕ) (m′ : Mark) (f : length room′ ≡ length room) (e : held room′ kept m′ ≡ (held room kept m >>= chunk (measureOf set) set limit margin place (chunkOf x p)))
           (near : Near (margin + 1_032_771) (m .lay) (m′ .lay)) where
         -- a chunk that ends the walk of its body
         pub write-last : last (set .full) (chunkOf x p) ≡ true → Leads whole (rest next) (held room′ kept m′)
         write-last g =
-            leads-on whole (chunksRest margin place next (chunksFrom x c)) (held room kept m) (w .leads) (chunk length set limit margin place (chunkOf x p)) (rest next) (held room′ kept m′)
-            (body-last (set .full) (chunk length set limit margin place) (rest next) (chunkOf x p) (chunksFrom x c) (chunksFrom x d) (t .chunks) g) e
+            leads-on whole (chunksRest margin place next (chunksFrom x c)) (held room kept m) (w .leads) (chunk (measureOf set) set limit margin place (chunkOf x p)) (rest next) (held room′ kept m′)
+            (body-last (set .full) (chunk (measureOf set) set limit margin place) (rest next) (chunkOf x p) (chunksFrom x c) (chunksFrom x d) (t .chunks) g) e
 
         -- a chunk after which others may follow
         pub write-on : last (set .full) (chunkOf x p) ≡ false → margin ≤ 1_000_000 → Writing x margin place next kept room′ m′ d
         write-on g low = record {
           size = f ∙ w .size;
-          leads = leads-on whole (chunksRest margin place next (chunksFrom x c)) (held room kept m) (w .leads) (chunk length set limit margin place (chunkOf x p)) (chunksRest margin place next (chunksFrom x d)) (held room′ kept m′)
-              (body-chunk (set .full) (chunk length set limit margin place) (rest next) (chunkOf x p) (chunksFrom x c) (chunksFrom x d) (t .chunks) g) e;
+          leads = leads-on whole (chunksRest margin place next (chunksFrom x c)) (held room kept m) (w .leads) (chunk (measureOf set) set limit margin place (chunkOf x p)) (chunksRest margin place next (chunksFrom x d)) (held room′ kept m′)
+              (body-chunk (set .full) (chunk (measureOf set) set limit margin place) (rest next) (chunkOf x p) (chunksFrom x c) (chunksFrom x d) (t .chunks) g) e;
           column = omega (arith, near .0, w .column, t .further);
           skip = omega (arith, near .1, w .skip);
           short = t .short;
@@ -242,7 +246,7 @@ zeros-shallow n = record { each = λ i. omega (arith, ⊎-elim (λ (h : n ≤ i)
 
 -- nothing has been written
 pub stand-first : (document : List ℕ) (set : Settings) (tab : ℕ) (room margins : List ℕ) (m : Mark) → check document ≡ gives [] → length margins ≡ 32
-    → Shallow 0 margins → m .len ≡ 0 → m .lay ≡ blankLay → Standing document set tab (length room) room margins 0 m 0
+    → Shallow 0 margins → m .len .0 ≡ 0 → m .lay ≡ blankLay → Standing document set tab (length room) room margins 0 m 0
 stand-first document set tab room margins m e f s z y = record {
   size = refl;
   slots = f;
@@ -255,17 +259,17 @@ stand-first document set tab room margins m e f s z y = record {
 }
 
 module _ (document : List ℕ) (set : Settings) (tab limit : ℕ) where
-  text-whole : whole document set tab limit ≡ textBy length set limit tab document
+  text-whole : whole document set tab limit ≡ textBy (measureOf set) set limit tab (tokens 0 0 document)
   text-whole = bind-assoc _ (finish limit) (λ t. gives (t .out))
 
   -- a refusal that the rules give
   pub stands-refused : (room : List ℕ) (a : Refusal) → whole document set tab limit ≡ refused (refusalNumber a) (refusalPlace a)
-      → Stands room (rendered.Refused a) (textBy length set limit tab document)
+      → Stands room (rendered.Refused a) (textBy (measureOf set) set limit tab (tokens 0 0 document))
   stands-refused room a e = record { same = sym (sym text-whole ∙ e); fits = tt }
 
   -- what is due at the end has been written
   pub stands-done : (room room′ margins : List ℕ) (count : ℕ) (m : Mark) (at : ℕ) (r : Rendered) → Standing document set tab limit room margins count m at
-      → length document ≤ at → Stands room′ r (textAfter room (take count margins) m) → Stands room′ r (textBy length set limit tab document)
+      → length document ≤ at → Stands room′ r (textAfter room (take count margins) m) → Stands room′ r (textBy (measureOf set) set limit tab (tokens 0 0 document))
   stands-done room room′ margins count m at r w l s = record {
     same = s .same ∙ ap (λ (n : ℕ). held room (take count margins) m >>= ending document set tab n) (w .size) ∙ stand-done document set tab limit room margins count m at w l ∙ text-whole;
     fits = s .fits;
@@ -279,10 +283,10 @@ module _ (document : List ℕ) (set : Settings) (tab limit : ℕ) (room margins 
   margin-low = omega (arith, g, top-shallow margins count (30 * at) (w .shallow))
 
   abbrev Body : List ℕ
-  Body = part document (h .start) (h .next)
+  Body = part document (h .start) (h .stop)
 
   pub body-few : length Body ≤ 32_768
-  body-few = omega (arith, part-short document (h .start) (h .next), r .high)
+  body-few = omega (arith, part-short document (h .start) (h .stop), r .high, r .ends)
 
   -- before the first chunk
   pub body-first : m .lay .skip ≤ 0 → Writing document set tab (length room) Body margin at (h .next) (take count margins) room m start
@@ -311,7 +315,7 @@ module _ (document : List ℕ) (set : Settings) (tab limit : ℕ) (room margins 
     column-low = omega (arith, v .column, v .short, body-few)
 
     far : at + (length Body + 2) ≤ h .next
-    far = let o = open-whole (w .deep .here) r l in omega (arith, part-short document (h .start) (h .next), o .0, r .order)
+    far = let o = open-whole (w .deep .here) r l in omega (arith, part-short document (h .start) (h .stop), o .0, r .order, r .ends)
 
     -- after the last chunk
     pub body-done : chunksFrom Body c ≡ [] → Standing document set tab limit room′ margins count m′ (h .next)
@@ -320,10 +324,10 @@ module _ (document : List ℕ) (set : Settings) (tab limit : ℕ) (room margins 
         (write-end document set tab (length room) Body margin at (h .next) (take count margins) room′ m′ c v n) (omega (arith, v .column, v .short, far)) (v .skip)
 
     module _ (p : Piece) (d : Cursor) (t : Took Body c p d) (room″ : List ℕ) (m″ : Mark) (f : length room″ ≡ length room′)
-        (q : held room″ (take count margins) m″ ≡ (held room′ (take count margins) m′ >>= chunk length set (length room′) margin at (chunkOf Body p)))
+        (q : held room″ (take count margins) m″ ≡ (held room′ (take count margins) m′ >>= chunk (measureOf set) set (length room′) margin at (chunkOf Body p)))
         (near : Near (margin + 1_032_771) (m′ .lay) (m″ .lay)) where
-      here : held room″ (take count margins) m″ ≡ (held room′ (take count margins) m′ >>= chunk length set (length room) margin at (chunkOf Body p))
-      here = q ∙ ap (λ (n : ℕ). held room′ (take count margins) m′ >>= chunk length set n margin at (chunkOf Body p)) (v .size)
+      here : held room″ (take count margins) m″ ≡ (held room′ (take count margins) m′ >>= chunk (measureOf set) set (length room) margin at (chunkOf Body p))
+      here = q ∙ ap (λ (n : ℕ). held room′ (take count margins) m′ >>= chunk (measureOf set) set n margin at (chunkOf Body p)) (v .size)
 
       -- a paragraph with `full` off ends the walk of its body
       pub body-stop : last (set .full) (chunkOf Body p) ≡ true → Standing document set tab limit room″ margins count m″ (h .next)
@@ -337,29 +341,29 @@ module _ (document : List ℕ) (set : Settings) (tab limit : ℕ) (room margins 
       body-on b = write-on document set tab (length room) Body margin at (h .next) (take count margins) room′ m′ c v p d t room″ m″ f here near b margin-low
 
     -- a chunk was refused by 10
-    pub body-deep : (p : Piece) (d : Cursor) → Took Body c p d → (q : ℕ) → refused 10 q ≡ (held room′ (take count margins) m′ >>= chunk length set (length room′) margin at (chunkOf Body p))
+    pub body-deep : (p : Piece) (d : Cursor) → Took Body c p d → (q : ℕ) → refused 10 q ≡ (held room′ (take count margins) m′ >>= chunk (measureOf set) set (length room′) margin at (chunkOf Body p))
         → whole document set tab limit ≡ refused 10 q
     body-deep p d t q f =
         ap (whole document set tab) (sym (w .size))
         ∙ write-deep document set tab (length room) Body margin at (h .next) (take count margins) room′ m′ c v p d t q
-        (f ∙ ap (λ (n : ℕ). held room′ (take count margins) m′ >>= chunk length set n margin at (chunkOf Body p)) (v .size)) (last (set .full) (chunkOf Body p)) refl
+        (f ∙ ap (λ (n : ℕ). held room′ (take count margins) m′ >>= chunk (measureOf set) set n margin at (chunkOf Body p)) (v .size)) (last (set .full) (chunkOf Body p)) refl
 
 -- The last line end: what stands then, and the answer
 module _ (room room′ kept : List ℕ) (m m′ : Mark) (e : held room′ kept m′ ≡ (held room kept m >>= finish (length room))) (f : length room′ ≡ length room) where
   finished : (held room′ kept m′ >>= λ t. gives (t .out)) ≡ textAfter room kept m
   finished = ap (λ (x : Result State). x >>= λ t. gives (t .out)) e ∙ sym (bind-assoc (held room kept m) (finish (length room)) (λ t. gives (t .out)))
 
-  pub finish-over : length room′ < m′ .len → Stands room′ (rendered.Refused refusal.NoRoom) (textAfter room kept m)
+  pub finish-over : length room′ < m′ .len .0 → Stands room′ (rendered.Refused refusal.NoRoom) (textAfter room kept m)
   unfolding _>>=_
   finish-over h = record {
-    same = sym (sym finished ∙ ap (λ (x : Result State). x >>= λ t. gives (t .out)) (shown-out room′ (m′ .len) kept (m′ .lay) h));
+    same = sym (sym finished ∙ ap (λ (x : Result State). x >>= λ t. gives (t .out)) (shown-out room′ (m′ .len .0) kept (m′ .lay) h));
     fits = tt;
   }
 
-  pub finish-text : m′ .len ≤ length room′ → Stands room′ (rendered.Text (m′ .len)) (textAfter room kept m)
+  pub finish-text : m′ .len .0 ≤ length room′ → Stands room′ (rendered.Text (m′ .len .0)) (textAfter room kept m)
   unfolding _>>=_
   finish-text h = record {
-    same = sym (sym finished ∙ ap (λ (x : Result State). x >>= λ t. gives (t .out)) (shown-in room′ (m′ .len) kept (m′ .lay) h));
+    same = sym (sym finished ∙ ap (λ (x : Result State). x >>= λ t. gives (t .out)) (shown-in room′ (m′ .len .0) kept (m′ .lay) h));
     fits = h;
   }
 

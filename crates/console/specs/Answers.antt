@@ -6,14 +6,14 @@ use mathlib.Core.List.{List}
 use lib.ListN.{length, take}
 use Rattle.base.specs.Result.{Result, gives, _>>=_}
 use Rattle.utf8.specs.Utf8.{utf8}
-use Rattle.utf8.specs.White.{printing}
-use Rattle.document.specs.Document.{printingOrder}
-use Rattle.walk.specs.Rendered.{standing, Inside}
-use Rattle.walk.specs.declared.Rendered.{Rendered}
+use Rattle.white.specs.White.{printing}
+use Rattle.records.specs.Records.{printingOrder}
+use Rattle.renderer.specs.Rendered.{standing, Inside}
+use Rattle.renderer.specs.declared.Rendered.{Rendered}
 use Rattle.console_rules.specs.Console.{finish, console}
 use Rattle.console_rules.specs.declared.Settings.{Settings}
-use Rattle.console_parts.specs.Shown.{held}
-use Rattle.console_parts.specs.declared.Mark.{Mark}
+use Rattle.console_chunks.specs.Shown.{held}
+use Rattle.console_chunks.specs.declared.Mark.{Mark}
 
 -- what is left to do after the last record with what stands in a room
 abbrev pub textAfter : List ℕ → List ℕ → Mark → Result (List ℕ)

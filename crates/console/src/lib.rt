@@ -1,26 +1,32 @@
 // The console renderer (src/buffer/console.rs).
 ghost use mathlib.Core.Path.{_≡_};
 ghost use mathlib.Core.List.{List, []};
-ghost use Prim.Native.Nat.{ℕ, _≤_};
+ghost use Prim.Native.Nat.{ℕ, _+_, _≤_, _^_};
 ghost use lib.ListN.{length};
-ghost use Rattle.base.specs.Result.{gives, measured};
+ghost use Rattle.base.specs.Result.{gives, measured, _>>=_ as bind};
+ghost use Rattle.splitter.specs.Answers.{chunkOf, PieceWithin};
+ghost use Rattle.records.specs.Records.{tokens};
 ghost use Rattle.document.specs.Document.{check};
-ghost use Rattle.walk.specs.Rendered.{answered, filled};
-ghost use Rattle.console_rules.specs.Console.{blankLay, textBy, console};
+ghost use Rattle.renderer.specs.Rendered.{answered, filled};
+ghost use Rattle.console_rules.specs.Console.{blankLay, measureOf, chunk, textBy, console};
+ghost use Rattle.console_chunks.specs.Shown.{held, told, Nearby};
+ghost use Rattle.console_chunks.specs.Pieces.{textOr};
 ghost use Rattle.console.specs.Answers.{textAfter, Stands, Demand3, wide};
-use console_parts::Mark;
-use console_parts::Placed;
+use console_chunks::Mark;
+use console_chunks::Placed;
+use console_rules::Bytes;
 use console_rules::Columns;
 use console_rules::Lay;
 use console_rules::Settings;
 use document::Checked;
-use document::Kind;
-use document::Refusal;
+use records::Kind;
+use refusal::Refusal;
+use renderer::Rendered;
 use skip::Skip;
 use splitter::Code;
 use splitter::Cursor;
+use splitter::Piece;
 use splitter::Step;
-use walk::Rendered;
 
 // `Doc::monochrome`: the width is 100.
 pub fn monochrome(document: &[u8], full: bool, room: &mut [u8]) -> Rendered
@@ -38,7 +44,7 @@ pub fn render_console(document: &[u8], set: Settings, room: &mut [u8]) -> Render
     ensures demand3 { λ r. ⌜ Demand3 set (now (document .entry)) (now (room .entry)) (now (room .exit)) (answered r) ⌝ }
 {
     let answer = rendered(document, set, room);
-    walk::clear_after(room, answer);
+    renderer::clear_after(room, answer);
     answer
 }
 
@@ -56,18 +62,18 @@ fn rendered(document: &[u8], set: Settings, room: &mut [u8]) -> Rendered
     match verdict {
         Checked::Refused(a) => Rendered::Refused(a),
         Checked::Accepted => {
-            let tab = console_parts::tabstop_of(document);
-            text_of(document, set, tab, room)
+            let tab = console_tabstop::tabstop_of(document);
+            walk(document, set, tab, room)
         }
     }
 }
 
 // A mark before anything is written.
 fn first_mark() -> Mark
-    ensures { λ r. ⌜ (r .len ≡ 0) × (r .lay ≡ blankLay) ⌝ }
+    ensures { λ r. ⌜ (r .len .0 ≡ 0) × (r .lay ≡ blankLay) ⌝ }
 {
     Mark {
-        len: 0,
+        len: Bytes(0),
         lay: Lay {
             column: Columns(0),
             newline: false,
@@ -84,36 +90,78 @@ fn first_mark() -> Mark
 fn finish(room: &mut [u8], m: Mark) -> Rendered
     ensures { λ r. ⌜ ((kept : List ℕ) → Stands (now (room .exit)) r (textAfter (now (room .entry)) kept m)) ⌝ }
 {
-    let a = console_parts::last_line(room, m);
-    if room.len() < a.len {
+    let a = console_chunks::last_line(room, m);
+    if room.len() < a.len.0 {
         return Rendered::Refused(Refusal::NoRoom);
     }
-    Rendered::Text(a.len)
+    Rendered::Text(a.len.0)
+}
+
+// The text of a piece: a part of the body, or the space that is lent.
+fn text_or<'a>(body: &'a [u8], space: &'a [u8], piece: Piece) -> &'a [u8]
+    requires { ⌜ PieceWithin (length (now body)) piece ⌝ }
+    ensures { λ r. ⌜ now r ≡ textOr (now (body .entry)) (now (space .entry)) piece ⌝ }
+{
+    match piece {
+        Piece::Raw(from, to, _) => &body[from..to],
+        Piece::Space => space,
+        Piece::Paragraph => space,
+        Piece::LineBreak => space,
+    }
+}
+
+// A chunk of the body of the text record at `at`, at a margin: a piece as the splitter gives it.
+fn put_piece(
+    room: &mut [u8],
+    m: Mark,
+    margin: Columns,
+    at: usize,
+    body: &[u8],
+    piece: Piece,
+    set: Settings,
+) -> Placed
+    requires { ⌜ (m .lay .column .0 ≤ 2 ^ 50) × (margin .0 ≤ 2 ^ 50) × (length (now body) ≤ 32_768) × PieceWithin (length (now body)) piece ⌝ }
+    ensures { λ r. ⌜ ((kept : List ℕ) → told (now (room .exit)) kept r ≡ bind (held (now (room .entry)) kept m) (chunk (measureOf set) set (length (now (room .entry))) (margin .0) at (chunkOf (now (body .entry)) piece))) ⌝ }
+    ensures near { λ r. ⌜ Nearby (margin .0 + 1_032_771) (m .lay) r ⌝ }
+{
+    if console_chunks::is_text(piece) {
+        return console_chunks::place_chunk(
+            room,
+            m,
+            margin,
+            at,
+            text_or(body, b" ", piece),
+            console_chunks::width_of(piece),
+            set,
+        );
+    }
+    console_chunks::put_break(room, m, piece, set)
 }
 
 // The walk over the records of an accepted document.
-fn text_of(document: &[u8], set: Settings, tab: usize, room: &mut [u8]) -> Rendered
-    requires { ⌜ (length (now document) ≤ 32_768) × (tab ≤ 28) × (check (now document) ≡ gives []) ⌝ }
-    ensures { λ r. ⌜ Stands (now (room .exit)) r (textBy length set (length (now (room .entry))) tab (now (document .entry))) ⌝ }
+fn walk(document: &[u8], set: Settings, tab: Columns, room: &mut [u8]) -> Rendered
+    requires { ⌜ (length (now document) ≤ 32_768) × (tab .0 ≤ 28) × (check (now document) ≡ gives []) ⌝ }
+    ensures { λ r. ⌜ Stands (now (room .exit)) r (textBy (measureOf set) set (length (now (room .entry))) (tab .0) (tokens 0 0 (now (document .entry)))) ⌝ }
 {
     let mut margins: [usize; 32] = [0; 32];
     let mut count: usize = 0;
     let mut m = first_mark();
     let mut at: usize = 0;
     'records: while at < document.len() {
-        if room.len() < m.len {
+        if room.len() < m.len.0 {
             return Rendered::Refused(Refusal::NoRoom);
         }
-        let h = document::record_at(document, at);
+        let h = records::record_at(document, at);
         let place = at;
         let start = h.start;
+        let stop = h.stop;
         let next = h.next;
         let k = h.kind;
         at = next;
         match k {
             Kind::Unknown => {}
             Kind::Start(b) => {
-                let s = console_parts::started(
+                let s = console_blocks::started(
                     room,
                     &mut margins,
                     m,
@@ -127,7 +175,7 @@ fn text_of(document: &[u8], set: Settings, tab: usize, room: &mut [u8]) -> Rende
                 count = s.count;
             }
             Kind::End(b) => {
-                let s = console_parts::ended(room, m, count, b);
+                let s = console_blocks::ended(room, m, count, b);
                 m = s.mark;
                 count = s.count;
             }
@@ -136,20 +184,12 @@ fn text_of(document: &[u8], set: Settings, tab: usize, room: &mut [u8]) -> Rende
                 if Skip(lay.skip).enabled() {
                     continue 'records;
                 }
-                let margin = console_parts::top_margin(&margins, count);
-                let body = &document[start..next];
+                let margin = console_blocks::top_margin(&margins, count);
+                let body = &document[start..stop];
                 let mut from: usize = 0;
                 let mut code = Code::No;
                 'chunks: loop {
-                    let run = console_words::put_words(
-                        room,
-                        m,
-                        margin,
-                        body,
-                        from,
-                        code,
-                        set.width,
-                    );
+                    let run = console_words::put_words(room, m, margin, body, from, code, set);
                     m = run.mark;
                     from = run.at;
                     let Step::Take(piece, after) = splitter::step_at(
@@ -158,7 +198,7 @@ fn text_of(document: &[u8], set: Settings, tab: usize, room: &mut [u8]) -> Rende
                     ) else {
                         break 'chunks;
                     };
-                    let placed = console_parts::put_piece(room, m, margin, place, body, piece, set);
+                    let placed = put_piece(room, m, margin, place, body, piece, set);
                     match placed {
                         Placed::Deep(p) => {
                             return Rendered::Refused(Refusal::BeyondMargin(p));
@@ -167,7 +207,7 @@ fn text_of(document: &[u8], set: Settings, tab: usize, room: &mut [u8]) -> Rende
                             m = p;
                         }
                     }
-                    if walk::ends_body(piece, set.full) {
+                    if renderer::ends_body(piece, set.full) {
                         continue 'records;
                     }
                     from = after.at;

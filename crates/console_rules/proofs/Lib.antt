@@ -1,2 +1,3 @@
 pub mod PassedOver
+pub mod Misread
 pub mod Printed

@@ -6,8 +6,8 @@ use mathlib.Core.List.{List}
 use Rattle.base.specs.Result.{gives, _>>=_}
 use Rattle.base.proofs.Choice.{if-true}
 use Rattle.base.proofs.Stack.{popped-pushed}
-use Rattle.document.specs.declared.Block.the-variants as block
-use Rattle.walk.specs.Walk.{withKept, withLay}
+use Rattle.records.specs.declared.Block.the-variants as block
+use Rattle.renderer.specs.Walk.{withKept, withLay}
 use Rattle.console_rules.specs.Console.{State, gap, outdent, started, ended}
 
 -- the start and the end of a Block that is passed over leave text, margins and all that is due as they were

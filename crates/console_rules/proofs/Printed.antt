@@ -13,21 +13,23 @@ use Rattle.base.specs.Stack.{top}
 use Rattle.base.proofs.Choice.{pick, and-both}
 use Rattle.base.proofs.Results.{All, given, refusal, all-bind, is-given, always}
 use Rattle.utf8.specs.Utf8.{rowOf, table}
-use Rattle.utf8.specs.White.{whites, white, printing, blank, trim}
+use Rattle.white.specs.White.{whites, white, printing, blank, trim}
 use Rattle.utf8.proofs.Text.{Valid, valid-both}
-use Rattle.utf8.proofs.White.{printing-append, blank-valid, blank-printing, blank-join, empty-blank, trim-same, trim-shorter}
-use Rattle.document.specs.Document.{Token, tokens, short, adds, order, printingOrder}
-use Rattle.document.specs.declared.Block.{Block}
-use Rattle.document.specs.declared.Block.the-variants as block
-use Rattle.document.specs.declared.Kind.{Kind}
-use Rattle.document.specs.declared.Kind.the-variants as kind
+use Rattle.white.proofs.White.{printing-append, blank-valid, blank-printing, blank-join, empty-blank, trim-same, trim-shorter}
+use Rattle.records.specs.Records.{Token, tokens, adds, order, printingOrder}
+use Rattle.document.specs.Document.{short}
+use Rattle.records.specs.declared.Block.{Block}
+use Rattle.records.specs.declared.Block.the-variants as block
+use Rattle.records.specs.declared.Kind.{Kind}
+use Rattle.records.specs.declared.Kind.the-variants as kind
 use Rattle.document.proofs.Walks.{Sane, Sanes, check-sane}
 use Rattle.splitter.specs.Split.{Chunk, raw, paragraph, lineBreak, split}
 use Rattle.splitter.proofs.Say.{said, Sound, split-say}
 use Rattle.room.specs.Room.{extended}
-use Rattle.walk.specs.Walk.{withOut, withLay, write, skipStart, skipEnd}
-use Rattle.walk.proofs.Keeps.{walk-adds, body-says}
-use Rattle.console_rules.specs.Console.{State, column, initial, isSpace, lineEnd, dueLine, dueBlank, gap2, place, missing, reach, pad, put, fold, tick, outdent, started, ended, gapAhead, tabstop, rawChunk, chunk, turn, finish, narrow, consoleBy, console}
+use Rattle.renderer.specs.Walk.{withOut, withLay, write}
+use Rattle.skip.specs.Counter.{skipStart, skipEnd}
+use Rattle.renderer.proofs.Keeps.{walk-adds, body-says}
+use Rattle.console_rules.specs.Console.{State, column, initial, isSpace, lineEnd, dueLine, dueBlank, gap2, place, missing, reach, pad, put, fold, tick, outdent, started, ended, gapAhead, tabstop, rawChunk, chunk, turn, finish, narrow, measureOf, consoleBy, console}
 use Rattle.console_rules.specs.declared.Settings.{Settings}
 
 -- a text fits the room, is UTF-8 and prints some characters, and nothing is skipped
@@ -134,7 +136,7 @@ module _ (room : ℕ) where
   unskipped x y k n h e = record { fit = h .fit; valid = h .valid; shown = h .shown; kept = e }
 
   started-shows : (tab : ℕ) (b : Block) (g : Bool) (p : ℕ) (y x : List ℕ) (s : State) → Shows room x s
-      → All (Shows room (x ++ adds (record { place = p; kind = kind.Start b; body = y }))) (started room tab b g s)
+      → All (Shows room (x ++ adds (kind.Start b) y)) (started room tab b g s)
   unfolding if_then_else_ started adds skipStart
   started-shows tab block.Header g p y x s h = same x _ h
   started-shows tab block.Section2 g p y x s h = same x _ h
@@ -150,7 +152,7 @@ module _ (room : ℕ) where
   started-shows tab block.Mono g p y x s h = same x s h
 
   ended-shows : (b : Block) (p : ℕ) (y x : List ℕ) (s : State) → Shows room x s
-      → All (Shows room (x ++ adds (record { place = p; kind = kind.End b; body = y }))) (ended room b s)
+      → All (Shows room (x ++ adds (kind.End b) y)) (ended room b s)
   unfolding if_then_else_ ended adds skipEnd
   ended-shows block.Header p y x s h = same x _ h
   ended-shows block.Section2 p y x s h = same x _ h
@@ -184,7 +186,7 @@ module _ (measure : List ℕ → ℕ) (set : Settings) (room : ℕ) where
     chunk-shows margin p paragraph x s v h = all-bind (Shows room x) _ _ _ (lineEnd-shows room x s h) λ s₁ h₁. rw full (same room x s₁ h₁)
 
     turn-shows : (tab p : ℕ) (k : Kind) (y : List ℕ) (ts : List Token) (x : List ℕ) (s : State) → Sane k y → Shows room x s
-        → All (Shows room (x ++ adds (record { place = p; kind = k; body = y }))) (turn measure set room tab p k y ts s)
+        → All (Shows room (x ++ adds k y)) (turn measure set room tab p k y ts s)
     unfolding turn adds
     turn-shows tab p (kind.Text st) y ts x s v h =
         pick (All (Shows room (x ++ printing y))) _ (λ e. absurd (false≢true (rw (h .kept) at e)))
@@ -218,11 +220,11 @@ consoleBy-prints measure set room s t full e =
     given (k .fit, k .valid, k .shown) in
     is-given (rw e at h)
 
--- and at the crate's own measure
+-- and at the measure that the settings name
 pub console-prints : (set : Settings) (room : ℕ) (s t : List ℕ) → set .full ≡ true → console set room s ≡ gives t
     → (length t ≤ room) × (Valid t) × (printing t ≡ printingOrder s)
 unfolding console
-console-prints set room s t full e = consoleBy-prints length set room s t full e
+console-prints set room s t full e = consoleBy-prints (measureOf set) set room s t full e
 
 -- Two widths at which one document is accepted give the same printing characters in the same order.
 pub widths-print-the-same : (first second : Settings) (room other : ℕ) (s t u : List ℕ) → first .full ≡ true → second .full ≡ true

@@ -9,14 +9,16 @@ use Rattle.base.specs.Bytes.{endsWith}
 use Rattle.base.specs.Result.{Result, gives, refused, _>>=_}
 use Rattle.base.specs.Stack.{top, pushed, popped}
 use Rattle.utf8.specs.Utf8.{characters}
-use Rattle.utf8.specs.White.{trim}
-use Rattle.document.specs.Document.{Token, index, tokens, check, short}
-use Rattle.document.specs.declared.Block.{Block}
-use Rattle.document.specs.declared.Block.the-variants as block
-use Rattle.document.specs.declared.Kind.{Kind}
-use Rattle.document.specs.declared.Kind.the-variants as kind
+use Rattle.white.specs.White.{trim}
+use Rattle.records.specs.Records.{Token, index, tokens, isStart, isEnd}
+use Rattle.document.specs.Document.{check, short}
+use Rattle.records.specs.declared.Block.{Block}
+use Rattle.records.specs.declared.Block.the-variants as block
+use Rattle.records.specs.declared.Kind.{Kind}
+use Rattle.records.specs.declared.Kind.the-variants as kind
 use Rattle.splitter.specs.Split.{Chunk, raw, paragraph, lineBreak, split}
-use Rattle.walk.specs.Walk.{Page, withOut, withKept, withLay, write, empty, hides, skipParagraph, skipStart, skipEnd, isStart, isEnd, Turn, walk, body}
+use Rattle.renderer.specs.Walk.{Page, withOut, withKept, withLay, write, empty, Turn, walk, body}
+use Rattle.skip.specs.Counter.{hides, skipParagraph, skipStart, skipEnd}
 use Rattle.console_rules.specs.declared.Settings.{Settings}
 use Rattle.console_rules.specs.declared.Columns.{Columns}
 use Rattle.console_rules.specs.declared.Bytes.{Bytes}
@@ -91,7 +93,7 @@ blankLine l = record { column = l .column; newline = l .newline; blank = true; g
 abbrev pub gutter : Bool → Lay → Lay
 gutter x l = record { column = l .column; newline = l .newline; blank = l .blank; gutter = x; skip = l .skip; gap = l .gap; passing = l .passing }
 
--- nothing is due any more
+-- nothing is due any more: 'pending_newline = false; pending_blank_line = false; pending_margin = false', as a chunk is printed
 abbrev pub settled : Lay → Lay
 settled l = record { column = l .column; newline = false; blank = false; gutter = false; skip = l .skip; gap = l .gap; passing = l .passing }
 
@@ -109,7 +111,11 @@ isSpace [] = false
 isSpace (b ∷ []) = eqb b 0x20
 isSpace (b ∷ c ∷ s) = false
 
--- 'The fold test .. adds columns so far to the chunk's bytes'
+-- What a chunk counts for in the fold test, by the settings: 'the chunk's bytes'. It is said here alone: the rules below leave it open.
+abbrev pub measureOf : Settings → List ℕ → ℕ
+measureOf set x = length x
+
+-- 'The fold test .. adds columns so far to' it
 abbrev pub folds : ℕ → Columns → Bytes → Bool
 folds width c n = ltb width (c .0 + n .0)
 
@@ -119,14 +125,17 @@ module _ (room : ℕ) where
   unfoldable pub lineEnd : State → Result State
   lineEnd s = write room (0x0A ∷ []) (withLay (column 0) s)
 
-  -- a line end that is due, unless the text ends with one, and then a blank line that is due, unless it ends with two
+  -- a line end that is due, unless the text ends with one: 'if (pending_newline || pending_blank_line) && !res.ends_with('\n')', and
+  -- 'char_pos = 0'
   unfoldable pub dueLine : State → Result State
   dueLine s = if (s .lay .newline || s .lay .blank) && not (endsWith (0x0A ∷ []) (s .out)) then lineEnd s else gives s
 
+  -- a blank line that is due, unless the text ends with two line ends: 'if pending_blank_line && !res.ends_with("\n\n")'
   unfoldable pub dueBlank : State → Result State
   dueBlank s = if s .lay .blank && not (endsWith (0x0A ∷ 0x0A ∷ []) (s .out)) then write room (0x0A ∷ []) s else gives s
 
-  -- at least two columns before an item's body that starts at column 28, the widest tabstop, or past it; some are written already
+  -- at least two columns before an item's body that starts at column 28, the widest tabstop, or past it; some are written already:
+  -- 'if pending_margin && char_pos >= MAX_TAB + 4 && pushed < 2'
   unfoldable pub gap2 : ℕ → State → Result State
   gap2 written s =
       if s .lay .gutter && leb 28 (s .lay .column .0) && ltb written 2
@@ -143,6 +152,7 @@ module _ (room : ℕ) where
     abbrev pub missing : State → ℕ
     missing s = margin - s .lay .column .0
 
+    -- spaces up to it: 'if let Some(missing) = margin.checked_sub(char_pos)', and 'char_pos = margin'
     unfoldable pub reach : State → Result State
     reach s = write room (replicate (missing s) 0x20) (withLay (λ l. column (max (l .column .0) margin) l) s)
 
@@ -204,7 +214,7 @@ module _ (room : ℕ) where
   ended block.Meta s = gives (outdent s)
   ended block.Mono s = gives (outdent s)
 
-  -- The end: a line end or a blank line that is still due is one line end.
+  -- The end: a line end or a blank line that is still due is one line end: 'if pending_newline || pending_blank_line'.
   unfoldable pub finish : State → Result State
   finish s = if s .lay .newline || s .lay .blank then write room (0x0A ∷ []) s else gives s
 
@@ -236,9 +246,13 @@ module _ (measure : List ℕ → ℕ) (set : Settings) (room : ℕ) where
   turn tab p (kind.End b) x ts s = ended room b s
   turn tab p kind.Unknown x ts s = gives s
 
-  -- the text of a document that is accepted, with its tabstop
-  abbrev pub textBy : ℕ → List ℕ → Result (List ℕ)
-  textBy tab s = walk (turn tab) (tokens 0 0 s) initial >>= finish room >>= λ t. gives (t .out)
+  -- the text of some records, with a tabstop
+  abbrev pub textBy : ℕ → List Token → Result (List ℕ)
+  textBy tab ts = walk (turn tab) ts initial >>= finish room >>= λ t. gives (t .out)
+
+  -- the text of some records, whatever form they are stored in
+  abbrev pub consoleOn : List Token → Result (List ℕ)
+  consoleOn ts = textBy (tabstop ts) ts
 
   -- the text, or the refusal: 'Order: 1, 9, then record by record 2 to 7, then 8; then the first of 10 to 13 that the walk meets'
   unfoldable pub consoleBy : List ℕ → Result (List ℕ)
@@ -246,8 +260,7 @@ module _ (measure : List ℕ → ℕ) (set : Settings) (room : ℕ) where
       short s >>= λ _.
       narrow (set .width) >>= λ _.
       check s >>= λ _.
-      textBy (tabstop (tokens 0 0 s)) s
+      consoleOn (tokens 0 0 s)
 
--- the crate's own measure: bytes
 unfoldable pub console : Settings → ℕ → List ℕ → Result (List ℕ)
-console set room s = consoleBy length set room s
+console set room s = consoleBy (measureOf set) set room s

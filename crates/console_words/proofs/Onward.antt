@@ -15,12 +15,12 @@ use Rattle.base.proofs.Choice.{if-false, le-or-lt}
 use Rattle.splitter.specs.Split.{raw}
 use Rattle.splitter.specs.declared.Code.{Code}
 use Rattle.splitter.specs.declared.Code.the-variants as code
-use Rattle.walk.specs.Walk.{page, withLay, empty}
-use Rattle.console_rules.specs.Console.{State, column, settled, reach, place, put, rawChunk, chunk}
+use Rattle.renderer.specs.Walk.{page, withLay, empty}
+use Rattle.console_rules.specs.Console.{State, column, settled, measureOf, reach, place, put, rawChunk, chunk}
 use Rattle.console_rules.specs.declared.Settings.{Settings}
 use Rattle.console_rules.specs.declared.Lay.{Lay}
-use Rattle.console_parts.proofs.Chunks.{line-idle, blank-idle, gap-no, put-near, empty-some}
-use Rattle.console_parts.specs.declared.Mark.{Mark}
+use Rattle.console_chunks.proofs.Chunks.{line-idle, blank-idle, gap-no, put-near, empty-some}
+use Rattle.console_chunks.specs.declared.Mark.{Mark}
 use Rattle.console_words.specs.Onward.{Quiet, Task, fullOf, ruleOf, Plain, Onward, Ready, Ahead, Moves}
 use Rattle.words.specs.Copies.{Copies}
 use Rattle.words.proofs.Follow.{write-in}
@@ -57,70 +57,73 @@ module _ (limit margin p : ℕ) (x : List ℕ) (w : ℕ) (kept : List ℕ) (lay 
       put-near limit here margin p x w (omega (arith, q .reached))
       ∙ rw (reach-there, gap-no limit here (margin - lay .column .0) (q .gutter)) place-there
 
-  pub raw-there : (set : Settings) → empty out ≡ false → lay .column .0 + length x ≤ set .width → rawChunk length set limit margin p x w here ≡ gives after
+  -- whatever it counts for
+  pub raw-there : (measure : List ℕ → ℕ) (set : Settings) → empty out ≡ false → lay .column .0 + measure x ≤ set .width
+      → rawChunk measure set limit margin p x w here ≡ gives after
   unfolding rawChunk _>>=_
-  raw-there set e k =
+  raw-there measure set e k =
       if-false _ _ e
       ∙ rw (line-idle limit here (rw (q .newline, q .blank)), blank-idle limit here (q .blank))
-      (if-false _ _ (le-ltb (set .width) (lay .column .0 + length x) k) ∙ put-there)
+      (if-false _ _ (le-ltb (set .width) (lay .column .0 + measure x) k) ∙ put-there)
 
 -- One word after another.
 
 column-same : (col : ℕ) (lay : Lay) → lay .column .0 ≡ col → column col lay ≡ lay
 column-same col lay e = rw (← e) refl
 
-pub onward-start : (width : ℕ) (x old : List ℕ) (len col at : ℕ) → 0 < len → len ≤ length old → Onward width x old len col at old len col at
-onward-start width x old len col at h k = record {
+pub onward-start : (set : Settings) (x old : List ℕ) (len col at : ℕ) → 0 < len → len ≤ length old → Onward set x old len col at old len col at
+onward-start set x old len col at h k = record {
   some = h;
   inside = k;
   grows = omega arith;
   near = omega arith;
-  words = words-start fullOf ruleOf (Plain width col) x old len at (column col) (λ t lay p. column-same col lay (p .here));
+  words = words-start (fullOf set) (ruleOf set) (Plain col) x old len at (column col) (λ t lay p. column-same col lay (p .here));
 }
 
-module _ (width : ℕ) (x old : List ℕ) (len col at : ℕ) (new : List ℕ) (len′ col′ at′ : ℕ) (o : Onward width x old len col at new len′ col′ at′)
+module _ (set : Settings) (x old : List ℕ) (len col at : ℕ) (new : List ℕ) (len′ col′ at′ : ℕ) (o : Onward set x old len col at new len′ col′ at′)
     (new′ : List ℕ) (w : Word) (c : Copies x at′ len′ new new′ w) (size : length new′ ≡ length new) where
   -- a word that does not count
-  pub onward-same : Onward width x old len col at new′ len′ col′ at′
+  pub onward-same : Onward set x old len col at new′ len′ col′ at′
   onward-same = record {
     some = o .some;
     inside = o .inside;
     grows = o .grows;
     near = o .near;
-    words = words-same fullOf ruleOf (Plain width col) x old len at (column col′) new len′ at′ (o .words) new′ w c size;
+    words = words-same (fullOf set) (ruleOf set) (Plain col) x old len at (column col′) new len′ at′ (o .words) new′ w c size;
   }
 
-  -- a word that fits
-  module _ (h : at′ < w .to) (thin : col′ + (w .to - at′) ≤ width) where
+  -- a word that fits, with what it counts for
+  module _ (h : at′ < w .to) (n : ℕ) (counts : (y : List ℕ) → length y ≡ w .to - at′ → n ≡ measureOf set y) (thin : col′ + n ≤ set .width) where
     abbrev text : List ℕ
     text = part x at′ (w .to)
 
     long : length text ≡ w .to - at′
-    long = word-length fullOf ruleOf (Plain width col) x old len at (column col′) new len′ at′ (o .words) new′ w c size h
+    long = word-length (fullOf set) (ruleOf set) (Plain col) x old len at (column col′) new len′ at′ (o .words) new′ w c size h
 
     quiet-on : (margin : ℕ) (lay : Lay) → Quiet margin lay → lay .column .0 ≡ col → Quiet margin (column col′ lay)
     quiet-on margin lay q d = record { newline = q .newline; blank = q .blank; gutter = q .gutter; reached = omega (arith, q .reached, o .grows) }
 
-    word-there : (t : Task) (kept : List ℕ) (lay : Lay) → Plain width col t lay
-        → ruleOf t (length new) (raw text (w .width)) (page kept (column col′ lay) (take len′ new)) ≡ gives (page kept (column (col′ + w .width) lay) (take len′ new ++ text))
+    word-there : (t : Task) (kept : List ℕ) (lay : Lay) → Plain col t lay
+        → ruleOf set t (length new) (raw text (w .width)) (page kept (column col′ lay) (take len′ new)) ≡ gives (page kept (column (col′ + w .width) lay) (take len′ new ++ text))
     unfolding chunk
     word-there t kept lay p =
-        let n : length (take len′ new) ≡ len′ = length-take-le len′ new (omega (arith, c .fits h)) in
-        raw-there (length new) (t .margin) (t .place) text (w .width) kept (column col′ lay) (take len′ new) (quiet-on (t .margin) lay (p .quiet) (p .here)) (omega (arith, c .fits h, long)) (t .set)
-        (empty-some new len′ (λ z. omega (arith, o .some)) (omega (arith, c .fits h))) (omega (arith, long, p .wide))
+        let k : length (take len′ new) ≡ len′ = length-take-le len′ new (omega (arith, c .fits h)) in
+        raw-there (length new) (t .margin) (t .place) text (w .width) kept (column col′ lay) (take len′ new) (quiet-on (t .margin) lay (p .quiet) (p .here))
+        (omega (arith, c .fits h, long)) (measureOf set) set
+        (empty-some new len′ (λ z. omega (arith, o .some)) (omega (arith, c .fits h))) (omega (arith, counts text long))
 
-    pub onward-next : Onward width x old len col at new′ (len′ + (w .to - at′)) (col′ + w .width) (w .to)
+    pub onward-next : Onward set x old len col at new′ (len′ + (w .to - at′)) (col′ + w .width) (w .to)
     onward-next = record {
       some = omega (arith, o .some);
       inside = omega (arith, c .fits h, o .words .size);
       grows = omega (arith, o .grows);
       near = omega (arith, o .near, o .words .order, c .narrow h);
-      words = words-next fullOf ruleOf (Plain width col) x old len at (column col′) new len′ at′ (o .words) new′ w c size h (column (col′ + w .width)) word-there;
+      words = words-next (fullOf set) (ruleOf set) (Plain col) x old len at (column col′) new len′ at′ (o .words) new′ w c size h (column (col′ + w .width)) word-there;
     }
 
 -- Where a word would follow at once.
 
-pub ready-if : (room : List ℕ) (m : Mark) (margin : ℕ) (c : Code) → (m .len ≡ 0 → ⊥) → m .len ≤ length room → m .lay .newline ≡ false → m .lay .blank ≡ false → m .lay .gutter ≡ false → c ≡ code.No
+pub ready-if : (room : List ℕ) (m : Mark) (margin : ℕ) (c : Code) → (m .len .0 ≡ 0 → ⊥) → m .len .0 ≤ length room → m .lay .newline ≡ false → m .lay .blank ≡ false → m .lay .gutter ≡ false → c ≡ code.No
     → Ahead room m margin c (leb margin (m .lay .column .0))
 ready-if room m margin c h k n b g e =
     ⊎-elim
@@ -133,20 +136,20 @@ pub ready : (room : List ℕ) (m : Mark) (margin : ℕ) (c : Code) (b : Bool) �
 ready room m margin c true e r = r
 ready room m margin c false e r = absurd (false≢true e)
 
-module _ (width margin : ℕ) (x : List ℕ) (c : Code) (old : List ℕ) (m : Mark) (at : ℕ) where
+module _ (set : Settings) (margin : ℕ) (x : List ℕ) (c : Code) (old : List ℕ) (m : Mark) (at : ℕ) where
   -- nothing moved
-  pub moves-none : Moves width margin x c old m at old m at
-  moves-none = record { order = omega arith; within = λ l. l; near = omega arith; skip = refl; same = λ set p kept e. refl }
+  pub moves-none : Moves set margin x c old m at old m at
+  moves-none = record { order = omega arith; within = λ l. l; near = omega arith; skip = refl; same = λ p kept. refl }
 
   -- words followed
-  pub moves-on : Ready old m margin c → (new : List ℕ) (len col at′ : ℕ) → Onward width x old (m .len) (m .lay .column .0) at new len col at′
-      → Moves width margin x c old m at new (record { len = len; lay = column col (m .lay) }) at′
+  pub moves-on : Ready old m margin c → (new : List ℕ) (len col at′ : ℕ) → Onward set x old (m .len .0) (m .lay .column .0) at new len col at′
+      → Moves set margin x c old m at new (record { len = record { 0 = len }; lay = column col (m .lay) }) at′
   moves-on r new len col at′ o = record {
     order = o .words .order;
     within = o .words .within;
     near = o .near;
     skip = refl;
-    same = λ set p kept e.
+    same = λ p kept.
         rw (r .outside)
-        (o .words .same (record { set = set; margin = margin; place = p }) kept (m .lay) (record { wide = e; quiet = r .quiet; here = refl }));
+        (o .words .same (record { margin = margin; place = p }) kept (m .lay) (record { quiet = r .quiet; here = refl }));
   }

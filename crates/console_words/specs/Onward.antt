@@ -9,17 +9,17 @@ use Rattle.splitter.specs.Split.{Chunk}
 use Rattle.splitter.specs.Answers.{chunksFrom, cursor}
 use Rattle.splitter.specs.declared.Code.{Code}
 use Rattle.splitter.specs.declared.Code.the-variants as code
-use Rattle.walk.specs.Walk.{body}
+use Rattle.renderer.specs.Walk.{body}
 use Rattle.words.specs.Onward as words
-use Rattle.console_rules.specs.Console.{State, column, chunk}
+use Rattle.console_rules.specs.Console.{State, column, measureOf, chunk}
 use Rattle.console_rules.specs.declared.Settings.{Settings}
 use Rattle.console_rules.specs.declared.Lay.{Lay}
-use Rattle.console_parts.specs.Shown.{held}
-use Rattle.console_parts.specs.declared.Mark.{Mark}
+use Rattle.console_chunks.specs.Shown.{held}
+use Rattle.console_chunks.specs.declared.Mark.{Mark}
 
 -- the chunks of a body from a cursor on, as the console writes them
 abbrev pub onward : Settings → ℕ → ℕ → ℕ → List ℕ → ℕ → Code → State → Result State
-onward set limit margin place x at c = body (set .full) (chunk length set limit margin place) (chunksFrom x (cursor at c))
+onward set limit margin place x at c = body (set .full) (chunk (measureOf set) set limit margin place) (chunksFrom x (cursor at c))
 
 -- nothing is due, and no column is missing to the margin
 pub record Quiet (margin : ℕ) (l : Lay) : Type 0 where
@@ -28,36 +28,34 @@ pub record Quiet (margin : ℕ) (l : Lay) : Type 0 where
   pub gutter : l .gutter ≡ false
   pub reached : margin ≤ l .column .0
 
--- what the console is asked for at a chunk: the settings, the margin, the place of the text record
+-- what a chunk is written by, beside the settings: the margin, and the place of the text record
 pub record Task : Type 0 where
-  pub set : Settings
   pub margin : ℕ
   pub place : ℕ
 
-abbrev pub fullOf : Task → Bool
-fullOf t = t .set .full
+abbrev pub fullOf : Settings → Task → Bool
+fullOf set t = set .full
 
-abbrev pub ruleOf : Task → ℕ → Chunk → State → Result State
-ruleOf t limit = chunk length (t .set) limit (t .margin) (t .place)
+abbrev pub ruleOf : Settings → Task → ℕ → Chunk → State → Result State
+ruleOf set t limit = chunk (measureOf set) set limit (t .margin) (t .place)
 
--- nothing is due at a width, and this is the column
-pub record Plain (width col : ℕ) (t : Task) (l : Lay) : Type 0 where
-  pub wide : t .set .width ≡ width
+-- nothing is due, and this is the column
+pub record Plain (col : ℕ) (t : Task) (l : Lay) : Type 0 where
   pub quiet : Quiet (t .margin) l
   pub here : l .column .0 ≡ col
 
 -- Words went on from one place to another, and the column with them.
-pub record Onward (width : ℕ) (x : List ℕ) (old : List ℕ) (len col at : ℕ) (new : List ℕ) (len′ col′ at′ : ℕ) : Type 0 where
+pub record Onward (set : Settings) (x : List ℕ) (old : List ℕ) (len col at : ℕ) (new : List ℕ) (len′ col′ at′ : ℕ) : Type 0 where
   pub some : 0 < len′
   pub inside : len′ ≤ length old
   pub grows : col ≤ col′
   pub near : col′ ≤ col + (at′ - at)
-  pub words : words.Onward fullOf ruleOf (Plain width col) (column col′) x old len at new len′ at′
+  pub words : words.Onward (fullOf set) (ruleOf set) (Plain col) (column col′) x old len at new len′ at′
 
 -- a word would follow at once
 pub record Ready (room : List ℕ) (m : Mark) (margin : ℕ) (c : Code) : Type 0 where
-  pub some : 0 < m .len
-  pub inside : m .len ≤ length room
+  pub some : 0 < m .len .0
+  pub inside : m .len .0 ≤ length room
   pub quiet : Quiet margin (m .lay)
   pub outside : c ≡ code.No
 
@@ -66,10 +64,10 @@ Ahead room m margin c true = Ready room m margin c
 Ahead room m margin c false = Unit {0}
 
 -- The chunks from the new place on give what those from the old one did; the column went on by as much as the place at most.
-pub record Moves (width margin : ℕ) (x : List ℕ) (c : Code) (old : List ℕ) (m : Mark) (at : ℕ) (new : List ℕ) (m′ : Mark) (at′ : ℕ) : Type 0 where
+pub record Moves (set : Settings) (margin : ℕ) (x : List ℕ) (c : Code) (old : List ℕ) (m : Mark) (at : ℕ) (new : List ℕ) (m′ : Mark) (at′ : ℕ) : Type 0 where
   pub order : at ≤ at′
   pub within : at ≤ length x + 1 → at′ ≤ length x + 1
   pub near : m′ .lay .column .0 ≤ m .lay .column .0 + (at′ - at)
   pub skip : m′ .lay .skip ≡ m .lay .skip
-  pub same : (set : Settings) (place : ℕ) (kept : List ℕ) → set .width ≡ width
+  pub same : (place : ℕ) (kept : List ℕ)
       → (held new kept m′ >>= onward set (length old) margin place x at′ c) ≡ (held old kept m >>= onward set (length old) margin place x at c)

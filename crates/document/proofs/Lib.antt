@@ -1,5 +1,3 @@
-pub mod Tokens
-pub mod Tables
-pub mod Reading
+pub mod Refusals
 pub mod Opening
 pub mod Walks

@@ -1,45 +1,37 @@
 -- The refusals of one record, as the code finds them on a stack kept in an array. Assumes nothing.
-use Prim.Native.Nat.{ℕ, suc, _+_, _-_, _≤_, _<_}
+use Prim.Native.Nat.{ℕ, suc, min, _+_, _-_, _≤_, _<_}
 use mathlib.Core.Path.{_≡_, sym, ap, _∙_, subst}
 use mathlib.Core.Bool.{true, false}
+use mathlib.Core.Logic.{⊎-elim}
 use mathlib.Core.List.{List, []}
 use lib.Dec.{leb}
-use lib.ListN.{length, take, drop, getD, set, length-drop}
-use lib.Seq.{length-take-le, drop-cons}
+use lib.ListN.{length, take, drop, getD, set, length-take}
+use lib.Seq.{length-take-le, take-all, drop-cons, set-out}
 use native.Mathlib.Omega.{arith}
 use borrow.Author.Tests.{le-leb, lt-leb, le-ltb, lt-ltb, eq-eqb, ne-eqb}
 use Rattle.base.specs.Bytes.{part}
 use Rattle.base.specs.Choice.{if_then_else_}
 use Rattle.base.specs.Result.{Result, gives, refused, _>>=_}
+use Rattle.base.proofs.Choice.{if-true, if-false, le-or-lt}
 use Rattle.base.proofs.Stack.{push-take, pop-take, top-take}
 use Rattle.utf8.specs.Utf8.{utf8}
-use Rattle.document.specs.Document.{Token, little, index, size, fits, opens, closes, bodiless, accept, first, reads, openBlocks, short, closed, check}
-use Rattle.document.specs.Answers.{refusalNumber, refusalPlace, openedAs, Read}
-use Rattle.document.specs.Parts.{turnAs, depthOf}
-use Rattle.document.specs.declared.Head.{Head}
+use Rattle.records.specs.Records.{Token, index, fits}
+use Rattle.document.specs.Document.{opens, closes, bodiless, accept, first, reads, openBlocks, short, closed, check}
+use Rattle.refusal.specs.Numbers.{refusalNumber, refusalPlace}
+use Rattle.document.specs.Answers.{openedAs, turnAs, depthOf, putOn}
+use Rattle.records.specs.Answers.{Read}
+use Rattle.records.specs.declared.Head.{Head}
 use Rattle.document.specs.declared.Turn.{Turn}
 use Rattle.document.specs.declared.Turn.the-variants as turn
-use Rattle.document.specs.declared.Refusal.{Refusal}
+use Rattle.refusal.specs.declared.Refusal.{Refusal}
 use Rattle.document.specs.declared.Opened.{Opened}
 use Rattle.document.specs.declared.Checked.the-variants as checked
-use Rattle.document.specs.declared.Kind.{Kind}
-use Rattle.document.specs.declared.Kind.the-variants as kind
-use Rattle.document.specs.declared.Style.{Style}
-use Rattle.document.specs.declared.Block.{Block}
-use Rattle.document.specs.declared.Block.the-variants as block
-use Rattle.document.proofs.Tokens.{reads-at-gives, reads-at-refused}
-use Rattle.document.proofs.Reading.{read-token}
-
--- 2
-
-module _ (s : List ℕ) (at : ℕ) where
-  pub fits-short : length s < at + 6 → false ≡ fits (drop at s)
-  unfolding fits
-  fits-short h = rw (lt-leb 6 (length (drop at s)) (omega (arith, length-drop at s)))
-
-  pub fits-by : (n : ℕ) → at + 6 ≤ length s → n ≡ little (take 4 (drop at s)) → leb n (length s - at - 6) ≡ fits (drop at s)
-  unfolding fits size
-  fits-by n h e = rw (length-drop at s, le-leb 6 (length s - at) (omega arith), ← e)
+use Rattle.records.specs.declared.Kind.{Kind}
+use Rattle.records.specs.declared.Kind.the-variants as kind
+use Rattle.records.specs.declared.Style.{Style}
+use Rattle.records.specs.declared.Block.{Block}
+use Rattle.document.proofs.Refusals.{reads-at-gives, reads-at-refused}
+use Rattle.records.proofs.Reading.{read-token}
 
 -- 4
 
@@ -53,40 +45,46 @@ body-some s a e p r h l = let z : e - a ≡ suc (e - a - 1) = omega arith in rw 
 
 -- 6 and 7
 
-pub index-small : (b : Block) → index b < 12
-index-small block.Header = omega arith
-index-small block.Section2 = omega arith
-index-small block.Section3 = omega arith
-index-small block.Section4 = omega arith
-index-small block.ItemTerm = omega arith
-index-small block.ItemBody = omega arith
-index-small block.DefinitionList = omega arith
-index-small block.Block = omega arith
-index-small block.InlineBlock = omega arith
-index-small block.TermRef = omega arith
-index-small block.Meta = omega arith
-index-small block.Mono = omega arith
+-- of a stack with no more than so many blocks all are open
+pub take-capped : (stack : List ℕ) (depth n : ℕ) → n ≡ min depth (length stack) → take n stack ≡ take depth stack
+take-capped stack depth n e =
+    ⊎-elim (λ (h : depth ≤ length stack). let f : n ≡ depth = omega arith in rw f)
+    (λ (h : length stack < depth). take-all n stack (omega arith) ∙ sym (take-all depth stack (omega arith)))
+    (le-or-lt depth (length stack))
 
-module _ (stack : List ℕ) (depth i p : ℕ) (h : depth ≤ length stack) where
-  pub opens-deep : 32 ≤ depth → refused 7 p ≡ opens p i (take depth stack)
+module _ (stack : List ℕ) (depth i p : ℕ) where
+  pub opens-deep : 32 ≤ length stack → 32 ≤ depth → refused 7 p ≡ opens p i (take depth stack)
   unfolding opens if_then_else_
-  opens-deep l = rw (length-take-le depth stack h, le-leb 32 depth l)
+  opens-deep m l = rw (length-take depth stack, le-leb 32 (min depth (length stack)) (omega arith))
 
-  pub opens-more : depth < 32 → depth < length stack → gives (take (depth + 1) (set stack depth i)) ≡ opens p i (take depth stack)
-  unfolding opens if_then_else_
-  opens-more l m = rw (length-take-le depth stack h, lt-leb 32 depth l) (ap gives (push-take stack depth i m))
+  pub put-deep : 32 ≤ depth → stack ≡ putOn stack depth i
+  unfolding putOn
+  put-deep l = sym (if-false _ _ (le-ltb depth 32 l))
 
-  pub closes-none : depth < 1 → refused 6 p ≡ closes p i (take depth stack)
-  unfolding closes if_then_else_
-  closes-none l = rw (length-take-le depth stack h, lt-leb 1 depth l)
+  pub put-past : depth < 32 → length stack ≤ depth → stack ≡ putOn stack depth i
+  unfolding putOn
+  put-past l m = sym (if-true _ _ (lt-ltb depth 32 l) ∙ set-out stack depth i m)
 
-  pub closes-other : 1 ≤ depth → (getD stack (depth - 1) 0 ≡ i → ⊥) → refused 6 p ≡ closes p i (take depth stack)
-  unfolding closes if_then_else_
-  closes-other l n = rw (length-take-le depth stack h, le-leb 1 depth l, top-take stack depth l h, ne-eqb _ i n)
+  pub put-more : depth < 32 → set stack depth i ≡ putOn stack depth i
+  unfolding putOn
+  put-more l = sym (if-true _ _ (lt-ltb depth 32 l))
 
-  pub closes-same : 1 ≤ depth → getD stack (depth - 1) 0 ≡ i → gives (take (depth - 1) stack) ≡ closes p i (take depth stack)
-  unfolding closes if_then_else_
-  closes-same l e = rw (length-take-le depth stack h, le-leb 1 depth l, top-take stack depth l h, eq-eqb _ i e) (ap gives (pop-take stack depth h))
+  module _ (h : depth ≤ length stack) where
+    pub opens-more : depth < 32 → depth < length stack → gives (take (depth + 1) (set stack depth i)) ≡ opens p i (take depth stack)
+    unfolding opens if_then_else_
+    opens-more l m = rw (length-take-le depth stack h, lt-leb 32 depth l) (ap gives (push-take stack depth i m))
+
+    pub closes-none : depth < 1 → refused 6 p ≡ closes p i (take depth stack)
+    unfolding closes if_then_else_
+    closes-none l = rw (length-take-le depth stack h, lt-leb 1 depth l)
+
+    pub closes-other : 1 ≤ depth → (getD stack (depth - 1) 0 ≡ i → ⊥) → refused 6 p ≡ closes p i (take depth stack)
+    unfolding closes if_then_else_
+    closes-other l n = rw (length-take-le depth stack h, le-leb 1 depth l, top-take stack depth l h, ne-eqb _ i n)
+
+    pub closes-same : 1 ≤ depth → getD stack (depth - 1) 0 ≡ i → gives (take (depth - 1) stack) ≡ closes p i (take depth stack)
+    unfolding closes if_then_else_
+    closes-same l e = rw (length-take-le depth stack h, le-leb 1 depth l, top-take stack depth l h, eq-eqb _ i e) (ap gives (pop-take stack depth h))
 
 -- a record by its kind
 
@@ -138,16 +136,16 @@ module _ (s : List ℕ) (at : ℕ) (stack : List ℕ) (l : at < length s) where
   reads-cut e = reads-at-refused s at stack 2 at l (rw e)
 
   module _ {h : Head} (r : Read s at h) (f : fits (drop at s) ≡ true) where
-    pub first-read : first at stack (drop at s) ≡ accept at (h .kind) (part s (h .start) (h .next)) stack
+    pub first-read : first at stack (drop at s) ≡ accept at (h .kind) (part s (h .start) (h .stop)) stack
     unfolding first if_then_else_
     first-read = rw f (ap (λ (t : Token). accept at (t .kind) (t .body) stack) (read-token r l))
 
-    pub reads-on : {after : List ℕ} → accept at (h .kind) (part s (h .start) (h .next)) stack ≡ gives after
+    pub reads-on : {after : List ℕ} → accept at (h .kind) (part s (h .start) (h .stop)) stack ≡ gives after
         → reads at 0 stack (drop at s) ≡ reads (h .next) 0 after (drop (h .next) s)
     reads-on {after} e =
         reads-at-gives s at stack after l (first-read ∙ e) ∙ ap (λ (n : ℕ). reads n 0 after (drop n s)) (sym (r .whole l f .1))
 
-    pub reads-refused : {n p : ℕ} → accept at (h .kind) (part s (h .start) (h .next)) stack ≡ refused n p → reads at 0 stack (drop at s) ≡ refused n p
+    pub reads-refused : {n p : ℕ} → accept at (h .kind) (part s (h .start) (h .stop)) stack ≡ refused n p → reads at 0 stack (drop at s) ≡ refused n p
     reads-refused {n} {p} e = reads-at-refused s at stack n p l (first-read ∙ e)
 
 -- 1 and 8

@@ -15,18 +15,22 @@ use Rattle.base.specs.Stack.{top, pushed, popped}
 use Rattle.base.proofs.Choice.{and-left, and-right}
 use Rattle.base.proofs.Stack.{length-pushed, length-popped, push-take, pop-take, top-take}
 use Rattle.utf8.proofs.Text.{Valid}
-use Rattle.document.specs.Document.{Token, index, size, tokenAt, tokens, fits, opens, closes, bodiless, accept, first, reads, openBlocks, short, closed, check}
-use Rattle.document.specs.Answers.{refusalNumber, refusalPlace, verdictOf, Read}
-use Rattle.document.specs.declared.Kind.{Kind}
-use Rattle.document.specs.declared.Kind.the-variants as kind
-use Rattle.document.specs.declared.Style.{Style}
-use Rattle.document.specs.declared.Block.{Block}
-use Rattle.document.specs.declared.Head.{Head}
-use Rattle.document.specs.declared.Refusal.{Refusal}
+use Rattle.records.specs.Records.{Token, index, size, tokenAt, tokens, fits}
+use Rattle.document.specs.Document.{opens, closes, bodiless, accept, first, reads, openBlocks, short, closed, check}
+use Rattle.refusal.specs.Numbers.{refusalNumber, refusalPlace}
+use Rattle.document.specs.Answers.{verdictOf}
+use Rattle.records.specs.Answers.{Read}
+use Rattle.records.specs.declared.Kind.{Kind}
+use Rattle.records.specs.declared.Kind.the-variants as kind
+use Rattle.records.specs.declared.Style.{Style}
+use Rattle.records.specs.declared.Block.{Block}
+use Rattle.records.specs.declared.Head.{Head}
+use Rattle.refusal.specs.declared.Refusal.{Refusal}
 use Rattle.document.specs.declared.Checked.{Checked}
 use Rattle.document.specs.declared.Checked.the-variants as checked
 use Rattle.base.proofs.Results.{All, all-given, refused-gives, gives-same, bind-gives, if-gives, else-gives}
-use Rattle.document.proofs.Tokens.{nextAt, reads-at, reads-end}
+use Rattle.records.proofs.Tokens.{nextAt}
+use Rattle.document.proofs.Refusals.{reads-at, reads-end}
 use Rattle.document.proofs.Opening.{first-read}
 
 -- One record
@@ -171,11 +175,11 @@ module _ {left document : List ℕ} {at : ℕ} {stack : List ℕ} {h : Head} (o 
   pub open-whole : (h .start ≡ at + 6) × (h .next ≡ nextAt document at)
   open-whole = r .whole l open-fits
 
-  accepted : Sane (h .kind) (part document (h .start) (h .next)) × Allowed (h .kind) stack × (passed .0 ≡ openAfter (h .kind) stack)
+  accepted : Sane (h .kind) (part document (h .start) (h .stop)) × Allowed (h .kind) stack × (passed .0 ≡ openAfter (h .kind) stack)
   accepted =
-      accept-gives at (h .kind) (part document (h .start) (h .next)) stack (passed .0) (sym (first-read document at stack l r open-fits) ∙ passed .1)
+      accept-gives at (h .kind) (part document (h .start) (h .stop)) stack (passed .0) (sym (first-read document at stack l r open-fits) ∙ passed .1)
 
-  pub open-sane-here : Sane (h .kind) (part document (h .start) (h .next))
+  pub open-sane-here : Sane (h .kind) (part document (h .start) (h .stop))
   open-sane-here = accepted .0
 
   pub open-allowed : Allowed (h .kind) stack
@@ -196,16 +200,16 @@ module _ {left document : List ℕ} {at : ℕ} {stack : List ℕ} {h : Head} (o 
   -- by the kind that the code found
 
   pub open-known : h .kind ≡ kind.Unknown → ⊥
-  open-known e = subst (λ (k : Kind). Sane k (part document (h .start) (h .next))) e open-sane-here
+  open-known e = subst (λ (k : Kind). Sane k (part document (h .start) (h .stop))) e open-sane-here
 
-  pub text-valid : {st : Style} → h .kind ≡ kind.Text st → Valid (part document (h .start) (h .next))
-  text-valid e = subst (λ (k : Kind). Sane k (part document (h .start) (h .next))) e open-sane-here
+  pub text-valid : {st : Style} → h .kind ≡ kind.Text st → Valid (part document (h .start) (h .stop))
+  text-valid e = subst (λ (k : Kind). Sane k (part document (h .start) (h .stop))) e open-sane-here
 
   pub text-next : {st : Style} → h .kind ≡ kind.Text st → Open-at left document (h .next) stack
   text-next e = subst (λ (k : Kind). Open-at left document (h .next) (openAfter k stack)) e open-next
 
-  pub start-empty : {b : Block} → h .kind ≡ kind.Start b → part document (h .start) (h .next) ≡ []
-  start-empty e = subst (λ (k : Kind). Sane k (part document (h .start) (h .next))) e open-sane-here
+  pub start-empty : {b : Block} → h .kind ≡ kind.Start b → part document (h .start) (h .stop) ≡ []
+  start-empty e = subst (λ (k : Kind). Sane k (part document (h .start) (h .stop))) e open-sane-here
 
   pub start-room : {b : Block} → h .kind ≡ kind.Start b → length stack < 32
   start-room e = subst (λ (k : Kind). Allowed k stack) e open-allowed
@@ -213,8 +217,8 @@ module _ {left document : List ℕ} {at : ℕ} {stack : List ℕ} {h : Head} (o 
   pub start-next : {b : Block} → h .kind ≡ kind.Start b → Open-at left document (h .next) (pushed (index b) stack)
   start-next e = subst (λ (k : Kind). Open-at left document (h .next) (openAfter k stack)) e open-next
 
-  pub end-empty : {b : Block} → h .kind ≡ kind.End b → part document (h .start) (h .next) ≡ []
-  end-empty e = subst (λ (k : Kind). Sane k (part document (h .start) (h .next))) e open-sane-here
+  pub end-empty : {b : Block} → h .kind ≡ kind.End b → part document (h .start) (h .stop) ≡ []
+  end-empty e = subst (λ (k : Kind). Sane k (part document (h .start) (h .stop))) e open-sane-here
 
   pub end-top : {b : Block} → h .kind ≡ kind.End b → (1 ≤ length stack) × (top stack ≡ index b)
   end-top e = subst (λ (k : Kind). Allowed k stack) e open-allowed

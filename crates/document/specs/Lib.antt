@@ -1,4 +1,2 @@
 pub mod Document
 pub mod Answers
-pub mod Parts
-pub mod Stored

@@ -1,6 +1,6 @@
 // Reads a document from standard input and prints its full console text for width 100, or one refusal line.
-use document::Refusal;
-use walk::Rendered;
+use refusal::Refusal;
+use renderer::Rendered;
 
 // How many bytes were read, or that a read failed.
 enum Input {
@@ -43,13 +43,13 @@ fn print_refusal(a: Refusal) -> bool {
     if !io::write_all(libc::STDOUT_FILENO, b"refused ") {
         return false;
     }
-    if !io::print_decimal(libc::STDOUT_FILENO, document::refusal_number(a) as u64) {
+    if !io::print_decimal(libc::STDOUT_FILENO, refusal::refusal_number(a) as u64) {
         return false;
     }
     if !io::write_all(libc::STDOUT_FILENO, b" at ") {
         return false;
     }
-    if !io::print_decimal(libc::STDOUT_FILENO, document::refusal_place(a) as u64) {
+    if !io::print_decimal(libc::STDOUT_FILENO, refusal::refusal_place(a) as u64) {
         return false;
     }
     io::write_all(libc::STDOUT_FILENO, b"\n")

@@ -11,21 +11,23 @@ use Rattle.base.specs.Stack.{pushed, popped}
 use Rattle.base.proofs.Choice.{if-true, if-false}
 use Rattle.base.proofs.Results.{bind-assoc, bind-same, bind-end}
 use Rattle.room.specs.Room.{extended}
-use Rattle.document.specs.Document.{Token, index}
-use Rattle.document.specs.declared.Style.{Style}
-use Rattle.document.specs.declared.Style.the-variants as style
-use Rattle.document.specs.declared.Block.{Block}
-use Rattle.document.specs.declared.Kind.the-variants as kind
+use Rattle.records.specs.Records.{Token, index}
+use Rattle.records.specs.declared.Style.{Style}
+use Rattle.records.specs.declared.Style.the-variants as style
+use Rattle.records.specs.declared.Block.{Block}
+use Rattle.records.specs.declared.Kind.the-variants as kind
 use Rattle.splitter.specs.Split.{Chunk, raw, paragraph, lineBreak, split}
-use Rattle.walk.specs.Walk.{withOut, withLay, page, write, hides, skipStart, skipEnd, last, body}
+use Rattle.renderer.specs.Walk.{withOut, withLay, page, write, last, body}
+use Rattle.skip.specs.Counter.{hides, skipStart, skipEnd}
 use Rattle.html_rules.specs.Marks.{separated}
 use Rattle.html_rules.specs.Html.{State, styled, skip, inList, startTag, endTag, br, change, blankLine, tagged, enter, leave, chunk, turn, finish}
 use Rattle.html_rules.specs.declared.Html.{Html}
-use Rattle.html_parts.proofs.Lifts.{lift, lift-then, refuses}
-use Rattle.html.specs.Parts.{chunkText, closed, headed, blockText}
+use Rattle.html_rules.proofs.Lifts.{lift, lift-then, refuses}
+use Rattle.html_tags.specs.Parts.{chunkText, closed, headed, blockText}
 
 module _ (limit p : ℕ) (b : Block) (tag : List ℕ) where
-  header : (s : State) (c : Bool) → ((if c then blankLine limit s else gives s) >>= write limit tag) ≡ lift (λ x. (if c then separated limit br x else gives x) >>= extended limit tag) s
+  header : (s : State) (c : Bool) → ((if c then blankLine limit s else gives s) >>= write limit tag) ≡ lift
+      (λ x. (if c then separated limit br x else gives x) >>= extended limit tag) s
   unfolding blankLine write if_then_else_ _>>=_
   header s true = lift-then (separated limit br) s (extended limit tag)
   header s false = refl
@@ -35,7 +37,8 @@ module _ (limit p : ℕ) (b : Block) (tag : List ℕ) where
     block-is : (index b ≡ 10 → ⊥) → (lift (closed limit st) s >>= tagged limit p b tag) ≡ lift (blockText limit st b tag) s
     unfolding tagged headed blockText
     block-is n =
-        bind-same (lift (closed limit st) s) (tagged limit p b tag) (lift (headed limit b tag)) (λ t. if-false _ _ (ne-eqb (index b) 10 n) ∙ header t (eqb (index b) 0))
+        bind-same (lift (closed limit st) s) (tagged limit p b tag) (lift (headed limit b tag))
+        (λ t. if-false _ _ (ne-eqb (index b) 10 n) ∙ header t (eqb (index b) 0))
         ∙ lift-then (closed limit st) s (headed limit b tag)
 
     -- Meta
@@ -61,8 +64,10 @@ module _ (limit : ℕ) (strict full : Bool) (p : ℕ) (y : List ℕ) (ts : List 
         → turn limit strict full p (kind.Start b) y ts here ≡ (blockText limit (lay .style) b (startTag (inList kept) b) x >>= λ z. gives (entered z))
     unfolding turn change write enter _>>=_
     start-is n =
-        ap (λ (r : Result State). r >>= λ s₁. gives (enter limit b s₁)) (block-is limit p b (startTag (inList kept) b) (lay .style) (withLay (styled style.Text) here) n)
-        ∙ sym (bind-assoc (blockText limit (lay .style) b (startTag (inList kept) b) x) (λ z. gives (withOut z (withLay (styled style.Text) here))) (λ s₁. gives (enter limit b s₁)))
+        ap (λ (r : Result State). r >>= λ s₁. gives (enter limit b s₁)) (block-is limit p b (startTag (inList kept) b) (lay .style)
+        (withLay (styled style.Text) here) n)
+        ∙ sym (bind-assoc (blockText limit (lay .style) b (startTag (inList kept) b) x) (λ z. gives (withOut z (withLay (styled style.Text) here)))
+        (λ s₁. gives (enter limit b s₁)))
 
     pub end-is : (index b ≡ 10 → ⊥)
         → turn limit strict full p (kind.End b) y ts here ≡ (blockText limit (lay .style) b (endTag (inList (popped kept)) b) x >>= λ z. gives (left z))
@@ -72,7 +77,8 @@ module _ (limit : ℕ) (strict full : Bool) (p : ℕ) (y : List ℕ) (ts : List 
     pub start-meta : index b ≡ 10 → turn limit strict full p (kind.Start b) y ts here ≡ (closed limit (lay .style) x >>= λ _. refused 11 p)
     unfolding turn change write
     start-meta e =
-        ap (λ (r : Result State). r >>= λ s₁. gives (enter limit b s₁)) (meta-is limit p b (startTag (inList kept) b) (lay .style) (withLay (styled style.Text) here) e)
+        ap (λ (r : Result State). r >>= λ s₁. gives (enter limit b s₁)) (meta-is limit p b (startTag (inList kept) b) (lay .style)
+        (withLay (styled style.Text) here) e)
         ∙ refuses (closed limit (lay .style) x) 11 p (λ s₁. gives (enter limit b s₁))
 
     pub end-meta : index b ≡ 10 → turn limit strict full p (kind.End b) y ts here ≡ (closed limit (lay .style) x >>= λ _. refused 11 p)
@@ -85,7 +91,8 @@ module _ (limit : ℕ) (strict full : Bool) (p : ℕ) (y : List ℕ) (ts : List 
     unfolding turn
     hidden-is h = if-true _ _ h
 
-    pub text-is : hides (lay .skip) ≡ false → turn limit strict full p (kind.Text st) y ts here ≡ (change limit st here >>= body full (chunk limit strict full) (split y))
+    pub text-is : hides (lay .skip) ≡ false → turn limit strict full p (kind.Text st) y ts here
+        ≡ (change limit st here >>= body full (chunk limit strict full) (split y))
     unfolding turn
     text-is h = if-false _ _ h
 

@@ -5,40 +5,43 @@ use mathlib.Core.Bool.{Bool, true, false}
 use mathlib.Core.List.{List, [], _++_}
 use lib.ListN.{length, take, set}
 use native.Mathlib.Omega.{arith}
+use borrow.Author.Tests.{eqb-true, eqb-false}
 use Rattle.base.specs.Bytes.{part}
 use Rattle.base.specs.Result.{Result, gives, refused, _>>=_}
 use Rattle.base.specs.Stack.{pushed, popped}
 use Rattle.base.proofs.Results.{bind-assoc, bind-same, bind-end}
 use Rattle.base.proofs.Stack.{push-take, pop-take}
 use Rattle.room.specs.Room.{extended, seen}
-use Rattle.document.specs.Document.{index, tokens, tokensFrom, check}
-use Rattle.document.specs.Answers.{Read}
-use Rattle.document.specs.declared.Style.{Style}
-use Rattle.document.specs.declared.Style.the-variants as style
-use Rattle.document.specs.declared.Block.{Block}
-use Rattle.document.specs.declared.Kind.{Kind}
-use Rattle.document.specs.declared.Kind.the-variants as kind
-use Rattle.document.specs.declared.Head.{Head}
+use Rattle.records.specs.Records.{index, tokens, tokensFrom}
+use Rattle.document.specs.Document.{check}
+use Rattle.records.specs.Answers.{Read}
+use Rattle.records.specs.declared.Style.{Style}
+use Rattle.records.specs.declared.Style.the-variants as style
+use Rattle.records.specs.declared.Block.{Block}
+use Rattle.records.specs.declared.Kind.{Kind}
+use Rattle.records.specs.declared.Kind.the-variants as kind
+use Rattle.records.specs.declared.Head.{Head}
 use Rattle.document.proofs.Walks.{Accepted-at, accepted-at-0, check-gives, open-known, text-next, array-start, array-end}
 use Rattle.splitter.specs.Split.{split}
 use Rattle.splitter.specs.Answers.{chunkOf, chunksFrom, start}
 use Rattle.splitter.specs.declared.Cursor.{Cursor}
 use Rattle.splitter.specs.declared.Piece.{Piece}
 use Rattle.splitter.proofs.Answers.{Took}
-use Rattle.walk.specs.Walk.{page, withLay, write, shown, hides, skipParagraph, skipStart, skipEnd, last, walk}
+use Rattle.renderer.specs.Walk.{page, withLay, write, shown, last, walk, body}
+use Rattle.skip.specs.Counter.{hides, skipParagraph, skipStart, skipEnd}
 use Rattle.skip.specs.Answers.{held}
 use Rattle.skip.proofs.Counter.{held-fits, skip-start-most, skip-end-most}
-use Rattle.walk.proofs.Shown.{shown-in, shown-then, shown-write, shown-changed}
-use Rattle.walk.proofs.Leads.{Leads, leads-start, chunksThen}
+use Rattle.renderer.proofs.Shown.{shown-in, shown-then, shown-write, shown-changed}
+use Rattle.renderer.proofs.Leads.{Leads, leads-start, chunksThen}
 use Rattle.html_rules.specs.Html.{State, plain, initial, styled, skip, inList, opening, closing, startTag, endTag, change, chunk, turn, finish}
 use Rattle.html_rules.specs.declared.Html.{Html}
-use Rattle.html_parts.proofs.Rest as walking
-use Rattle.html_parts.proofs.Rest.{chunks-on, chunks-stop, chunks-done}
-use Rattle.html_parts.proofs.Writes.{wrote-then}
-use Rattle.html.specs.Parts.{chunkText, closed, blockText}
+use Rattle.html_marks.specs.Parts.{isMeta}
+use Rattle.html_rules.proofs.Rest as walking
+use Rattle.html_rules.proofs.Rest.{chunks-on, chunks-stop, chunks-done}
+use Rattle.html_tags.specs.Parts.{tags as allTags, chunkText, closed, blockText}
 use Rattle.html.proofs.Turns.{start-is, end-is, start-meta, end-meta, hidden-is, text-is, finish-is, chunk-on, chunk-last}
 
-module _ (limit : ℕ) (strict full : Bool) (sheet document : List ℕ) where
+module _ (limit : ℕ) (strict full : Bool) (sheet tags document : List ℕ) where
   -- the records from a place on, and the end
   abbrev rest : ℕ → State → Result (List ℕ)
   rest = walking.rest (turn limit strict full) (finish limit sheet) document
@@ -48,6 +51,7 @@ module _ (limit : ℕ) (strict full : Bool) (sheet document : List ℕ) where
 
   -- where a record is read next
   pub record On (room : List ℕ) (at len : ℕ) (lay : Html) (stack : List ℕ) (depth : ℕ) : Type 0 where
+    pub table : tags ≡ allTags
     pub opened : Accepted-at document at (take depth stack)
     pub long : length stack ≡ 32
     pub low : depth ≤ 32
@@ -56,8 +60,9 @@ module _ (limit : ℕ) (strict full : Bool) (sheet document : List ℕ) where
     pub short : length document ≤ 32_768
     pub leads : Leads whole (rest at) (shown room len (take depth stack) lay)
 
-  pub on-start : (room stack : List ℕ) → length room ≡ limit → length stack ≡ 32 → check document ≡ gives [] → On room 0 0 plain stack 0
-  on-start room stack s l e = record {
+  pub on-start : (room stack : List ℕ) → tags ≡ allTags → length room ≡ limit → length stack ≡ 32 → check document ≡ gives [] → On room 0 0 plain stack 0
+  on-start room stack t s l e = record {
+    table = t;
     opened = accepted-at-0 document [] e;
     long = l;
     low = omega arith;
@@ -69,6 +74,7 @@ module _ (limit : ℕ) (strict full : Bool) (sheet document : List ℕ) where
 
   -- the chunks of a body from a cursor on are left, and then the records from a place on
   pub record InBody (room : List ℕ) (at len : ℕ) (lay : Html) (kept y : List ℕ) (c : Cursor) : Type 0 where
+    pub few : lay .skip ≤ at
     pub leads : Leads whole (chunksThen full (chunk limit strict full) (rest at) (chunksFrom y c)) (shown room len kept lay)
 
   -- a chunk that goes on
@@ -76,6 +82,7 @@ module _ (limit : ℕ) (strict full : Bool) (sheet document : List ℕ) where
       → {p : Piece} {d : Cursor} → Took y c p d → (new : List ℕ) (n : ℕ) → length room ≡ limit → last full (chunkOf y p) ≡ false
       → seen new n ≡ (seen room len >>= extended (length room) (chunkText strict (chunkOf y p))) → InBody new at n lay kept y d
   body-on {room} {at} {len} {lay} {kept} {y} {c} i {p} t new n s e w = record {
+    few = i .few;
     leads = chunks-on full (chunk limit strict full) (rest at) whole y c (shown room len kept lay) (i .leads) t (shown new n kept lay)
         (shown-write (λ s. s) kept kept lay lay (λ x. refl) limit room new len n (chunkText strict (chunkOf y p))
         (w ∙ ap (λ (m : ℕ). seen room len >>= extended m (chunkText strict (chunkOf y p))) s)
@@ -91,15 +98,12 @@ module _ (limit : ℕ) (strict full : Bool) (sheet document : List ℕ) where
     on-out h = walking.rest-out (turn limit strict full) (finish limit sheet) document whole at room len kept lay (o .leads) h
 
     -- no record is left
-    pub on-end : (old new : List ℕ) (n r : ℕ) (told : Result (List ℕ)) → length document ≤ at → length old ≡ length room
-        → told ≡ seen new r → seen old n ≡ (seen room len >>= extended (length room) (closing (lay .style) ++ opening style.Text))
-        → seen new r ≡ (seen old n >>= extended (length old) sheet) → told ≡ whole
-    on-end old new n r told h k t e f =
+    pub on-end : (told : Result (List ℕ)) → length document ≤ at
+        → (tags ≡ allTags → told ≡ (seen room len >>= λ x. closed (length room) (lay .style) x >>= extended (length room) sheet)) → told ≡ whole
+    on-end told h w =
         walking.rest-end (turn limit strict full) (finish limit sheet) document whole at room len kept lay (o .leads) told
         (λ x. closed limit (lay .style) x >>= extended limit sheet) h (λ x. finish-is limit strict full at [] [] kept lay x sheet)
-        (wrote-then room old len n (closed limit (lay .style)) (extended limit sheet) told
-        (e ∙ ap (λ (m : ℕ). seen room len >>= extended m (closing (lay .style) ++ opening style.Text)) (o .same))
-        (t ∙ f ∙ ap (λ (m : ℕ). seen old n >>= extended m sheet) (k ∙ o .same)))
+        (w (o .table) ∙ ap (λ (m : ℕ). seen room len >>= λ x. closed m (lay .style) x >>= extended m sheet) (o .same))
 
     -- a record was read here
     module _ {h : Head} (r : Read document at h) (l : at < length document) where
@@ -109,40 +113,60 @@ module _ (limit : ℕ) (strict full : Bool) (sheet document : List ℕ) where
       further : at + 1 ≤ h .next
       further = walking.further (turn limit strict full) (finish limit sheet) document whole at room len kept lay (o .leads) r l
 
-      by-kind : (k : Kind) → h .kind ≡ k → (s : State) → Turned s ≡ turn limit strict full at k (part document (h .start) (h .next)) (tokensFrom document (h .next)) s
+      by-kind : (k : Kind) → h .kind ≡ k → (s : State) → Turned s ≡ turn limit strict full at k (part document (h .start) (h .stop))
+          (tokensFrom document (h .next)) s
       by-kind = walking.by-kind (turn limit strict full) (finish limit sheet) document whole at room len kept lay (o .leads) r l
 
       -- a block's text
-      tagged : (b : Block) (new tag : List ℕ) (n : ℕ) (tag′ : List ℕ) → seen new n ≡ (seen room len >>= blockText (length room) (lay .style) b tag) → tag ≡ tag′
+      tagged : (b : Block) (new tag : List ℕ) (n : ℕ) (tag′ : List ℕ) → tag ≡ tag′
+          → (tags ≡ allTags → seen new n ≡ (seen room len >>= blockText (length room) (lay .style) b tag))
           → seen new n ≡ (seen room len >>= blockText limit (lay .style) b tag′)
-      tagged b new tag n tag′ w e =
-          w ∙ ap (λ (c : ℕ). seen room len >>= blockText c (lay .style) b tag) (o .same) ∙ ap (λ (y : List ℕ). seen room len >>= blockText limit (lay .style) b y) e
+      tagged b new tag n tag′ e w =
+          w (o .table)
+          ∙ ap (λ (c : ℕ). seen room len >>= blockText c (lay .style) b tag) (o .same)
+          ∙ ap (λ (y : List ℕ). seen room len >>= blockText limit (lay .style) b y) e
 
       -- a turn that meets 11
       meta : (told : Result (List ℕ)) → ((x : List ℕ) → Turned (page kept lay x) ≡ (closed limit (lay .style) x >>= λ _. refused 11 at))
-          → told ≡ (seen room len >>= λ x. closed (length room) (lay .style) x >>= λ _. refused 11 at) → told ≡ whole
+          → (tags ≡ allTags → told ≡ (seen room len >>= λ x. closed (length room) (lay .style) x >>= λ _. refused 11 at)) → told ≡ whole
       meta told t w =
-          walking.turn-refuses (turn limit strict full) (finish limit sheet) document whole at room len kept lay (o .leads) r l (closed limit (lay .style)) told t
-          (w ∙ ap (λ (c : ℕ). seen room len >>= λ x. closed c (lay .style) x >>= λ _. refused 11 at) (o .same))
+          walking.turn-refuses (turn limit strict full) (finish limit sheet) document whole at room len kept lay (o .leads) r l (closed limit (lay .style))
+          told t
+          (w (o .table) ∙ ap (λ (c : ℕ). seen room len >>= λ x. closed c (lay .style) x >>= λ _. refused 11 at) (o .same))
 
       pub on-unknown : {A : Type 0} → h .kind ≡ kind.Unknown → A
       on-unknown e = absurd (open-known (o .opened) r l e)
+
+      -- Meta
+      pub on-meta : (told : Result (List ℕ)) → isMeta (h .kind) ≡ true
+          → (tags ≡ allTags → told ≡ (seen room len >>= λ x. closed (length room) (lay .style) x >>= λ _. refused 11 at)) → told ≡ whole
+      on-meta told t w = go (h .kind) refl t
+        where
+          go : (k : Kind) → h .kind ≡ k → isMeta k ≡ true → told ≡ whole
+          go (kind.Text s) e t = cc
+          go (kind.Start b) e t =
+              meta told (λ x. by-kind (kind.Start b) e (page kept lay x) ∙ start-meta limit strict full at _ _ kept lay x b (eqb-true (index b) 10 t)) w
+          go (kind.End b) e t =
+              meta told (λ x. by-kind (kind.End b) e (page kept lay x) ∙ end-meta limit strict full at _ _ kept lay x b (eqb-true (index b) 10 t)) w
+          go kind.Unknown e t = cc
 
       module _ {b : Block} where
         -- a block that is not Meta starts
         pub on-start-low : h .kind ≡ kind.Start b → depth < 32
         on-start-low e = array-start stack depth (o .long) (o .low) (o .opened) r l e .0
 
-        pub on-entered : (new stack′ tag : List ℕ) (n k i : ℕ) (listed : Bool) → h .kind ≡ kind.Start b → i ≡ index b → (i ≡ 10 → ⊥) → length new ≡ length room
-            → listed ≡ inList kept → tag ≡ startTag listed b → seen new n ≡ (seen room len >>= blockText (length room) (lay .style) b tag)
+        pub on-entered : (new stack′ : List ℕ) (n k : ℕ) → h .kind ≡ kind.Start b → isMeta (h .kind) ≡ false → length new ≡ length room
+            → (tags ≡ allTags → seen new n ≡ (seen room len >>= blockText (length room) (lay .style) b (startTag (inList kept) b)))
             → stack′ ≡ set stack depth (index b) → length stack′ ≡ length stack → k ≡ held (lay .skip) (skipStart b (lay .skip))
             → On new (h .next) n (record { style = style.Text; skip = k }) stack′ (depth + 1)
-        on-entered new stack′ tag n k i listed e q m s u g w v z f =
+        on-entered new stack′ n k e m s w v z f =
             let d = array-start stack depth (o .long) (o .low) (o .opened) r l e in
             let most = skip-start-most b (lay .skip) in
             let j : k ≡ skipStart b (lay .skip) = f ∙ held-fits (lay .skip) (skipStart b (lay .skip)) (omega (arith, o .few, o .short)) in
-            let t : take (depth + 1) stack′ ≡ pushed (index b) kept = ap (take (depth + 1)) v ∙ push-take stack depth (index b) (omega (arith, d .0, o .long)) in
+            let t : take (depth + 1) stack′ ≡ pushed (index b) kept = ap (take (depth + 1)) v ∙ push-take stack depth (index b) (omega (arith, d .0, o .long))
+            in
             record {
+              table = o .table;
               opened = subst (λ (x : List ℕ). Accepted-at document (h .next) (take (depth + 1) x)) (sym v) (d .1);
               long = z ∙ o .long;
               low = omega (arith, d .0);
@@ -153,22 +177,23 @@ module _ (limit : ℕ) (strict full : Bool) (sheet document : List ℕ) where
                   (walking.turn-leads (turn limit strict full) (finish limit sheet) document whole at room len kept lay (o .leads) r l
                   (blockText limit (lay .style) b (startTag (inList kept) b)) new n _ _
                   (λ x. by-kind (kind.Start b) e (page kept lay x)
-                  ∙ start-is limit strict full at _ _ kept lay x b (λ c. m (q ∙ c)))
-                  (tagged b new tag n _ w (g ∙ ap (λ (c : Bool). startTag c b) u)));
+                  ∙ start-is limit strict full at _ _ kept lay x b (eqb-false (index b) 10 (ap isMeta (sym e) ∙ m)))
+                  (tagged b new _ n _ refl w));
             }
 
         -- it ends
         pub on-end-low : h .kind ≡ kind.End b → 1 ≤ depth
         on-end-low e = array-end stack depth (o .long) (o .low) (o .opened) r l e .0
 
-        pub on-left : (new tag : List ℕ) (n k i : ℕ) (listed : Bool) → h .kind ≡ kind.End b → i ≡ index b → (i ≡ 10 → ⊥) → length new ≡ length room
-            → listed ≡ inList (take (depth - 1) stack) → tag ≡ endTag listed b → seen new n ≡ (seen room len >>= blockText (length room) (lay .style) b tag)
+        pub on-left : (new : List ℕ) (n k : ℕ) → h .kind ≡ kind.End b → isMeta (h .kind) ≡ false → length new ≡ length room
+            → (tags ≡ allTags → seen new n ≡ (seen room len >>= blockText (length room) (lay .style) b (endTag (inList (take (depth - 1) stack)) b)))
             → k ≡ skipEnd b (lay .skip) → On new (h .next) n (record { style = style.Text; skip = k }) stack (depth - 1)
-        on-left new tag n k i listed e q m s u g w f =
+        on-left new n k e m s w f =
             let d = array-end stack depth (o .long) (o .low) (o .opened) r l e in
             let most = skip-end-most b (lay .skip) in
             let t : take (depth - 1) stack ≡ popped kept = pop-take stack depth (omega (arith, o .low, o .long)) in
             record {
+              table = o .table;
               opened = d .2;
               long = o .long;
               low = omega (arith, o .low);
@@ -179,28 +204,16 @@ module _ (limit : ℕ) (strict full : Bool) (sheet document : List ℕ) where
                   (walking.turn-leads (turn limit strict full) (finish limit sheet) document whole at room len kept lay (o .leads) r l
                   (blockText limit (lay .style) b (endTag (inList (popped kept)) b)) new n _ _
                   (λ x. by-kind (kind.End b) e (page kept lay x)
-                  ∙ end-is limit strict full at _ _ kept lay x b (λ c. m (q ∙ c)))
-                  (tagged b new tag n _ w (g ∙ ap (λ (c : Bool). endTag c b) u ∙ ap (λ (y : List ℕ). endTag (inList y) b) t)));
+                  ∙ end-is limit strict full at _ _ kept lay x b (eqb-false (index b) 10 (ap isMeta (sym e) ∙ m)))
+                  (tagged b new _ n _ (ap (λ (y : List ℕ). endTag (inList y) b) t) w));
             }
-
-        -- Meta
-        pub on-start-meta : (told : Result (List ℕ)) (i : ℕ) → h .kind ≡ kind.Start b → i ≡ index b → i ≡ 10
-            → told ≡ (seen room len >>= λ x. closed (length room) (lay .style) x >>= λ _. refused 11 at) → told ≡ whole
-        on-start-meta told i e q m w =
-            meta told (λ x. by-kind (kind.Start b) e (page kept lay x)
-            ∙ start-meta limit strict full at _ _ kept lay x b (sym q ∙ m)) w
-
-        pub on-end-meta : (told : Result (List ℕ)) (i : ℕ) → h .kind ≡ kind.End b → i ≡ index b → i ≡ 10
-            → told ≡ (seen room len >>= λ x. closed (length room) (lay .style) x >>= λ _. refused 11 at) → told ≡ whole
-        on-end-meta told i e q m w =
-            meta told (λ x. by-kind (kind.End b) e (page kept lay x)
-            ∙ end-meta limit strict full at _ _ kept lay x b (sym q ∙ m)) w
 
       -- text
       module _ {st : Style} (e : h .kind ≡ kind.Text st) where
         on-text : (new : List ℕ) (n : ℕ) (lay′ : Html) → length new ≡ limit → lay′ .skip ≤ h .next → Leads whole (rest (h .next)) (shown new n kept lay′)
             → On new (h .next) n lay′ stack depth
         on-text new n lay′ s f w = record {
+          table = o .table;
           opened = text-next (o .opened) r l e;
           long = o .long;
           low = o .low;
@@ -220,41 +233,44 @@ module _ (limit : ℕ) (strict full : Bool) (sheet document : List ℕ) where
             (sym (bind-end (seen room len))))
 
         -- the style has changed, and the chunks of the body are left
-        pub on-body : (new : List ℕ) (n : ℕ) → hides (lay .skip) ≡ false → seen new n ≡ (seen room len >>= extended (length room) (closing (lay .style) ++ opening st))
-            → InBody new (h .next) n (styled st lay) kept (part document (h .start) (h .next)) start
+        pub on-body : (y new : List ℕ) (n : ℕ) (lay′ : Html) → y ≡ part document (h .start) (h .stop) → hides (lay .skip) ≡ false → lay′ ≡ styled st lay
+            → (tags ≡ allTags → seen new n ≡ (seen room len >>= extended (length room) (closing (lay .style) ++ opening st)))
+            → InBody new (h .next) n lay′ kept y start
         unfolding change split
-        on-body new n z w =
-            let y = part document (h .start) (h .next) in
+        on-body y new n lay′ g z u w =
+            let v = ap (λ (l : Html). l .skip) u in
             record {
-              leads = walking.turn-begins (turn limit strict full) (finish limit sheet) document whole at room len kept lay (o .leads) r l
+              few = omega (arith, o .few, further);
+              leads = rw u
+                  (walking.turn-begins (turn limit strict full) (finish limit sheet) document whole at room len kept lay (o .leads) r l
                   (change limit st) (chunksThen full (chunk limit strict full) (rest (h .next)) (split y)) (shown new n kept (styled st lay))
                   (λ x.
                   ap (λ (q : Result State). q >>= rest (h .next))
                   (by-kind (kind.Text st) e (page kept lay x)
-                  ∙ text-is limit strict full at y _ kept lay x st z)
+                  ∙ text-is limit strict full at _ _ kept lay x st z
+                  ∙ ap (λ (b : List ℕ). change limit st (page kept lay x) >>= body full (chunk limit strict full) (split b)) (sym g))
                   ∙ sym (bind-assoc (change limit st (page kept lay x)) _ (rest (h .next))))
                   (shown-write (withLay (styled st)) kept kept lay (styled st lay) (λ x. refl) limit room new len n (closing (lay .style) ++ opening st)
-                  (w ∙ ap (λ (c : ℕ). seen room len >>= extended c (closing (lay .style) ++ opening st)) (o .same))
-                  ∙ sym (shown-then room len kept lay (change limit st) (λ s. write limit (closing (lay .style) ++ opening st) (withLay (styled st) s)) (λ x. refl)));
+                  (w (o .table) ∙ ap (λ (c : ℕ). seen room len >>= extended c (closing (lay .style) ++ opening st)) (o .same))
+                  ∙ sym (shown-then room len kept lay (change limit st) (λ s. write limit (closing (lay .style) ++ opening st) (withLay (styled st) s))
+                  (λ x. refl))));
             }
 
         -- the chunks are done, or one ended the walk of the body
-        module _ {new : List ℕ} {n : ℕ} {c : Cursor} (s : length new ≡ limit)
-            (i : InBody new (h .next) n (styled st lay) kept (part document (h .start) (h .next)) c) where
-          pub on-done : chunksFrom (part document (h .start) (h .next)) c ≡ [] → On new (h .next) n (styled st lay) stack depth
+        module _ {y new : List ℕ} {n : ℕ} {l₁ : Html} {c : Cursor} (s : length new ≡ limit) (i : InBody new (h .next) n l₁ kept y c) where
+          pub on-done : chunksFrom y c ≡ [] → On new (h .next) n l₁ stack depth
           on-done f =
-              on-text new n (styled st lay) s (omega (arith, o .few, further))
-              (chunks-done full (chunk limit strict full) (rest (h .next)) whole _ c (shown new n kept (styled st lay)) (i .leads) f)
+              on-text new n l₁ s (i .few) (chunks-done full (chunk limit strict full) (rest (h .next)) whole y c (shown new n kept l₁) (i .leads) f)
 
-          pub on-stopped : {p : Piece} {d : Cursor} → Took (part document (h .start) (h .next)) c p d → last full (chunkOf (part document (h .start) (h .next)) p) ≡ true
-              → (k : ℕ) → k ≡ skipParagraph (lay .skip) → On new (h .next) n (record { style = st; skip = k }) stack depth
+          pub on-stopped : {p : Piece} {d : Cursor} → Took y c p d → last full (chunkOf y p) ≡ true → (k : ℕ) → k ≡ skipParagraph (l₁ .skip)
+              → On new (h .next) n (skip k l₁) stack depth
           on-stopped {p} t f k g =
-              on-text new n (record { style = st; skip = k }) s (omega (arith, further, g))
-              (chunks-stop full (chunk limit strict full) (rest (h .next)) whole _ c (shown new n kept (styled st lay)) (i .leads) t (shown new n kept (record { style = st; skip = k }))
-              (shown-changed (withLay (skip 1)) kept kept (styled st lay) (record { style = st; skip = k }) (λ x. ap (λ (j : ℕ). page kept (record { style = st; skip = j }) x) (sym g)) new n
-              ∙ sym (bind-same (shown new n kept (styled st lay)) _ _ (λ s. chunk-last limit strict full (chunkOf _ p) s f))) f)
+              on-text new n (skip k l₁) s (omega (arith, further, g))
+              (chunks-stop full (chunk limit strict full) (rest (h .next)) whole y c (shown new n kept l₁) (i .leads) t (shown new n kept (skip k l₁))
+              (shown-changed (withLay (skip 1)) kept kept l₁ (skip k l₁) (λ x. ap (λ (j : ℕ). page kept (skip j l₁) x) (sym g)) new n
+              ∙ sym (bind-same (shown new n kept l₁) _ _ (λ s. chunk-last limit strict full (chunkOf y p) s f))) f)
 
 -- the same for a room that has kept its length
-pub body-at : {limit m : ℕ} {strict full : Bool} {sheet document room : List ℕ} {at len : ℕ} {lay : Html} {kept y : List ℕ} {c : Cursor} → m ≡ limit
-    → InBody limit strict full sheet document room at len lay kept y c → InBody m strict full sheet document room at len lay kept y c
+pub body-at : {limit m : ℕ} {strict full : Bool} {sheet tags document room : List ℕ} {at len : ℕ} {lay : Html} {kept y : List ℕ} {c : Cursor} → m ≡ limit
+    → InBody limit strict full sheet tags document room at len lay kept y c → InBody m strict full sheet tags document room at len lay kept y c
 body-at e i = rw e i

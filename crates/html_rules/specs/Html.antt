@@ -8,14 +8,16 @@ use Rattle.base.specs.Bytes.{startsWith}
 use Rattle.base.specs.Result.{Result, gives, refused, _>>=_}
 use Rattle.base.specs.Stack.{top, pushed, popped}
 use Rattle.utf8.specs.Utf8.{bytes}
-use Rattle.document.specs.Document.{index, tokens, check}
-use Rattle.document.specs.declared.Style.{Style}
-use Rattle.document.specs.declared.Style.the-variants as style
-use Rattle.document.specs.declared.Block.{Block}
-use Rattle.document.specs.declared.Block.the-variants as block
-use Rattle.document.specs.declared.Kind.the-variants as kind
+use Rattle.records.specs.Records.{index, tokens, Token}
+use Rattle.document.specs.Document.{check}
+use Rattle.records.specs.declared.Style.{Style}
+use Rattle.records.specs.declared.Style.the-variants as style
+use Rattle.records.specs.declared.Block.{Block}
+use Rattle.records.specs.declared.Block.the-variants as block
+use Rattle.records.specs.declared.Kind.the-variants as kind
 use Rattle.splitter.specs.Split.{Chunk, raw, paragraph, lineBreak, split}
-use Rattle.walk.specs.Walk.{Page, withOut, withKept, withLay, write, hides, skipParagraph, skipStart, skipEnd, Turn, walk, body}
+use Rattle.renderer.specs.Walk.{Page, withOut, withKept, withLay, write, Turn, walk, body}
+use Rattle.skip.specs.Counter.{hides, skipParagraph, skipStart, skipEnd}
 use Rattle.html_rules.specs.Marks.{separated, escapedBy}
 use Rattle.html_rules.specs.declared.Html.{Html}
 
@@ -152,7 +154,11 @@ module _ (room : ℕ) where
     turn p (kind.End b) x ts s = change style.Text (leave b s) >>= tagged p b (endTag (inList (popped (s .kept))) b)
     turn p kind.Unknown x ts s = gives s
 
+    -- the text of some records with or without the style sheet, whatever form they are stored in
+    abbrev pub htmlOn : Bool → List Token → Result (List ℕ)
+    htmlOn sheet ts = walk turn ts initial >>= finish (if sheet then css else [])
+
     -- the text of a document with or without the style sheet, or its refusal: '1, .. then record by record 2 to 7, then 8; then the
     -- first of 10 to 13 that the walk meets'
     unfoldable pub html : Bool → List ℕ → Result (List ℕ)
-    html sheet s = check s >>= λ _. walk turn (tokens 0 0 s) initial >>= finish (if sheet then css else [])
+    html sheet s = check s >>= λ _. htmlOn sheet (tokens 0 0 s)

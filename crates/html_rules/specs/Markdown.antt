@@ -6,14 +6,16 @@ use lib.Dec.{ltb, eqb}
 use Rattle.base.specs.Choice.{if_then_else_}
 use Rattle.base.specs.Result.{Result, gives, refused, _>>=_}
 use Rattle.utf8.specs.Utf8.{bytes}
-use Rattle.document.specs.Document.{Token, index, tokens, check}
-use Rattle.document.specs.declared.Style.{Style}
-use Rattle.document.specs.declared.Style.the-variants as style
-use Rattle.document.specs.declared.Block.{Block}
-use Rattle.document.specs.declared.Block.the-variants as block
-use Rattle.document.specs.declared.Kind.the-variants as kind
+use Rattle.records.specs.Records.{Token, index, tokens, isEnd}
+use Rattle.document.specs.Document.{check}
+use Rattle.records.specs.declared.Style.{Style}
+use Rattle.records.specs.declared.Style.the-variants as style
+use Rattle.records.specs.declared.Block.{Block}
+use Rattle.records.specs.declared.Block.the-variants as block
+use Rattle.records.specs.declared.Kind.the-variants as kind
 use Rattle.splitter.specs.Split.{Chunk, raw, paragraph, lineBreak, split}
-use Rattle.walk.specs.Walk.{Page, withOut, withLay, write, hides, skipParagraph, skipStart, skipEnd, isEnd, Turn, walk, body}
+use Rattle.renderer.specs.Walk.{Page, withOut, withLay, write, Turn, walk, body}
+use Rattle.skip.specs.Counter.{hides, skipParagraph, skipStart, skipEnd}
 use Rattle.html_rules.specs.Marks.{separated, escapedBy}
 use Rattle.html_rules.specs.declared.Markdown.{Markdown}
 
@@ -246,7 +248,11 @@ module _ (room : ℕ) where
     turn p (kind.End b) x ts s = change style.Text s >>= ended p b
     turn p kind.Unknown x ts s = gives s
 
+    -- the text of some records, whatever form they are stored in
+    abbrev pub markdownOn : List Token → Result (List ℕ)
+    markdownOn ts = walk turn ts initial >>= finish
+
     -- the text of a document, or its refusal: '1, .. then record by record 2 to 7, then 8; then the first of 10 to 13 that the walk
     -- meets'
     unfoldable pub markdown : List ℕ → Result (List ℕ)
-    markdown s = check s >>= λ _. walk turn (tokens 0 0 s) initial >>= finish
+    markdown s = check s >>= λ _. markdownOn (tokens 0 0 s)

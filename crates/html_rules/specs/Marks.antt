@@ -6,7 +6,7 @@ use Rattle.base.specs.Choice.{if_then_else_}
 use Rattle.base.specs.Bytes.{endsWith}
 use Rattle.base.specs.Result.{Result, gives}
 use Rattle.room.specs.Room.{extended}
-use Rattle.walk.specs.Walk.{empty}
+use Rattle.renderer.specs.Walk.{empty}
 
 -- 'Make it so new text is separated by an empty line' (blank_html_line, blank_markdown_line, new_markdown_line): a mark goes out,
 -- unless the text is empty or ends with it

@@ -8,14 +8,17 @@ use Rattle.base.specs.Choice.{if_then_else_}
 use Rattle.base.specs.Result.{Result, gives, refused, _>>=_}
 use Rattle.base.specs.Stack.{top, pushed, popped}
 use Rattle.utf8.specs.Utf8.{table, rowOf, encode, bytes}
-use Rattle.document.specs.Document.{little, styles, blocks, kindOf, size, tokenAt, tokens, fits, opens, closes, bodiless, accept, first, reads, openBlocks, short, closed, check}
-use Rattle.document.specs.Stored.{littleBytes, stored, text, start, end, around}
-use Rattle.document.specs.declared.Style.the-variants as style
-use Rattle.document.specs.declared.Block.the-variants as block
+use Rattle.records.specs.Records.{little, styles, blocks, kindOf, size, tokenAt, tokens, fits}
+use Rattle.document.specs.Document.{opens, closes, bodiless, accept, first, reads, openBlocks, short, closed, check}
+use Rattle.records.specs.Stored.{littleBytes, stored, text, start, end, around}
+use Rattle.records.specs.declared.Style.the-variants as style
+use Rattle.records.specs.declared.Block.the-variants as block
 use Rattle.room.specs.Room.{extended}
-use Rattle.walk.specs.Walk.{write, walk}
-use Rattle.manpage.specs.Escape.{guard, backslash, replaced, specialByte, spacesByte, escapeByte, escape, lineStart, preamble}
-use Rattle.manpage.specs.Roff.{fontEscape, ascii, upper, argument, newLine, put, push, control0, control, plaintext, text as roffText, subsection, captures, heading, started, ended, turn, roff}
+use Rattle.renderer.specs.Walk.{walk}
+use Rattle.roff_escape.specs.Escape.{guard, backslash, replaced, specialByte, spacesByte, escapeByte, escape, lineStart, preamble}
+use Rattle.roff_escape.specs.Monoid.{writes, begun, newLine, put, push, pushes}
+use Rattle.roff_escape.specs.Composer.{fontEscape, argument, linebreak, control0, control, plaintext, text as roffText}
+use Rattle.manpage.specs.Roff.{ascii, captures, upperByte, heading, subsection, started, ended, token, turn, roff}
 
 -- a document, a room, and what is answered there
 pub record Sample : Type 0 where
@@ -42,5 +45,5 @@ samples =
     ∷ []
 
 pub samples-hold : map (λ (s : Sample). roff (s .room) (s .document)) samples ≡ map (λ (s : Sample). s .answer) samples
-unfolding samples if_then_else_ _>>=_ top pushed popped table rowOf encode bytes little styles blocks kindOf size tokenAt tokens fits opens closes bodiless accept first reads openBlocks short closed check littleBytes stored text start end around extended write walk guard backslash replaced specialByte spacesByte escapeByte escape lineStart preamble fontEscape ascii upper argument newLine put push control0 control plaintext roffText subsection captures heading started ended turn roff
+unfolding samples if_then_else_ _>>=_ top pushed popped table rowOf encode bytes little styles blocks kindOf size tokenAt tokens fits opens closes bodiless accept first reads openBlocks short closed check littleBytes stored text start end around extended walk guard backslash replaced specialByte spacesByte escapeByte escape lineStart preamble writes begun newLine put push pushes fontEscape argument linebreak control0 control plaintext roffText ascii captures upperByte heading subsection started ended token turn roff
 samples-hold = refl

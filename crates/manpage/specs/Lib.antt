@@ -1,3 +1,3 @@
-pub mod Escape
 pub mod Roff
+pub mod Pieces
 pub mod Parts

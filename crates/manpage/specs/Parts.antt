@@ -1,56 +1,34 @@
 -- What the functions inside this crate promise each other; no rule of 01 stands here.
-use Prim.Native.Nat.{ℕ, _+_, _-_, _≤_, _<_}
-use mathlib.Core.Path.{_≡_}
-use mathlib.Core.Bool.{Bool, true, false, not, _&&_, _||_}
+use Prim.Native.Nat.{ℕ}
+use mathlib.Core.Bool.{Bool, true, false}
 use mathlib.Core.List.{List, [], _∷_, _++_}
 use lib.Dec.{leb, ltb, eqb}
-use lib.ListN.{length, take}
-use Rattle.base.specs.Bytes.{part}
 use Rattle.base.specs.Choice.{if_then_else_}
-use Rattle.base.specs.Result.{Result}
-use Rattle.document.specs.Document.{Token, tokensFrom, index}
-use Rattle.document.specs.declared.Block.{Block}
-use Rattle.document.specs.declared.Kind.{Kind}
-use Rattle.document.specs.declared.Kind.the-variants as kind
-use Rattle.walk.specs.Walk.{shown}
-use Rattle.manpage.specs.declared.escape.Escape.{Escape}
-use Rattle.manpage.specs.declared.roff.Mark.{Mark}
-use Rattle.manpage.specs.Escape.{unescapedAtNewline, spaces, special, specialNoNewline, unescaped}
-use Rattle.manpage.specs.Roff.{State, Flags}
+use Rattle.base.specs.Result.{Result, gives, refused}
+use Rattle.utf8.specs.Utf8.{bytes}
+use Rattle.records.specs.Records.{Token, tokensFrom, index}
+use Rattle.records.specs.declared.Block.{Block}
+use Rattle.records.specs.declared.Kind.{Kind}
+use Rattle.records.specs.declared.Kind.the-variants as kind
+use Rattle.roff_escape.specs.declared.escape.Escape.the-variants as mode
+use Rattle.roff_escape.specs.declared.roff.Mark.{Mark}
+use Rattle.roff_escape.specs.Monoid.{Piece, piece}
+use Rattle.roff_escape.specs.Composer.{argument}
+use Rattle.roff_escape.specs.Parts.{Followed}
+use Rattle.manpage.specs.Roff.{Locals, Outcome}
 
--- a byte that text leaves as it is anywhere but at the start of a line
-unfoldable pub plain : ℕ → Bool
-plain c = not (eqb c 0x0A || eqb c 0x27 || eqb c 0x2D || eqb c 0x5C)
+-- the argument of a control line, and the space before it
+unfoldable pub argumentPieces : List ℕ → List Piece
+argumentPieces x = piece mode.Unescaped (bytes " ") ∷ piece mode.Spaces (argument x) ∷ []
 
--- bytes that are all plain
-unfoldable pub allPlain : List ℕ → Bool
-allPlain [] = true
-allPlain (c ∷ x) = plain c && allPlain x
+-- the locals, where a mark says whether line ends are stripped
+abbrev pub locals : Mark → List ℕ → Bool → Locals
+locals m kept capture = record { strip = m .strip; kept = kept; capture = capture }
 
--- plain bytes stay as they are here: in text, and not at the start of a line
-abbrev pub plainHere : Escape → Bool → Bool
-plainHere mode true = false
-plainHere unescapedAtNewline false = false
-plainHere spaces false = false
-plainHere special false = true
-plainHere specialNoNewline false = true
-plainHere unescaped false = false
-
--- The bytes of x from `at` up to `to`, all plain, were copied after the first `len` bytes of a room, which stay; where there are any, they fit.
-pub record Copies (x : List ℕ) (at len : ℕ) (old new : List ℕ) (to : ℕ) : Type 0 where
-  pub order : at ≤ to
-  pub within : at ≤ length x → to ≤ length x
-  pub fits : at < to → len + (to - at) ≤ length old
-  pub copied : take (len + (to - at)) new ≡ take len old ++ part x at to
-  pub plains : allPlain (part x at to) ≡ true
-
--- a mark's flags, with capture on or off
-abbrev pub flags : Bool → Mark → Flags
-flags capture m = record { fresh = m .fresh; strip = m .strip; capture = capture }
-
--- the page that stands in a room up to a mark's length, with its flags, and with these bytes captured
-abbrev pub marked : List ℕ → Bool → List ℕ → Mark → Result State
-marked kept capture room m = shown room (m .len) kept (flags capture m)
+-- what a token does was done; of one that is refused nothing is said
+abbrev pub Follows : Result Outcome → List ℕ → Mark → List ℕ → Mark → Type 0
+Follows (gives o) old m new r = Followed (o .pushed) (o .after .strip) old m new r
+Follows (refused n p) old m new r = Unit {0}
 
 -- the blocks whose text is captured
 abbrev pub isHeading : Block → Bool
@@ -70,16 +48,16 @@ isTermRef (kind.End b) = eqb (index b) 9
 isTermRef kind.Unknown = false
 
 -- the text of a record; a block record has none
-abbrev pub textOf : Kind → List ℕ → List ℕ
-textOf (kind.Text st) x = x
-textOf (kind.Start b) x = []
-textOf (kind.End b) x = []
-textOf kind.Unknown x = []
+abbrev pub recordText : Kind → List ℕ → List ℕ
+recordText (kind.Text st) x = x
+recordText (kind.Start b) x = []
+recordText (kind.End b) x = []
+recordText kind.Unknown x = []
 
 -- the text of the records that start before a place
 unfoldable pub textTo : ℕ → List Token → List ℕ
 textTo to [] = []
-textTo to (t ∷ ts) = if ltb (t .place) to then textOf (t .kind) (t .body) ++ textTo to ts else []
+textTo to (t ∷ ts) = if ltb (t .place) to then recordText (t .kind) (t .body) ++ textTo to ts else []
 
 -- the text between two places of a document
 abbrev pub between : List ℕ → ℕ → ℕ → List ℕ

@@ -1,32 +1,35 @@
 // Roff: `Doc::render_roff` given `Roff::new()` (src/buffer/manpage.rs).
 ghost use mathlib.Core.Path.{_≡_};
 ghost use mathlib.Core.Bool.{Bool, true, false, not, _&&_};
-ghost use mathlib.Core.List.{List, [], map};
+ghost use mathlib.Core.List.{List, _++_};
 ghost use Prim.Native.Nat.{ℕ, _≤_};
 ghost use lib.Dec.{ltb};
 ghost use lib.ListN.{length};
-ghost use Rattle.base.specs.Result.{gives, _>>=_ as bind, measured};
-ghost use Rattle.document.specs.Document.{tokens};
-ghost use Rattle.document.specs.declared.Kind.the-variants as kind;
+ghost use Rattle.base.specs.Result.{_>>=_ as bind, measured};
+ghost use Rattle.records.specs.Records.{tokens};
+ghost use Rattle.records.specs.declared.Kind.the-variants as kind;
 ghost use Rattle.room.specs.Room.{seen, extended};
-ghost use Rattle.walk.specs.Walk.{empty, write, walk};
-ghost use Rattle.walk.specs.Rendered.{answered, standing, filled, Inside};
-ghost use Rattle.manpage.specs.Escape.{spaces, escape, lineStart, preamble};
-ghost use Rattle.manpage.specs.Roff.{ascii, upper, argument, fontOf, push, control, subsection, text, started, ended, turn, initial, roff};
-ghost use Rattle.manpage.specs.Parts.{marked, isHeading, isText, isTermRef, between, beginning, opening, closing, closed};
-use document::Block;
+ghost use Rattle.renderer.specs.Walk.{empty};
+ghost use Rattle.renderer.specs.Rendered.{answered, standing, filled, Inside};
+ghost use Rattle.roff_escape.specs.declared.escape.Escape.the-variants as mode;
+ghost use Rattle.roff_escape.specs.Escape.{escape, lineStart};
+ghost use Rattle.roff_escape.specs.Composer.{control, text};
+ghost use Rattle.roff_escape.specs.Parts.{Pushed};
+ghost use Rattle.manpage.specs.Roff.{ascii, upperByte, upper, fontOf, subsection, started, ended, roffOn, roff};
+ghost use Rattle.manpage.specs.Parts.{argumentPieces, locals, Follows, isHeading, isText, isTermRef, between, beginning, opening, closing};
 use document::Checked;
-use document::Head;
-use document::Kind;
-use document::Refusal;
-use document::Style;
-use escape::Escape;
-use roff::Font;
-use roff::Mark;
-use walk::Rendered;
-
-mod escape;
-mod roff;
+use records::Block;
+use records::Head;
+use records::Kind;
+use records::Style;
+use refusal::Refusal;
+use renderer::Rendered;
+use roff_escape::escape;
+use roff_escape::escape::Escape;
+use roff_escape::escape::Line;
+use roff_escape::roff;
+use roff_escape::roff::Font;
+use roff_escape::roff::Mark;
 
 // The captured text as it was written: the length of the text then, whether a line starts there, and whether any was captured.
 struct Captured {
@@ -48,6 +51,45 @@ fn font_of(style: Style) -> Font
     }
 }
 
+// The blocks whose text is captured.
+fn is_heading(b: Block) -> bool
+    ensures { λ r. ⌜ r ≡ isHeading b ⌝ }
+{
+    records::index_of(b) <= 3
+}
+
+// What roff has no form for: refusal 11.
+fn is_term_ref(kind: Kind) -> bool
+    ensures { λ r. ⌜ r ≡ isTermRef kind ⌝ }
+{
+    match kind {
+        Kind::Text(_) => false,
+        Kind::Start(b) => records::index_of(b) == 9,
+        Kind::End(b) => records::index_of(b) == 9,
+        Kind::Unknown => false,
+    }
+}
+
+// Whether a record holds text that is not empty.
+fn holds_text(h: Head) -> bool
+    ensures { λ r. ⌜ r ≡ (isText (h .kind) && ltb (h .start) (h .stop)) ⌝ }
+{
+    let kind = h.kind;
+    match kind {
+        Kind::Text(_) => h.start < h.stop,
+        Kind::Start(_) => false,
+        Kind::End(_) => false,
+        Kind::Unknown => false,
+    }
+}
+
+// Where the text that is captured begins.
+fn begin_at(capture: bool, from: usize, here: usize) -> usize
+    ensures { λ r. ⌜ r ≡ beginning capture from here ⌝ }
+{
+    if capture { from } else { here }
+}
+
 // Whether text is ASCII: a heading that is not is refused by 12.
 fn is_ascii(bytes: &[u8]) -> bool
     ensures { λ r. ⌜ r ≡ ascii (now (bytes .entry)) ⌝ }
@@ -62,43 +104,34 @@ fn is_ascii(bytes: &[u8]) -> bool
     true
 }
 
-// The blocks whose text is captured.
-fn is_heading(b: Block) -> bool
-    ensures { λ r. ⌜ r ≡ isHeading b ⌝ }
+// 'ASCII upper-cased'
+fn to_upper(c: u8) -> u8
+    ensures { λ r. ⌜ r ≡ upperByte c ⌝ }
 {
-    document::index_of(b) <= 3
-}
-
-// What roff has no form for: refusal 11.
-fn is_term_ref(kind: Kind) -> bool
-    ensures { λ r. ⌜ r ≡ isTermRef kind ⌝ }
-{
-    match kind {
-        Kind::Text(_) => false,
-        Kind::Start(b) => document::index_of(b) == 9,
-        Kind::End(b) => document::index_of(b) == 9,
-        Kind::Unknown => false,
+    if c < b'a' {
+        return c;
     }
-}
-
-// Whether a record holds text that is not empty.
-fn holds_text(h: Head) -> bool
-    ensures { λ r. ⌜ r ≡ (isText (h .kind) && ltb (h .start) (h .next)) ⌝ }
-{
-    let kind = h.kind;
-    match kind {
-        Kind::Text(_) => h.start < h.next,
-        Kind::Start(_) => false,
-        Kind::End(_) => false,
-        Kind::Unknown => false,
+    if b'z' < c {
+        return c;
     }
+    c - 32
 }
 
-// Where the text that is captured begins.
-fn begin_at(capture: bool, from: usize, here: usize) -> usize
-    ensures { λ r. ⌜ r ≡ beginning capture from here ⌝ }
+// Some bytes of a heading, upper-cased.
+fn escape_upper(room: &mut [u8], len: usize, start: bool, bytes: &[u8]) -> Line
+    ensures text { λ r. ⌜ seen (now (room .exit)) (r .len) ≡ bind (seen (now (room .entry)) len) (extended (length (now (room .entry))) (escape mode.Spaces start (upper (now (bytes .entry))))) ⌝ }
+    ensures line { λ r. ⌜ r .fresh ≡ lineStart mode.Spaces start (upper (now (bytes .entry))) ⌝ }
 {
-    if capture { from } else { here }
+    let mut n = len;
+    let mut fresh = start;
+    let mut i: usize = 0;
+    while i < bytes.len() {
+        let c = to_upper(bytes[i]);
+        n = escape::put_byte(room, n, Escape::Spaces, fresh, c);
+        fresh = escape::starts_line(Escape::Spaces, c);
+        i += 1;
+    }
+    Line { len: n, fresh }
 }
 
 // The text between two places, upper-cased, from its records read again.
@@ -111,8 +144,8 @@ fn put_captured(
     to: usize,
 ) -> Captured
     requires { ⌜ to ≤ length (now document) ⌝ }
-    ensures text { λ r. ⌜ seen (now (room .exit)) (r .len) ≡ bind (seen (now (room .entry)) len) (extended (length (now (room .entry))) (escape spaces start (map upper (between (now (document .entry)) from to)))) ⌝ }
-    ensures line { λ r. ⌜ r .fresh ≡ lineStart spaces start (map upper (between (now (document .entry)) from to)) ⌝ }
+    ensures text { λ r. ⌜ seen (now (room .exit)) (r .len) ≡ bind (seen (now (room .entry)) len) (extended (length (now (room .entry))) (escape mode.Spaces start (upper (between (now (document .entry)) from to)))) ⌝ }
+    ensures line { λ r. ⌜ r .fresh ≡ lineStart mode.Spaces start (upper (between (now (document .entry)) from to)) ⌝ }
     ensures some { λ r. ⌜ r .some ≡ not (empty (between (now (document .entry)) from to)) ⌝ }
 {
     let mut n = len;
@@ -120,11 +153,12 @@ fn put_captured(
     let mut some = false;
     let mut at = from;
     while at < to {
-        let h = document::record_at(document, at);
+        let h = records::record_at(document, at);
         let begin = h.start;
+        let stop = h.stop;
         let next = h.next;
         if holds_text(h) {
-            let line = escape::escape_upper(room, n, fresh, &document[begin..next]);
+            let line = escape_upper(room, n, fresh, &document[begin..stop]);
             n = line.len;
             fresh = line.fresh;
             some = true;
@@ -138,95 +172,78 @@ fn put_captured(
     }
 }
 
-// The argument of a heading's control line: an empty one is `""`.
+// The argument of a heading's control line, and the space before it; an empty one is `""`.
 fn put_argument(room: &mut [u8], m: Mark, document: &[u8], from: usize, to: usize) -> Mark
     requires { ⌜ to ≤ length (now document) ⌝ }
-    ensures { λ r. ⌜ ((kept : List ℕ) (capture : Bool) → marked kept capture (now (room .exit)) r ≡ bind (marked kept capture (now (room .entry)) m) (push (length (now (room .entry))) spaces (argument (map upper (between (now (document .entry)) from to))))) ⌝ }
+    ensures { λ r. ⌜ Pushed (argumentPieces (upper (between (now (document .entry)) from to))) (now (room .entry)) m (now (room .exit)) r ⌝ }
 {
-    let a = put_captured(room, m.len, m.fresh, document, from, to);
-    let b = Mark {
-        len: a.len,
-        fresh: a.fresh,
-        strip: m.strip,
+    let a = roff::push(room, m, Escape::Unescaped, b" ");
+    let b = put_captured(room, a.len, a.fresh, document, from, to);
+    let c = Mark {
+        len: b.len,
+        fresh: b.fresh,
+        strip: a.strip,
     };
-    if a.some {
-        return b;
+    if b.some {
+        return c;
     }
-    roff::push_str(room, b, Escape::Spaces, b"\"\"")
+    roff::push(room, c, Escape::Spaces, b"\"\"")
 }
 
 // `Roff::control` with the text between two places as its argument.
 fn control(room: &mut [u8], m: Mark, name: &[u8], document: &[u8], from: usize, to: usize) -> Mark
     requires { ⌜ to ≤ length (now document) ⌝ }
-    ensures { λ r. ⌜ ((kept : List ℕ) (capture : Bool) → marked kept capture (now (room .exit)) r ≡ bind (marked kept capture (now (room .entry)) m) (control (length (now (room .entry))) (now (name .entry)) (map upper (between (now (document .entry)) from to)))) ⌝ }
+    ensures { λ r. ⌜ Pushed (control (now (name .entry)) (upper (between (now (document .entry)) from to))) (now (room .entry)) m (now (room .exit)) r ⌝ }
 {
-    let a = roff::push_str(room, m, Escape::UnescapedAtNewline, b".");
-    let b = roff::push_str(room, a, Escape::Unescaped, name);
-    let c = roff::push_str(room, b, Escape::Unescaped, b" ");
-    let d = put_argument(room, c, document, from, to);
-    roff::push_str(room, d, Escape::UnescapedAtNewline, b"")
+    let a = roff::control_name(room, m, name);
+    let b = put_argument(room, a, document, from, to);
+    roff::roff_linebreak(room, b)
 }
 
-// Before text with emphasis a control line.
-fn subsection(room: &mut [u8], m: Mark, style: Style) -> Mark
-    ensures { λ r. ⌜ ((kept : List ℕ) (capture : Bool) → marked kept capture (now (room .exit)) r ≡ bind (marked kept capture (now (room .entry)) m) (subsection (length (now (room .entry))) style)) ⌝ }
+// 'if style == Style::Emphasis': a control line before it.
+fn put_subsection(room: &mut [u8], m: Mark, style: Style) -> Mark
+    ensures { λ r. ⌜ Pushed (subsection style) (now (room .entry)) m (now (room .exit)) r ⌝ }
 {
     match style {
-        Style::Text => m,
         Style::Emphasis => roff::control0(room, m, b"SS"),
-        Style::Literal => m,
-        Style::Metavar => m,
-        Style::Invalid => m,
+        _ => m,
     }
 }
 
 // Text that is not captured.
 fn put_text(room: &mut [u8], m: Mark, style: Style, bytes: &[u8]) -> Mark
-    ensures { λ r. ⌜ ((kept : List ℕ) (capture : Bool) → marked kept capture (now (room .exit)) r ≡ bind (marked kept capture (now (room .entry)) m) (λ s. bind (subsection (length (now (room .entry))) style s) (text (length (now (room .entry))) (fontOf style) (now (bytes .entry))))) ⌝ }
+    ensures { λ r. ⌜ Pushed (subsection style ++ text (m .strip) (fontOf style) (now (bytes .entry))) (now (room .entry)) m (now (room .exit)) r ⌝ }
 {
-    let a = subsection(room, m, style);
+    let a = put_subsection(room, m, style);
     roff::text(room, a, font_of(style), bytes)
 }
 
 // `Token::BlockStart`. The walk starts capture at a heading, and refuses TermRef before it comes here.
-fn started(room: &mut [u8], m: Mark, b: Block, at: usize) -> Mark
-    requires { ⌜ isTermRef (kind.Start b) ≡ false ⌝ }
-    ensures { λ r. ⌜ ((kept : List ℕ) (capture : Bool) → marked kept (opening b capture) (now (room .exit)) r ≡ bind (marked kept capture (now (room .entry)) m) (started (length (now (room .entry))) at b)) ⌝ }
+fn started(room: &mut [u8], m: Mark, b: Block) -> Mark
+    ensures { λ r. ⌜ ((p : ℕ) (kept : List ℕ) (capture : Bool) → Follows (started p b (locals m kept capture)) (now (room .entry)) m (now (room .exit)) r) ⌝ }
 {
     match b {
-        Block::Header => m,
-        Block::Section2 => m,
-        Block::Section3 => m,
-        Block::Section4 => m,
         Block::ItemTerm => roff::strip_newlines(roff::control0(room, m, b"TP"), true),
-        Block::ItemBody => m,
-        Block::DefinitionList => m,
         Block::Block => roff::control0(room, m, b"PP"),
-        Block::InlineBlock => m,
-        Block::TermRef => m,
         Block::Meta => roff::control0(room, m, b"nf"),
-        Block::Mono => m,
+        _ => m,
     }
 }
 
 // `Token::BlockEnd` at a place, where the text from `from` on is captured. TermRef is refused before.
 fn ended(room: &mut [u8], m: Mark, b: Block, document: &[u8], from: usize, at: usize) -> Mark
-    requires { ⌜ (at ≤ length (now document)) × (isTermRef (kind.End b) ≡ false) ⌝ }
-    ensures { λ r. ⌜ ((capture : Bool) → marked (closed b (between (now (document .entry)) from at)) (closing b capture) (now (room .exit)) r ≡ bind (marked (between (now (document .entry)) from at) capture (now (room .entry)) m) (ended (length (now (room .entry))) at b)) ⌝ }
+    requires { ⌜ at ≤ length (now document) ⌝ }
+    ensures { λ r. ⌜ ((p : ℕ) (capture : Bool) → Follows (ended p b (locals m (between (now (document .entry)) from at) capture)) (now (room .entry)) m (now (room .exit)) r) ⌝ }
 {
     match b {
         Block::Header => control(room, m, b"SH", document, from, at),
-        Block::Section2 => control(room, m, b"SS", document, from, at),
-        Block::Section3 => control(room, m, b"SS", document, from, at),
-        Block::Section4 => control(room, m, b"SS", document, from, at),
+        Block::Section2 | Block::Section3 | Block::Section4 => {
+            control(room, m, b"SS", document, from, at)
+        }
         Block::ItemTerm => roff::strip_newlines(roff::roff_linebreak(room, m), false),
         Block::ItemBody => roff::strip_newlines(roff::control0(room, m, b"PP"), false),
-        Block::DefinitionList => m,
-        Block::Block => m,
-        Block::InlineBlock => m,
-        Block::TermRef => m,
         Block::Meta => roff::control0(room, m, b"fi"),
-        Block::Mono => m,
+        _ => m,
     }
 }
 
@@ -244,25 +261,13 @@ fn ends_capture(b: Block, capture: bool) -> bool
     if is_heading(b) { false } else { capture }
 }
 
-// `Roff::render` puts APOSTROPHE_PREABMLE first; no part of it goes through `escape`, so that a line starts after it.
-fn put_preamble(room: &mut [u8]) -> Mark
-    ensures { λ r. ⌜ marked [] false (now (room .exit)) r ≡ write (length (now (room .entry))) preamble initial ⌝ }
-{
-    let len = room::put_all(room, 0, b".ie \\n(.g .ds Aq \\(aq\n.el .ds Aq '\n");
-    Mark {
-        len,
-        fresh: true,
-        strip: false,
-    }
-}
-
 // The walk over the records of a document. While text is captured, `from` is where that began; a heading's end reads the records from there
 // again. No record is captured by two headings, so each is read twice at most.
 fn walk(document: &[u8], room: &mut [u8]) -> Rendered
-    ensures text { λ r. ⌜ standing (now (room .exit)) r ≡ bind (bind (write (length (now (room .entry))) preamble initial) (walk (turn (length (now (room .entry)))) (tokens 0 0 (now (document .entry))))) (λ s. gives (s .out)) ⌝ }
+    ensures text { λ r. ⌜ standing (now (room .exit)) r ≡ roffOn (length (now (room .entry))) (tokens 0 0 (now (document .entry))) ⌝ }
     ensures inside { λ r. ⌜ Inside (length (now (room .exit))) r ⌝ }
 {
-    let mut m = put_preamble(room);
+    let mut m = roff::put_preamble(room);
     let mut capture = false;
     let mut from: usize = 0;
     let mut at: usize = 0;
@@ -274,8 +279,9 @@ fn walk(document: &[u8], room: &mut [u8]) -> Rendered
             return Rendered::Text(m.len);
         }
         from = begin_at(capture, from, at);
-        let h = document::record_at(document, at);
+        let h = records::record_at(document, at);
         let start = h.start;
+        let stop = h.stop;
         let next = h.next;
         let kind = h.kind;
         if is_term_ref(kind) {
@@ -284,15 +290,15 @@ fn walk(document: &[u8], room: &mut [u8]) -> Rendered
         match kind {
             Kind::Text(style) => {
                 if capture {
-                    if !is_ascii(&document[start..next]) {
+                    if !is_ascii(&document[start..stop]) {
                         return Rendered::Refused(Refusal::HeadingNotAscii(at));
                     }
                 } else {
-                    m = put_text(room, m, style, &document[start..next]);
+                    m = put_text(room, m, style, &document[start..stop]);
                 }
             }
             Kind::Start(b) => {
-                m = started(room, m, b, at);
+                m = started(room, m, b);
                 capture = opens_capture(b, capture);
             }
             Kind::End(b) => {
@@ -314,12 +320,12 @@ pub fn render_roff(document: &[u8], room: &mut [u8]) -> Rendered
     match verdict {
         Checked::Accepted => {
             let answer = walk(document, room);
-            walk::clear_after(room, answer);
+            renderer::clear_after(room, answer);
             answer
         }
         Checked::Refused(a) => {
             let answer = Rendered::Refused(a);
-            walk::clear_after(room, answer);
+            renderer::clear_after(room, answer);
             answer
         }
     }

@@ -2,7 +2,7 @@
 use Prim.Native.Nat.{ℕ}
 use mathlib.Core.Path.{_≡_, refl, sym, ap, _∙_}
 use mathlib.Core.Bool.{Bool, true, false}
-use mathlib.Core.List.{List, _++_}
+use mathlib.Core.List.{List}
 use lib.Dec.{eqb}
 use borrow.Author.Tests.{eq-eqb, ne-eqb, not-true, not-false}
 use Rattle.base.specs.Choice.{if_then_else_}
@@ -11,22 +11,20 @@ use Rattle.base.proofs.Choice.{if-true, if-false}
 use Rattle.base.proofs.Results.{bind-assoc, bind-same, bind-end}
 use Rattle.utf8.specs.Utf8.{bytes}
 use Rattle.room.specs.Room.{extended}
-use Rattle.document.specs.Document.{Token, index}
-use Rattle.document.specs.declared.Style.{Style}
-use Rattle.document.specs.declared.Style.the-variants as style
-use Rattle.document.specs.declared.Block.{Block}
-use Rattle.document.specs.declared.Kind.the-variants as kind
+use Rattle.records.specs.Records.{Token, index}
+use Rattle.records.specs.declared.Style.{Style}
+use Rattle.records.specs.declared.Style.the-variants as style
+use Rattle.records.specs.declared.Block.{Block}
+use Rattle.records.specs.declared.Kind.the-variants as kind
 use Rattle.splitter.specs.Split.{Chunk, raw, paragraph, lineBreak, split}
-use Rattle.walk.specs.Walk.{withOut, withLay, page, write, hides, last, body}
+use Rattle.renderer.specs.Walk.{withOut, withLay, page, write, last, body}
+use Rattle.skip.specs.Counter.{hides}
 use Rattle.html_rules.specs.Marks.{separated}
-use Rattle.html_rules.specs.Markdown.{State, styled, skip, fenced, opening, closing, startLead, startLine, startText, metTerm, startLay, endText, endLay, codeBegins, codeStops, lineText, wordText, change, separate, begun, started, ended, rawChunk, bodyEnds, finish, chunk, turn}
+use Rattle.html_rules.specs.Markdown.{State, styled, skip, fenced, startLead, startLine, startText, metTerm, startLay, endText, endLay, codeBegins, codeStops, lineText, wordText, change, separate, begun, started, ended, rawChunk, bodyEnds, finish, chunk, turn}
 use Rattle.html_rules.specs.declared.Markdown.{Markdown}
-use Rattle.html_parts.proofs.Lifts.{lift, lift-then, lift-lay}
-use Rattle.markdown.specs.Parts.{startRule, rawRule, chunkRule, fenceAfter}
-
--- the text that a style leaves when it is closed
-abbrev pub closed : ℕ → Style → List ℕ → Result (List ℕ)
-closed limit st x = extended limit (closing st ++ opening style.Text) x
+use Rattle.html_rules.proofs.Lifts.{lift, lift-then, lift-lay}
+use Rattle.markdown_marks.specs.Parts.{closed, startRule}
+use Rattle.markdown_chunks.specs.Parts.{rawRule, chunkRule, fenceAfter}
 
 module _ (limit p : ℕ) (b : Block) where
   begun-is : (s : State) → begun limit b s ≡ lift (startRule limit (s .lay) b) (withLay (startLay b) s)
@@ -42,7 +40,8 @@ module _ (limit p : ℕ) (b : Block) where
         ≡ lift (λ x. closed limit st x >>= startRule limit (metTerm b ts (s .lay)) b) (withLay (λ l. startLay b (metTerm b ts l)) s)
     unfolding started
     started-is ts n =
-        bind-same (lift (closed limit st) s) (started limit p b ts) (λ s₁. lift (startRule limit (metTerm b ts (s₁ .lay)) b) (withLay (λ l. startLay b (metTerm b ts l)) s₁))
+        bind-same (lift (closed limit st) s) (started limit p b ts) (λ s₁. lift (startRule limit (metTerm b ts (s₁ .lay)) b)
+        (withLay (λ l. startLay b (metTerm b ts l)) s₁))
         (λ t. if-false _ _ (ne-eqb (index b) 10 n) ∙ begun-is (withLay (metTerm b ts) t))
         ∙ lift-lay (closed limit st) s (λ l. startRule limit (metTerm b ts l) b) (λ l. startLay b (metTerm b ts l))
 
@@ -55,7 +54,8 @@ module _ (limit p : ℕ) (b : Block) where
         ∙ lift-lay (closed limit st) s (λ l. extended limit (endText l b)) (endLay b)
 
     -- Meta
-    refused-is : (f : State → Result State) → ((t : State) → f t ≡ refused 11 p) → (lift (closed limit st) s >>= f) ≡ (closed limit st (s .out) >>= λ _. refused 11 p)
+    refused-is : (f : State → Result State) → ((t : State) → f t ≡ refused 11 p) → (lift (closed limit st) s >>= f)
+        ≡ (closed limit st (s .out) >>= λ _. refused 11 p)
     unfolding _>>=_
     refused-is f e =
         bind-same (lift (closed limit st) s) f (λ _. refused 11 p) e
@@ -98,7 +98,8 @@ module _ (limit : ℕ) (full : Bool) (p : ℕ) (y : List ℕ) (ts : List Token) 
     unfolding turn
     hidden-is h = if-true _ _ h
 
-    pub text-is : hides (lay .skip) ≡ false → turn limit full p (kind.Text st) y ts here ≡ (change limit st here >>= body full (chunk limit full) (split y) >>= bodyEnds limit)
+    pub text-is : hides (lay .skip) ≡ false → turn limit full p (kind.Text st) y ts here
+        ≡ (change limit st here >>= body full (chunk limit full) (split y) >>= bodyEnds limit)
     unfolding turn
     text-is h = if-false _ _ h
 

@@ -5,18 +5,20 @@ use mathlib.Core.Bool.{Bool, true, false}
 use mathlib.Core.List.{List, [], _++_}
 use lib.ListN.{length, drop, length-take}
 use native.Mathlib.Omega.{arith}
+use borrow.Author.Tests.{eqb-true, eqb-false}
 use Rattle.base.specs.Bytes.{part}
 use Rattle.base.specs.Result.{Result, gives, refused, _>>=_}
 use Rattle.base.proofs.Results.{bind-assoc, bind-same, bind-end}
 use Rattle.room.specs.Room.{extended, seen}
-use Rattle.document.specs.Document.{index, tokens, tokensFrom, check}
-use Rattle.document.specs.Answers.{Read}
-use Rattle.document.specs.declared.Style.{Style}
-use Rattle.document.specs.declared.Style.the-variants as style
-use Rattle.document.specs.declared.Block.{Block}
-use Rattle.document.specs.declared.Kind.{Kind}
-use Rattle.document.specs.declared.Kind.the-variants as kind
-use Rattle.document.specs.declared.Head.{Head}
+use Rattle.records.specs.Records.{Token, index, tokens, tokensFrom}
+use Rattle.document.specs.Document.{check}
+use Rattle.records.specs.Answers.{Read}
+use Rattle.records.specs.declared.Style.{Style}
+use Rattle.records.specs.declared.Style.the-variants as style
+use Rattle.records.specs.declared.Block.{Block}
+use Rattle.records.specs.declared.Kind.{Kind}
+use Rattle.records.specs.declared.Kind.the-variants as kind
+use Rattle.records.specs.declared.Head.{Head}
 use Rattle.document.proofs.Walks.{check-gives}
 use Rattle.splitter.specs.Split.{split}
 use Rattle.splitter.specs.Answers.{chunkOf, chunksFrom, cursor, start}
@@ -25,18 +27,20 @@ use Rattle.splitter.specs.declared.Cursor.{Cursor}
 use Rattle.splitter.specs.declared.Piece.{Piece}
 use Rattle.splitter.specs.declared.Piece.the-variants.{Raw, Space, Paragraph, LineBreak}
 use Rattle.splitter.proofs.Answers.{Took}
-use Rattle.walk.specs.Walk.{page, withLay, write, shown, hides, skipParagraph, last, walk, body}
-use Rattle.walk.proofs.Shown.{shown-in, shown-then, shown-by, shown-write, shown-changed}
-use Rattle.walk.proofs.Leads.{Leads, leads-start, leads-on, chunksThen}
-use Rattle.html_rules.specs.Markdown.{State, plain, initial, styled, skip, fenced, opening, closing, metTerm, startLay, endText, endLay, codeEnds, change, bodyEnds, finish, chunk, turn}
+use Rattle.renderer.specs.Walk.{page, withLay, write, shown, last, walk, body}
+use Rattle.skip.specs.Counter.{hides, skipParagraph}
+use Rattle.renderer.proofs.Shown.{shown-in, shown-then, shown-by, shown-write, shown-changed}
+use Rattle.renderer.proofs.Leads.{Leads, leads-start, leads-on, chunksThen}
+use Rattle.html_rules.specs.Markdown.{State, plain, initial, styled, skip, fenced, opening, closing, metTerm, startLay, endLay, codeEnds, change, bodyEnds, finish, chunk, turn}
 use Rattle.html_rules.specs.declared.Markdown.{Markdown}
-use Rattle.html_parts.proofs.Rest as walking
-use Rattle.html_parts.proofs.Rest.{chunks-on, chunks-stop, chunks-done}
-use Rattle.html_parts.proofs.Writes.{wrote-then}
-use Rattle.markdown.specs.Parts.{startRule, chunkRule, fenceAfter}
-use Rattle.markdown.specs.Onward.{onward, Moves}
-use Rattle.markdown.proofs.Flags.{start-few, end-few, met-few}
-use Rattle.markdown.proofs.Turns.{closed, start-is, end-is, start-meta, end-meta, unknown-is, hidden-is, text-is, finish-is, fencing, chunk-on, chunk-last}
+use Rattle.html_marks.specs.Parts.{isMeta}
+use Rattle.markdown_marks.specs.Parts.{tags as allTags, closed, startRule, startedText, endedText, Few}
+use Rattle.html_rules.proofs.Rest as walking
+use Rattle.html_rules.proofs.Rest.{chunks-on, chunks-stop, chunks-done}
+use Rattle.markdown_chunks.specs.Parts.{chunkRule, fenceAfter}
+use Rattle.markdown_chunks.specs.Onward.{onward, Moves}
+use Rattle.markdown_marks.proofs.Flags.{start-few, end-few, met-few, met-skip, met-mono, met-style, met-styled}
+use Rattle.markdown.proofs.Turns.{start-is, end-is, start-meta, end-meta, unknown-is, hidden-is, text-is, finish-is, fencing, chunk-on, chunk-last}
 
 fence-any : (p : Piece) (y : List ℕ) (f : Bool) → fenceAfter (chunkOf y p) f ≡ fenceAfter (chunkOf [] p) f
 fence-any (Raw from to width) y f = refl
@@ -44,7 +48,7 @@ fence-any Space y f = refl
 fence-any Paragraph y f = refl
 fence-any LineBreak y f = refl
 
-module _ (limit : ℕ) (full : Bool) (document : List ℕ) where
+module _ (limit : ℕ) (full : Bool) (tags document : List ℕ) where
   -- the records from a place on, and the end; after a body, its end first
   abbrev rest : ℕ → State → Result (List ℕ)
   rest = walking.rest (turn limit full) (finish limit) document
@@ -57,14 +61,16 @@ module _ (limit : ℕ) (full : Bool) (document : List ℕ) where
 
   -- where a record is read next
   pub record On (room : List ℕ) (at len : ℕ) (lay : Markdown) : Type 0 where
+    pub table : tags ≡ allTags
     pub same : length room ≡ limit
     pub few : lay .skip ≤ at
     pub open-few : lay .mono ≤ at
     pub short : length document ≤ 32_768
     pub leads : Leads whole (rest at) (shown room len [] lay)
 
-  pub on-start : (room : List ℕ) → length room ≡ limit → check document ≡ gives [] → On room 0 0 plain
-  on-start room s e = record {
+  pub on-start : (room : List ℕ) → tags ≡ allTags → length room ≡ limit → check document ≡ gives [] → On room 0 0 plain
+  on-start room t s e = record {
+    table = t;
     same = s;
     few = omega arith;
     open-few = omega arith;
@@ -80,13 +86,14 @@ module _ (limit : ℕ) (full : Bool) (document : List ℕ) where
 
   -- words that went out as they stand
   pub body-words : {room : List ℕ} {at len : ℕ} {lay : Markdown} {y : List ℕ} {from : ℕ} {d : Code} → InBody room at len lay y (cursor from d)
-      → (new : List ℕ) (n from′ : ℕ) → length room ≡ limit → Moves lay y d room len from new n from′ → InBody new at n lay y (cursor from′ d)
-  body-words {room} {at} {len} {lay} {y} {from} {d} i new n from′ s m = record {
+      → (new : List ℕ) (n from′ : ℕ) → length room ≡ limit → length y ≤ 32_768 → Moves lay y d room len from new n from′ → InBody new at n lay y
+      (cursor from′ d)
+  body-words {room} {at} {len} {lay} {y} {from} {d} i new n from′ s f m = record {
     few = i .few;
     open-few = i .open-few;
     leads = bind-assoc (shown new n [] lay) (onward full limit y from′ d) (after at)
         ∙ ap (λ (r : Result State). r >>= after at)
-        (subst (λ (k : ℕ). (shown new n [] lay >>= onward full k y from′ d) ≡ (shown room len [] lay >>= onward full k y from d)) s (m .same full []))
+        (subst (λ (k : ℕ). (shown new n [] lay >>= onward full k y from′ d) ≡ (shown room len [] lay >>= onward full k y from d)) s (m .same f full []))
         ∙ sym (bind-assoc (shown room len [] lay) (onward full limit y from d) (after at))
         ∙ i .leads;
   }
@@ -94,13 +101,15 @@ module _ (limit : ℕ) (full : Bool) (document : List ℕ) where
   -- a chunk that goes on
   pub body-on : {room : List ℕ} {at len : ℕ} {lay : Markdown} {y : List ℕ} {c : Cursor} → InBody room at len lay y c
       → {p : Piece} {d : Cursor} → Took y c p d → (new : List ℕ) (n : ℕ) (f : Bool) → length room ≡ limit → last full (chunkOf y p) ≡ false
-      → seen new n ≡ (seen room len >>= chunkRule (length room) lay (chunkOf y p)) → f ≡ fenceAfter (chunkOf [] p) (lay .fenced) → InBody new at n (fenced f lay) y d
-  body-on {room} {at} {len} {lay} {y} {c} i {p} t new n f s e w g = record {
+      → tags ≡ allTags → (tags ≡ allTags → seen new n ≡ (seen room len >>= chunkRule (length room) lay (chunkOf y p)))
+      → f ≡ fenceAfter (chunkOf [] p) (lay .fenced) → InBody new at n (fenced f lay) y d
+  body-on {room} {at} {len} {lay} {y} {c} i {p} t new n f s e z w g = record {
     few = i .few;
     open-few = i .open-few;
     leads = chunks-on full (chunk limit full) (after at) whole y c (shown room len [] lay) (i .leads) t (shown new n [] (fenced f lay))
-        (shown-by (withLay (fencing (chunkOf y p))) [] [] lay (fenced f lay) (λ x. ap (λ (b : Bool). page [] (fenced b lay) x) (fence-any p y (lay .fenced) ∙ sym g))
-        (chunkRule limit lay (chunkOf y p)) room new len n (w ∙ ap (λ (m : ℕ). seen room len >>= chunkRule m lay (chunkOf y p)) s)
+        (shown-by (withLay (fencing (chunkOf y p))) [] [] lay (fenced f lay)
+        (λ x. ap (λ (b : Bool). page [] (fenced b lay) x) (fence-any p y (lay .fenced) ∙ sym g))
+        (chunkRule limit lay (chunkOf y p)) room new len n (w z ∙ ap (λ (m : ℕ). seen room len >>= chunkRule m lay (chunkOf y p)) s)
         ∙ sym (shown-then room len [] lay (chunk limit full (chunkOf y p)) _ (λ x. chunk-on limit (page [] lay x) full (chunkOf y p) e))) e;
   }
 
@@ -110,12 +119,12 @@ module _ (limit : ℕ) (full : Bool) (document : List ℕ) where
     on-out h = walking.rest-out (turn limit full) (finish limit) document whole at room len [] lay (o .leads) h
 
     -- no record is left
-    pub on-end : (told : Result (List ℕ)) (new : List ℕ) (n : ℕ) → length document ≤ at → told ≡ seen new n
-        → seen new n ≡ (seen room len >>= extended (length room) (closing (lay .style) ++ opening style.Text)) → told ≡ whole
-    on-end told new n h t e =
+    pub on-end : (told : Result (List ℕ)) → length document ≤ at → (tags ≡ allTags → told ≡ (seen room len >>= closed (length room) (lay .style)))
+        → told ≡ whole
+    on-end told h w =
         walking.rest-end (turn limit full) (finish limit) document whole at room len [] lay (o .leads) told (closed limit (lay .style)) h
         (λ x. finish-is limit full at [] [] [] lay x)
-        (t ∙ e ∙ ap (λ (m : ℕ). seen room len >>= extended m (closing (lay .style) ++ opening style.Text)) (o .same))
+        (w (o .table) ∙ ap (λ (m : ℕ). seen room len >>= closed m (lay .style)) (o .same))
 
     -- a record was read here
     module _ {h : Head} (r : Read document at h) (l : at < length document) where
@@ -125,23 +134,20 @@ module _ (limit : ℕ) (full : Bool) (document : List ℕ) where
       further : at + 1 ≤ h .next
       further = walking.further (turn limit full) (finish limit) document whole at room len [] lay (o .leads) r l
 
-      by-kind : (k : Kind) → h .kind ≡ k → (s : State) → Turned s ≡ turn limit full at k (part document (h .start) (h .next)) (tokensFrom document (h .next)) s
+      by-kind : (k : Kind) → h .kind ≡ k → (s : State) → Turned s ≡ turn limit full at k (part document (h .start) (h .stop)) (tokensFrom document (h .next)) s
       by-kind = walking.by-kind (turn limit full) (finish limit) document whole at room len [] lay (o .leads) r l
 
       turn-leads : (rule : List ℕ → Result (List ℕ)) (new : List ℕ) (n : ℕ) (lay′ : Markdown)
           → ((x : List ℕ) → Turned (page [] lay x) ≡ (rule x >>= λ z. gives (page [] lay′ z))) → seen new n ≡ (seen room len >>= rule)
           → Leads whole (rest (h .next)) (shown new n [] lay′)
-      turn-leads rule new n lay′ t e = walking.turn-leads (turn limit full) (finish limit) document whole at room len [] lay (o .leads) r l rule new n [] lay′ t e
-
-      -- the style has been closed
-      closes : (mid : List ℕ) (n : ℕ) → seen mid n ≡ (seen room len >>= extended (length room) (closing (lay .style) ++ opening style.Text))
-          → seen mid n ≡ (seen room len >>= closed limit (lay .style))
-      closes mid n w = w ∙ ap (λ (m : ℕ). seen room len >>= extended m (closing (lay .style) ++ opening style.Text)) (o .same)
+      turn-leads rule new n lay′ t e = walking.turn-leads (turn limit full) (finish limit) document whole at room len [] lay (o .leads) r l rule new n [] lay′
+          t e
 
       -- nothing is done
       passes : ((x : List ℕ) → Turned (page [] lay x) ≡ gives (page [] lay x)) → On room (h .next) len lay
       unfolding _>>=_
       passes t = record {
+        table = o .table;
         same = o .same;
         few = omega (arith, o .few, further);
         open-few = omega (arith, o .open-few, further);
@@ -152,71 +158,76 @@ module _ (limit : ℕ) (full : Bool) (document : List ℕ) where
       pub on-unknown : h .kind ≡ kind.Unknown → On room (h .next) len lay
       on-unknown e = passes (λ x. by-kind kind.Unknown e (page [] lay x) ∙ unknown-is limit full at _ _ [] lay x)
 
-      -- a turn that meets 11
-      meta : (told : Result (List ℕ)) (mid : List ℕ) (n : ℕ) → ((x : List ℕ) → Turned (page [] lay x) ≡ (closed limit (lay .style) x >>= λ _. refused 11 at))
-          → seen mid n ≡ (seen room len >>= extended (length room) (closing (lay .style) ++ opening style.Text)) → told ≡ (seen mid n >>= λ _. refused 11 at) → told ≡ whole
-      meta told mid n t w v =
+      -- Meta
+      meta : (told : Result (List ℕ)) → ((x : List ℕ) → Turned (page [] lay x) ≡ (closed limit (lay .style) x >>= λ _. refused 11 at))
+          → (tags ≡ allTags → told ≡ (seen room len >>= λ x. closed (length room) (lay .style) x >>= λ _. refused 11 at)) → told ≡ whole
+      meta told t w =
           walking.turn-refuses (turn limit full) (finish limit) document whole at room len [] lay (o .leads) r l (closed limit (lay .style)) told t
-          (wrote-then room mid len n (closed limit (lay .style)) (λ _. refused 11 at) told (closes mid n w) v)
+          (w (o .table) ∙ ap (λ (c : ℕ). seen room len >>= λ x. closed c (lay .style) x >>= λ _. refused 11 at) (o .same))
 
-      -- the numbers stay small
-      pub on-met : (b : Block) (met : Markdown) → met ≡ metTerm b (tokensFrom document (h .next)) (styled style.Text lay) → (met .skip ≤ 32_768) × (met .mono ≤ 32_768)
-      on-met b met t =
-          let x = met-few b (tokensFrom document (h .next)) (styled style.Text lay) in
-          let z₁ = ap (λ (l : Markdown). l .skip) t in
-          let z₂ = ap (λ (l : Markdown). l .mono) t in
-          (omega (arith, o .few, o .short), omega (arith, o .open-few, o .short))
+      pub on-meta : (told : Result (List ℕ)) → isMeta (h .kind) ≡ true
+          → (tags ≡ allTags → told ≡ (seen room len >>= λ x. closed (length room) (lay .style) x >>= λ _. refused 11 at)) → told ≡ whole
+      on-meta told t w = go (h .kind) refl t
+        where
+          go : (k : Kind) → h .kind ≡ k → isMeta k ≡ true → told ≡ whole
+          go (kind.Text s) e t = cc
+          go (kind.Start b) e t =
+              meta told (λ x. by-kind (kind.Start b) e (page [] lay x) ∙ start-meta limit full at _ _ [] lay x b (eqb-true (index b) 10 t)) w
+          go (kind.End b) e t =
+              meta told (λ x. by-kind (kind.End b) e (page [] lay x) ∙ end-meta limit full at _ _ [] lay x b (eqb-true (index b) 10 t)) w
+          go kind.Unknown e t = cc
 
-      module _ {b : Block} (mid : List ℕ) (n : ℕ) (w : seen mid n ≡ (seen room len >>= extended (length room) (closing (lay .style) ++ opening style.Text)))
-          (i : ℕ) (q : i ≡ index b) where
-        -- Meta
-        pub on-start-meta : (told : Result (List ℕ)) → h .kind ≡ kind.Start b → i ≡ 10 → told ≡ (seen mid n >>= λ _. refused 11 at) → told ≡ whole
-        on-start-meta told e m v = meta told mid n (λ x. by-kind (kind.Start b) e (page [] lay x) ∙ start-meta limit full at _ _ [] lay x b (sym q ∙ m)) w v
+      -- the records after this one
+      abbrev next : List Token
+      next = tokensFrom document (h .next)
 
-        pub on-end-meta : (told : Result (List ℕ)) → h .kind ≡ kind.End b → i ≡ 10 → told ≡ (seen mid n >>= λ _. refused 11 at) → told ≡ whole
-        on-end-meta told e m v = meta told mid n (λ x. by-kind (kind.End b) e (page [] lay x) ∙ end-meta limit full at _ _ [] lay x b (sym q ∙ m)) w v
-
-        -- another block starts, and ends
-        pub on-started : (met lay′ : Markdown) (new : List ℕ) (k m : ℕ) → h .kind ≡ kind.Start b → (i ≡ 10 → ⊥) → length mid ≡ length room → length new ≡ length mid
-            → met ≡ metTerm b (tokensFrom document (h .next)) (styled style.Text lay) → seen new k ≡ (seen mid n >>= startRule m met b) → m ≡ length mid
-            → lay′ ≡ startLay b met → On new (h .next) k lay′
-        on-started met lay′ new k m e c s u t v z f =
-            let g : lay′ ≡ startLay b (metTerm b (tokensFrom document (h .next)) (styled style.Text lay)) = f ∙ ap (startLay b) t in
-            let x₁ = start-few b met in
-            let x₂ = met-few b (tokensFrom document (h .next)) (styled style.Text lay) in
-            let y₁ = ap (λ (l : Markdown). l .skip) f in
-            let y₂ = ap (λ (l : Markdown). l .mono) f in
-            let z₁ = ap (λ (l : Markdown). l .skip) t in
-            let z₂ = ap (λ (l : Markdown). l .mono) t in
+      module _ {b : Block} (new : List ℕ) (k : ℕ) (lay′ : Markdown) where
+        -- another block starts
+        pub on-started : (met : Markdown) → h .kind ≡ kind.Start b → isMeta (h .kind) ≡ false → length new ≡ length room → met ≡ metTerm b next lay
+            → (tags ≡ allTags → seen new k ≡ (seen room len >>= startedText (length room) met b)) → (Few met → lay′ ≡ startLay b (styled style.Text met))
+            → On new (h .next) k lay′
+        on-started met e m s t w f =
+            let few : Few lay = record { skipped = omega (arith, o .few, o .short); opened = omega (arith, o .open-few, o .short) } in
+            let u : styled style.Text met ≡ metTerm b next (styled style.Text lay) = ap (styled style.Text) t ∙ sym (met-styled b next lay style.Text) in
+            let v : met .style ≡ lay .style = ap (λ (l : Markdown). l .style) t ∙ met-style b next lay in
+            let z : lay′ ≡ startLay b (styled style.Text met) = f (rw t (met-few b next lay few)) in
+            let x = start-few b (styled style.Text met) in
+            let x₁ = ap (λ (l : Markdown). l .skip) t ∙ met-skip b next lay in
+            let x₂ = ap (λ (l : Markdown). l .mono) t ∙ met-mono b next lay in
+            let y₁ = ap (λ (l : Markdown). l .skip) z in
+            let y₂ = ap (λ (l : Markdown). l .mono) z in
             record {
-              same = u ∙ s ∙ o .same;
+              table = o .table;
+              same = s ∙ o .same;
               few = omega (arith, o .few, further);
               open-few = omega (arith, o .open-few, further);
               short = o .short;
-              leads = rw g
-                  (turn-leads (λ x. closed limit (lay .style) x >>= startRule limit (metTerm b (tokensFrom document (h .next)) (styled style.Text lay)) b) new k _
-                  (λ x. by-kind (kind.Start b) e (page [] lay x) ∙ start-is limit full at _ _ [] lay x b (λ d. c (q ∙ d)))
-                  (wrote-then room mid len n (closed limit (lay .style)) (startRule limit (metTerm b (tokensFrom document (h .next)) (styled style.Text lay)) b) (seen new k) (closes mid n w)
-                  (v ∙ ap (λ (c : ℕ). seen mid n >>= startRule c met b) (z ∙ s ∙ o .same) ∙ ap (λ (l : Markdown). seen mid n >>= startRule limit l b) t)));
+              leads = rw (z, u)
+                  (turn-leads (λ x. closed limit (lay .style) x >>= startRule limit (metTerm b next (styled style.Text lay)) b) new k _
+                  (λ x. by-kind (kind.Start b) e (page [] lay x) ∙ start-is limit full at _ _ [] lay x b (eqb-false (index b) 10 (ap isMeta (sym e) ∙ m)))
+                  (w (o .table) ∙ ap (λ (c : ℕ). seen room len >>= startedText c met b) (o .same)
+                  ∙ ap (λ (st : Style). seen room len >>= λ x. closed limit st x >>= startRule limit (styled style.Text met) b) v
+                  ∙ ap (λ (l : Markdown). seen room len >>= λ x. closed limit (lay .style) x >>= startRule limit l b) u));
             }
 
-        pub on-ended : (lay′ : Markdown) (new text : List ℕ) (k m : ℕ) → h .kind ≡ kind.End b → (i ≡ 10 → ⊥) → length mid ≡ length room → length new ≡ length mid
-            → text ≡ endText (styled style.Text lay) b → seen new k ≡ (seen mid n >>= extended m text) → m ≡ length mid
-            → lay′ ≡ endLay b (styled style.Text lay) → On new (h .next) k lay′
-        on-ended lay′ new text k m e c s u t v z f =
-            let x₁ = end-few b (styled style.Text lay) in
+        -- it ends
+        pub on-ended : h .kind ≡ kind.End b → isMeta (h .kind) ≡ false → length new ≡ length room
+            → (tags ≡ allTags → seen new k ≡ (seen room len >>= endedText (length room) lay b)) → lay′ ≡ endLay b (styled style.Text lay) → On new (h .next) k
+            lay′
+        on-ended e m s w f =
+            let x = end-few b (styled style.Text lay) in
             let y₁ = ap (λ (l : Markdown). l .skip) f in
             let y₂ = ap (λ (l : Markdown). l .mono) f in
             record {
-              same = u ∙ s ∙ o .same;
+              table = o .table;
+              same = s ∙ o .same;
               few = omega (arith, o .few, further);
               open-few = omega (arith, o .open-few, further);
               short = o .short;
               leads = rw f
-                  (turn-leads (λ x. closed limit (lay .style) x >>= extended limit (endText (styled style.Text lay) b)) new k _
-                  (λ x. by-kind (kind.End b) e (page [] lay x) ∙ end-is limit full at _ _ [] lay x b (λ d. c (q ∙ d)))
-                  (wrote-then room mid len n (closed limit (lay .style)) (extended limit (endText (styled style.Text lay) b)) (seen new k) (closes mid n w)
-                  (v ∙ ap (λ (c : ℕ). seen mid n >>= extended c text) (z ∙ s ∙ o .same) ∙ ap (λ (y : List ℕ). seen mid n >>= extended limit y) t)));
+                  (turn-leads (endedText limit lay b) new k _
+                  (λ x. by-kind (kind.End b) e (page [] lay x) ∙ end-is limit full at _ _ [] lay x b (eqb-false (index b) 10 (ap isMeta (sym e) ∙ m)))
+                  (w (o .table) ∙ ap (λ (c : ℕ). seen room len >>= endedText c lay b) (o .same)));
             }
 
       -- text
@@ -225,12 +236,11 @@ module _ (limit : ℕ) (full : Bool) (document : List ℕ) where
         on-hidden z = passes (λ x. by-kind (kind.Text st) e (page [] lay x) ∙ hidden-is limit full at _ _ [] lay x st z)
 
         -- the style has changed, and the chunks of the body are left
-        pub on-body : (new : List ℕ) (n : ℕ) (lay′ : Markdown) → hides (lay .skip) ≡ false
-            → seen new n ≡ (seen room len >>= extended (length room) (closing (lay .style) ++ opening st)) → lay′ ≡ styled st lay
-            → InBody new (h .next) n lay′ (part document (h .start) (h .next)) start
+        pub on-body : (y new : List ℕ) (n : ℕ) (lay′ : Markdown) → y ≡ part document (h .start) (h .stop) → hides (lay .skip) ≡ false
+            → (tags ≡ allTags → seen new n ≡ (seen room len >>= extended (length room) (closing (lay .style) ++ opening st))) → lay′ ≡ styled st lay
+            → InBody new (h .next) n lay′ y start
         unfolding change split
-        on-body new n lay′ z w g =
-            let y = part document (h .start) (h .next) in
+        on-body y new n lay′ b z w g =
             let y₁ = ap (λ (l : Markdown). l .skip) g in
             let y₂ = ap (λ (l : Markdown). l .mono) g in
             record {
@@ -240,51 +250,58 @@ module _ (limit : ℕ) (full : Bool) (document : List ℕ) where
                   (walking.turn-begins (turn limit full) (finish limit) document whole at room len [] lay (o .leads) r l
                   (change limit st) (chunksThen full (chunk limit full) (after (h .next)) (split y)) (shown new n [] (styled st lay))
                   (λ x.
-                  ap (λ (q : Result State). q >>= rest (h .next)) (by-kind (kind.Text st) e (page [] lay x) ∙ text-is limit full at y _ [] lay x st z)
+                  ap (λ (q : Result State). q >>= rest (h .next))
+                  (by-kind (kind.Text st) e (page [] lay x) ∙ text-is limit full at _ _ [] lay x st z
+                  ∙ ap (λ (a : List ℕ). change limit st (page [] lay x) >>= body full (chunk limit full) (split a) >>= bodyEnds limit) (sym b))
                   ∙ sym (bind-assoc (change limit st (page [] lay x) >>= body full (chunk limit full) (split y)) (bodyEnds limit) (rest (h .next)))
                   ∙ sym (bind-assoc (change limit st (page [] lay x)) (body full (chunk limit full) (split y)) (after (h .next))))
                   (shown-write (withLay (styled st)) [] [] lay (styled st lay) (λ x. refl) limit room new len n (closing (lay .style) ++ opening st)
-                  (w ∙ ap (λ (c : ℕ). seen room len >>= extended c (closing (lay .style) ++ opening st)) (o .same))
-                  ∙ sym (shown-then room len [] lay (change limit st) (λ s. write limit (closing (lay .style) ++ opening st) (withLay (styled st) s)) (λ x. refl))));
+                  (w (o .table) ∙ ap (λ (c : ℕ). seen room len >>= extended c (closing (lay .style) ++ opening st)) (o .same))
+                  ∙ sym (shown-then room len [] lay (change limit st) (λ s. write limit (closing (lay .style) ++ opening st) (withLay (styled st) s))
+                  (λ x. refl))));
             }
 
         -- the chunks are done, or one ended the walk of the body; the code lines end
-        module _ {old : List ℕ} {k : ℕ} {l₁ : Markdown} {c : Cursor} (s : length old ≡ limit) (i : InBody old (h .next) k l₁ (part document (h .start) (h .next)) c)
-            (new text : List ℕ) (n : ℕ) (u : length new ≡ length old) (t : text ≡ codeEnds l₁) (w : seen new n ≡ (seen old k >>= extended (length old) text)) where
-          ends : (l₂ : Markdown) → l₂ .fenced ≡ l₁ .fenced → Leads whole (after (h .next)) (shown old k [] l₂) → Leads whole (rest (h .next)) (shown new n [] (fenced false l₂))
+        module _ {y old : List ℕ} {k : ℕ} {l₁ : Markdown} {c : Cursor} (s : length old ≡ limit) (i : InBody old (h .next) k l₁ y c)
+            (new : List ℕ) (n : ℕ) (u : length new ≡ length old) (w : tags ≡ allTags → seen new n ≡ (seen old k >>= extended (length old) (codeEnds l₁))) where
+          ends : (l₂ : Markdown) → l₂ .fenced ≡ l₁ .fenced → Leads whole (after (h .next)) (shown old k [] l₂)
+              → Leads whole (rest (h .next)) (shown new n [] (fenced false l₂))
           unfolding bodyEnds
           ends l₂ f g =
               leads-on whole (after (h .next)) (shown old k [] l₂) g (bodyEnds limit) (rest (h .next)) (shown new n [] (fenced false l₂)) (λ s. refl)
               (shown-write (withLay (fenced false)) [] [] l₂ (fenced false l₂) (λ x. refl) limit old new k n (codeEnds l₂)
-              (w ∙ ap (λ (m : ℕ). seen old k >>= extended m text) s ∙ ap (λ (y : List ℕ). seen old k >>= extended limit y) (t ∙ ap (λ (b : Bool). codeEnds (fenced b l₂)) (sym f)))
+              (w (o .table) ∙ ap (λ (m : ℕ). seen old k >>= extended m (codeEnds l₁)) s
+              ∙ ap (λ (y : List ℕ). seen old k >>= extended limit y) (ap (λ (b : Bool). codeEnds (fenced b l₂)) (sym f)))
               ∙ sym (shown-then old k [] l₂ (bodyEnds limit) (λ s. write limit (codeEnds l₂) (withLay (fenced false) s)) (λ x. refl)))
 
-          pub on-done : chunksFrom (part document (h .start) (h .next)) c ≡ [] → On new (h .next) n (fenced false l₁)
+          pub on-done : chunksFrom y c ≡ [] → On new (h .next) n (fenced false l₁)
           on-done f = record {
+            table = o .table;
             same = u ∙ s;
             few = i .few;
             open-few = i .open-few;
             short = o .short;
-            leads = ends l₁ refl (chunks-done full (chunk limit full) (after (h .next)) whole _ c (shown old k [] l₁) (i .leads) f);
+            leads = ends l₁ refl (chunks-done full (chunk limit full) (after (h .next)) whole y c (shown old k [] l₁) (i .leads) f);
           }
 
-          pub on-stopped : {p : Piece} {d : Cursor} → Took (part document (h .start) (h .next)) c p d → last full (chunkOf (part document (h .start) (h .next)) p) ≡ true
+          pub on-stopped : {p : Piece} {d : Cursor} → Took y c p d → last full (chunkOf y p) ≡ true
               → (j : ℕ) → j ≡ skipParagraph (l₁ .skip) → On new (h .next) n (fenced false (skip j l₁))
           on-stopped {p} q f j g = record {
+            table = o .table;
             same = u ∙ s;
             few = omega (arith, further, g);
             open-few = i .open-few;
             short = o .short;
             leads = ends (skip j l₁) refl
-                (chunks-stop full (chunk limit full) (after (h .next)) whole _ c (shown old k [] l₁) (i .leads) q (shown old k [] (skip j l₁))
+                (chunks-stop full (chunk limit full) (after (h .next)) whole y c (shown old k [] l₁) (i .leads) q (shown old k [] (skip j l₁))
                 (shown-changed (withLay (skip 1)) [] [] l₁ (skip j l₁) (λ x. ap (λ (n : ℕ). page [] (skip n l₁) x) (sym g)) old k
-                ∙ sym (bind-same (shown old k [] l₁) _ _ (λ s. chunk-last limit s full (chunkOf _ p) f))) f);
+                ∙ sym (bind-same (shown old k [] l₁) _ _ (λ s. chunk-last limit s full (chunkOf y p) f))) f);
           }
 
-pub body-few : (document : List ℕ) (from to : ℕ) → length document ≤ 32_768 → to ≤ length document → length (part document from to) ≤ 32_768
-body-few document from to h k = omega (arith, length-take (to - from) (drop from document))
+pub body-few : (document y : List ℕ) (from to : ℕ) → y ≡ part document from to → length document ≤ 32_768 → to ≤ length document → length y ≤ 32_768
+body-few document y from to e h k = omega (arith, ap length e, length-take (to - from) (drop from document))
 
 -- the same for a room that has kept its length
-pub body-at : {limit m : ℕ} {full : Bool} {document room : List ℕ} {at len : ℕ} {lay : Markdown} {y : List ℕ} {c : Cursor} → m ≡ limit
-    → InBody limit full document room at len lay y c → InBody m full document room at len lay y c
+pub body-at : {limit m : ℕ} {full : Bool} {tags document room : List ℕ} {at len : ℕ} {lay : Markdown} {y : List ℕ} {c : Cursor} → m ≡ limit
+    → InBody limit full tags document room at len lay y c → InBody m full tags document room at len lay y c
 body-at e i = rw e i

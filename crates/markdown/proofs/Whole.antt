@@ -4,8 +4,9 @@ use mathlib.Core.Path.{_≡_}
 use mathlib.Core.Bool.{Bool}
 use mathlib.Core.List.{List, []}
 use Rattle.base.specs.Result.{Result, gives, refused, _>>=_}
-use Rattle.document.specs.Document.{tokens, check}
-use Rattle.walk.specs.Walk.{walk}
+use Rattle.records.specs.Records.{tokens}
+use Rattle.document.specs.Document.{check}
+use Rattle.renderer.specs.Walk.{walk}
 use Rattle.html_rules.specs.Markdown.{initial, turn, finish, markdown}
 
 module _ (limit : ℕ) (full : Bool) (document : List ℕ) where

@@ -1,7 +1,7 @@
 // A list of cases, calls with the oracle's answers, as the programs `replay` and `replay_builder` read it (its form stands in
 // oracle/src/cases.rs), and the counts that they print.
 ghost use Prim.Native.Nat.{_<_, _≤_};
-use document::Refusal;
+use refusal::Refusal;
 
 fn wide(b: u8) -> usize
     ensures { λ r. ⌜ r < 256 ⌝ }
@@ -145,10 +145,10 @@ pub fn answer_of<'a>(case: &'a [u8]) -> &'a [u8] {
 
 // Whether a refusal has this number and place.
 pub fn is_refusal(a: Refusal, number: usize, place: usize) -> bool {
-    if document::refusal_number(a) as usize != number {
+    if refusal::refusal_number(a) as usize != number {
         return false;
     }
-    document::refusal_place(a) == place
+    refusal::refusal_place(a) == place
 }
 
 // The pattern in a room before a call: 1, 32, 63 and so on, in turns of the numbers 1 to 255.

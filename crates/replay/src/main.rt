@@ -5,11 +5,11 @@ use console_rules::Settings;
 use document::Checked;
 use recorded::Call;
 use recorded::Next;
+use renderer::Rendered;
 use splitter::Code;
 use splitter::Cursor;
 use splitter::Piece;
 use splitter::Step;
-use walk::Rendered;
 
 // Whether `check` answers as a case says.
 fn checks(document: &[u8], answer: &[u8]) -> bool {

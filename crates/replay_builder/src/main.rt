@@ -1,10 +1,10 @@
 // Reads a list of the builder's calls with the oracle's answers from standard input, makes each call and compares, and prints one line
 // with the counts.
 use buffer::Built;
-use document::Kind;
-use document::Refusal;
 use recorded::Call;
 use recorded::Next;
+use records::Kind;
+use refusal::Refusal;
 
 // A style or block that does not exist, which no list has.
 fn no_such() -> Built {
@@ -12,7 +12,7 @@ fn no_such() -> Built {
 }
 
 fn write(room: &mut [u8], length: usize, style: usize, text: &[u8]) -> Built {
-    let kind = document::kind_of(style);
+    let kind = records::kind_of(style);
     match kind {
         Kind::Text(s) => buffer::write_str(room, length, s, text),
         Kind::Start(_) => no_such(),
@@ -25,7 +25,7 @@ fn open_or_close(open: bool, room: &mut [u8], length: usize, block: usize) -> Bu
     if 11 < block {
         return no_such();
     }
-    let kind = document::kind_of(0x0100 + block);
+    let kind = records::kind_of(0x0100 + block);
     match kind {
         Kind::Text(_) => no_such(),
         Kind::Start(b) => {
@@ -44,10 +44,10 @@ fn build(call: Call, argument: &[u8], length: usize, room: &mut [u8]) -> Built {
         return write(room, length, call.setting, argument);
     }
     if call.number == 9 {
-        return buffer::doc(room, length, argument);
+        return buffer_doc::doc(room, length, argument);
     }
     if call.number == 10 {
-        return buffer::em_doc(room, length, argument);
+        return buffer_doc::em_doc(room, length, argument);
     }
     open_or_close(call.number == 7, room, length, call.setting)
 }

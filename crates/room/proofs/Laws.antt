@@ -7,15 +7,16 @@ use Prim.Native.Nat.{ℕ, suc, _+_, _-_, _≤_, _<_}
 use native.Mathlib.Nat.{sub-zero}
 use native.Mathlib.Omega.{arith}
 use native.Mathlib.Numerals.{add-one}
-use lib.ListN.{length, take, drop, getD, set, replicate, length-append, length-replicate, replicate-append-replicate}
-use lib.Seq.{length-take-le, take-suc, take-suc-set, take-take, take-all}
+use lib.ListN.{length, take, drop, getD, set, replicate, length-append, length-drop, length-replicate, replicate-append-replicate}
+use lib.Seq.{length-take-le, take-suc, take-suc-set, take-take, take-all, take-append-seam}
 use borrow.Author.Tests.{le-leb, lt-leb}
 use Rattle.base.specs.Result.{gives, refused, _>>=_}
-use Rattle.base.specs.Bytes.{startsWith, endsWith}
+use Rattle.base.specs.Bytes.{startsWith, endsWith, overwritten}
 use Rattle.base.proofs.Choice.{if-true, if-false, le-or-lt}
 use Rattle.base.proofs.Parts.{part-end}
-use Rattle.utf8.specs.White.{trim}
-use Rattle.utf8.proofs.White.{trim-prefix, trim-shorter}
+use Rattle.base.proofs.Pasting.{overwritten-whole}
+use Rattle.white.specs.White.{trim}
+use Rattle.white.proofs.White.{trim-prefix, trim-shorter}
 use Rattle.room.specs.Room.{extended, seen, padded}
 
 -- a length within the room, and one past it
@@ -74,6 +75,20 @@ extended-twice limit a b x =
     (le-or-lt (length (x ++ a) + length b) limit)))
     (λ (h : limit < length x + length a). rw (extended-out limit a x h) (sym (extended-out limit (a ++ b) x (omega arith))))
     (le-or-lt (length x + length a) limit)
+
+-- some bytes copied over the part of a room that they fill, from a length on
+module _ (old part x : List ℕ) (len k : ℕ) (size : k ≡ length x) (fits : len + length x ≤ length old)
+    (e : part ≡ overwritten (take k (drop len old)) 0 x) where
+  filled-part : part ≡ x
+  filled-part = e ∙ overwritten-whole (take k (drop len old)) x (length-take-le k (drop len old) (omega (arith, length-drop len old)) ∙ size)
+
+  pub part-length : length (take len old ++ (part ++ drop k (drop len old))) ≡ length old
+  part-length = rw filled-part (simp (length-append, length-drop) (omega (arith, length-take-le len old (omega arith))))
+
+  pub part-wrote : take (len + length x) (take len old ++ (part ++ drop k (drop len old))) ≡ take len old ++ x
+  part-wrote =
+      let n : length (take len old ++ x) ≡ len + length x = rw length-append (ap (λ (m : ℕ). m + length x) (length-take-le len old (omega arith))) in
+      rw (filled-part, ← append-assoc, ← n) (take-append-seam (take len old ++ x) _)
 
 -- Loops that write
 

@@ -7,7 +7,7 @@ ghost use Prim.Native.Nat.{_+_, _≤_};
 ghost use lib.ListN.{length, take, replicate};
 ghost use Rattle.base.specs.Result.{gives, _>>=_ as bind};
 ghost use Rattle.base.specs.Bytes.{endsWith};
-ghost use Rattle.utf8.specs.White.{trim};
+ghost use Rattle.white.specs.White.{trim};
 ghost use Rattle.room.specs.Room.{seen, extended, padded};
 
 // One byte more.
@@ -21,26 +21,15 @@ pub fn put(room: &mut [u8], len: usize, byte: u8) -> usize
     room.len() + 1
 }
 
-// Some bytes into a room from `at` on, where they fit.
-fn copy_at(room: &mut [u8], at: usize, bytes: &[u8])
-    requires { ⌜ at + length (now bytes) ≤ length (now room) ⌝ }
-    ensures { λ _. ⌜ take (at + length (now (bytes .entry))) (now (room .exit)) ≡ take at (now (room .entry)) ++ now (bytes .entry) ⌝ }
-{
-    let mut i: usize = 0;
-    while i < bytes.len() {
-        room[at + i] = bytes[i];
-        i += 1;
-    }
-}
-
 // Some bytes more.
 pub fn put_all(room: &mut [u8], len: usize, bytes: &[u8]) -> usize
     ensures { λ r. ⌜ seen (now (room .exit)) r ≡ bind (seen (now (room .entry)) len) (extended (length (now (room .entry))) (now (bytes .entry))) ⌝ }
 {
     if len <= room.len() {
         if bytes.len() <= room.len() - len {
-            copy_at(room, len, bytes);
-            return len + bytes.len();
+            let to = len + bytes.len();
+            base::copy_from_slice(&mut room[len..to], 0, bytes);
+            return to;
         }
     }
     room.len() + 1
@@ -110,5 +99,5 @@ pub fn trim_end(room: &[u8], len: usize) -> usize
     if len > room.len() {
         return len;
     }
-    utf8::trim_end(&room[..len])
+    white::trim_end(&room[..len])
 }

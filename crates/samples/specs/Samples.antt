@@ -6,13 +6,13 @@ use mathlib.Core.Bool.{Bool, true, false}
 use mathlib.Core.List.{List, [], _∷_, _++_, map}
 use Rattle.base.specs.Result.{Result, gives, refused}
 use Rattle.utf8.specs.Utf8.{bytes}
-use Rattle.document.specs.Stored.{text, around}
-use Rattle.document.specs.declared.Style.the-variants as style
-use Rattle.document.specs.declared.Block.{Block}
-use Rattle.document.specs.declared.Block.the-variants as block
+use Rattle.records.specs.Stored.{text, around}
+use Rattle.records.specs.declared.Style.the-variants as style
+use Rattle.records.specs.declared.Block.{Block}
+use Rattle.records.specs.declared.Block.the-variants as block
 use Rattle.console_rules.specs.Console as consoleRules
 use Rattle.html_rules.specs.Html as htmlRules
-use Rattle.manpage.specs.Escape.{preamble}
+use Rattle.roff_escape.specs.Escape.{preamble}
 use Rattle.manpage.specs.Roff as roffRules
 
 -- Documents, as they are stored: text in style Text, text in style Literal, and a block so many times around some records.

@@ -10,23 +10,24 @@ use borrow.Author.Tests.{leb-true, le-leb}
 use Rattle.base.specs.Choice.{if_then_else_, among}
 use Rattle.base.specs.Result.{Result, gives, refused, measured}
 use Rattle.base.proofs.Choice.{and-right, and-both, same-test, not-passed}
-use Rattle.document.specs.Document.{kindOf}
-use Rattle.document.specs.Answers.{refusalNumber, refusalPlace, verdictOf}
-use Rattle.document.specs.declared.Refusal.{Refusal}
-use Rattle.document.specs.declared.Style.{Style}
-use Rattle.document.specs.declared.Style.the-variants as style
-use Rattle.document.specs.declared.Block.{Block}
-use Rattle.document.specs.declared.Block.the-variants as block
-use Rattle.document.specs.declared.Kind.{Kind}
-use Rattle.document.specs.declared.Kind.the-variants as kind
+use Rattle.records.specs.Records.{kindOf}
+use Rattle.refusal.specs.Numbers.{refusalNumber, refusalPlace}
+use Rattle.document.specs.Answers.{verdictOf}
+use Rattle.refusal.specs.declared.Refusal.{Refusal}
+use Rattle.records.specs.declared.Style.{Style}
+use Rattle.records.specs.declared.Style.the-variants as style
+use Rattle.records.specs.declared.Block.{Block}
+use Rattle.records.specs.declared.Block.the-variants as block
+use Rattle.records.specs.declared.Kind.{Kind}
+use Rattle.records.specs.declared.Kind.the-variants as kind
 use Rattle.document.specs.declared.Checked.{Checked}
 use Rattle.document.specs.declared.Checked.the-variants as checked
 use Rattle.buffer.specs.Answers.{builtAs, kept}
 use Rattle.buffer.specs.declared.Built.{Built}
 use Rattle.buffer.specs.declared.Built.the-variants as built
-use Rattle.walk.specs.Rendered.{answered}
-use Rattle.walk.specs.declared.Rendered.{Rendered}
-use Rattle.walk.specs.declared.Rendered.the-variants as rendered
+use Rattle.renderer.specs.Rendered.{answered}
+use Rattle.renderer.specs.declared.Rendered.{Rendered}
+use Rattle.renderer.specs.declared.Rendered.the-variants as rendered
 use Rattle.sefgrunn.specs.Numbers.{numberOf, placeOf, lengthOrPlace, lengthAfter, told, inStyle, inBlock}
 
 module _ (c : Checked) (x : Result (List ℕ)) (e : verdictOf c [] ≡ x) where

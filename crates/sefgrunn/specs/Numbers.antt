@@ -6,11 +6,11 @@ use lib.Dec.{leb, eqb}
 use lib.ListN.{getD}
 use Rattle.base.specs.Choice.{if_then_else_, among}
 use Rattle.base.specs.Result.{Result, gives, refused}
-use Rattle.document.specs.Document.{styles, blocks}
-use Rattle.document.specs.declared.Style.{Style}
-use Rattle.document.specs.declared.Style.the-variants as style
-use Rattle.document.specs.declared.Block.{Block}
-use Rattle.document.specs.declared.Block.the-variants as block
+use Rattle.records.specs.Records.{styles, blocks}
+use Rattle.records.specs.declared.Style.{Style}
+use Rattle.records.specs.declared.Style.the-variants as style
+use Rattle.records.specs.declared.Block.{Block}
+use Rattle.records.specs.declared.Block.the-variants as block
 use Rattle.buffer.specs.Builder.{writes, opensBlock, closesBlock}
 use Rattle.console_rules.specs.declared.Settings.{Settings}
 

@@ -4,8 +4,8 @@ ghost use mathlib.Core.Bool.{true, false};
 ghost use lib.ListN.{length};
 ghost use Rattle.base.specs.Result.{measured};
 ghost use Rattle.document.specs.Document.{check};
-ghost use Rattle.document.specs.Answers.{refusalNumber, refusalPlace};
-ghost use Rattle.walk.specs.Rendered.{answered, filled};
+ghost use Rattle.refusal.specs.Numbers.{refusalNumber, refusalPlace};
+ghost use Rattle.renderer.specs.Rendered.{answered, filled};
 ghost use Rattle.console_rules.specs.Console.{console};
 ghost use Rattle.console.specs.Answers.{Demand3};
 ghost use Rattle.buffer.specs.Answers.{builtAs, kept};
@@ -17,9 +17,9 @@ ghost use Rattle.sefgrunn.specs.Numbers.{numberOf, placeOf, lengthOrPlac
 use buffer::Built;
 use console_rules::Settings;
 use document::Checked;
-use document::Kind;
-use document::Refusal;
-use walk::Rendered;
+use records::Kind;
+use refusal::Refusal;
+use renderer::Rendered;
 
 // Accepted, where no length is stored.
 fn accepted(place: &mut usize) -> u32
@@ -35,8 +35,8 @@ fn refused(a: Refusal, place: &mut usize) -> u32
     ensures number { λ r. ⌜ r ≡ refusalNumber a ⌝ }
     ensures place { λ _. ⌜ now (place .exit) ≡ refusalPlace a ⌝ }
 {
-    *place = document::refusal_place(a);
-    document::refusal_number(a)
+    *place = refusal::refusal_place(a);
+    refusal::refusal_number(a)
 }
 
 // A style or block number outside its range: 3 with place 0.
@@ -182,7 +182,7 @@ pub extern "C" fn sefgrunn_write(
     ensures place { λ _. ⌜ now (place .exit) ≡ placeOf (writesIn (now (room .entry)) (now (len .entry)) style (now (text .entry))) ⌝ }
     ensures room { λ _. ⌜ now (room .exit) ≡ kept (now (room .entry)) (writesIn (now (room .entry)) (now (len .entry)) style (now (text .entry))) ⌝ }
 {
-    let kind = document::kind_of(style as usize);
+    let kind = records::kind_of(style as usize);
     match kind {
         Kind::Text(s) => {
             let built = buffer::write_str(room, *len, s, text);
@@ -207,7 +207,7 @@ pub extern "C" fn sefgrunn_open(
     ensures place { λ _. ⌜ now (place .exit) ≡ placeOf (opensIn (now (room .entry)) (now (len .entry)) block) ⌝ }
     ensures room { λ _. ⌜ now (room .exit) ≡ kept (now (room .entry)) (opensIn (now (room .entry)) (now (len .entry)) block) ⌝ }
 {
-    let kind = document::kind_of(0x0100 + block as usize);
+    let kind = records::kind_of(0x0100 + block as usize);
     match kind {
         Kind::Text(_) => out_of_range(place),
         Kind::Start(b) => {
@@ -232,7 +232,7 @@ pub extern "C" fn sefgrunn_close(
     ensures place { λ _. ⌜ now (place .exit) ≡ placeOf (closesIn (now (room .entry)) (now (len .entry)) block) ⌝ }
     ensures room { λ _. ⌜ now (room .exit) ≡ kept (now (room .entry)) (closesIn (now (room .entry)) (now (len .entry)) block) ⌝ }
 {
-    let kind = document::kind_of(0x0100 + block as usize);
+    let kind = records::kind_of(0x0100 + block as usize);
     match kind {
         Kind::Text(_) => out_of_range(place),
         Kind::Start(b) => {
@@ -257,7 +257,7 @@ pub extern "C" fn sefgrunn_doc(
     ensures place { λ _. ⌜ now (place .exit) ≡ placeOf (addsDoc (now (room .entry)) (now (len .entry)) (now (added .entry))) ⌝ }
     ensures room { λ _. ⌜ now (room .exit) ≡ kept (now (room .entry)) (addsDoc (now (room .entry)) (now (len .entry)) (now (added .entry))) ⌝ }
 {
-    let built = buffer::doc(room, *len, added);
+    let built = buffer_doc::doc(room, *len, added);
     stored(built, len, place)
 }
 
@@ -274,6 +274,6 @@ pub extern "C" fn sefgrunn_em_doc(
     ensures place { λ _. ⌜ now (place .exit) ≡ placeOf (addsEmDoc (now (room .entry)) (now (len .entry)) (now (added .entry))) ⌝ }
     ensures room { λ _. ⌜ now (room .exit) ≡ kept (now (room .entry)) (addsEmDoc (now (room .entry)) (now (len .entry)) (now (added .entry))) ⌝ }
 {
-    let built = buffer::em_doc(room, *len, added);
+    let built = buffer_doc::em_doc(room, *len, added);
     stored(built, len, place)
 }

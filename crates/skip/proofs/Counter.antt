@@ -4,9 +4,9 @@ use mathlib.Core.Path.{_≡_, refl, sym}
 use native.Mathlib.Omega.{arith}
 use borrow.Author.Tests.{lt-ltb, le-ltb}
 use Rattle.base.proofs.Choice.{pick, if-true, if-false}
-use Rattle.document.specs.declared.Block.{Block}
-use Rattle.document.specs.declared.Block.the-variants as block
-use Rattle.walk.specs.Walk.{skipStart, skipEnd}
+use Rattle.records.specs.declared.Block.{Block}
+use Rattle.records.specs.declared.Block.the-variants as block
+use Rattle.skip.specs.Counter.{skipStart, skipEnd}
 use Rattle.skip.specs.Answers.{held}
 
 -- a number that fits is held

@@ -1,8 +1,12 @@
 // The skip counter (src/buffer.rs, `Skip`): by value, lent and changed in place, and, for the renderers, from a number to a number.
 ghost use mathlib.Core.Path.{_≡_};
-ghost use Rattle.document.specs.declared.Block.the-variants as block;
-ghost use Rattle.walk.specs.Walk.{hides, skipParagraph, skipStart, skipEnd};
+ghost use Rattle.records.specs.declared.Block.the-variants as block;
+ghost use Rattle.skip.specs.Counter.{hides, skipParagraph, skipStart, skipEnd};
 ghost use Rattle.skip.specs.Answers.{held};
+ghost use Prim.Native.Nat.{_+_, _<_};
+ghost use lib.Dec.{eqb};
+ghost use Rattle.records.specs.Records.{index};
+use records::Block;
 
 pub struct Skip(pub usize);
 
@@ -84,4 +88,31 @@ pub fn pop_number(n: usize) -> usize
     let mut skip = Skip(n);
     skip.pop();
     skip.0
+}
+
+// Whether a block is an InlineBlock.
+fn is_inline(b: Block) -> bool
+    ensures { λ r. ⌜ r ≡ eqb (index b) 8 ⌝ }
+{
+    records::index_of(b) == 8
+}
+
+// The skip counter after the start of a block.
+pub fn skip_start(b: Block, n: usize) -> usize
+    ensures { λ r. ⌜ r ≡ held n (skipStart b n) ⌝ }
+{
+    if !is_inline(b) {
+        return n;
+    }
+    push_number(n)
+}
+
+// The skip counter after the end of a block.
+pub fn skip_end(b: Block, n: usize) -> usize
+    ensures { λ r. ⌜ r ≡ skipEnd b n ⌝ }
+{
+    if !is_inline(b) {
+        return n;
+    }
+    pop_number(n)
 }

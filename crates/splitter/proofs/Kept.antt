@@ -13,7 +13,8 @@ use Rattle.base.specs.Bytes.{startsWith}
 use Rattle.base.proofs.Choice.{pick, and-left, and-right, and-both}
 use Rattle.base.proofs.Prefix.{starts-split}
 use Rattle.base.proofs.Parts.{drop-less}
-use Rattle.splitter.specs.Split.{Chunk, raw, paragraph, lineBreak, before, isLineEnd, isLineEndOrSpace, line, ticks, four, Step, afterLineEnd, ticked, step, chunks, split}
+use Rattle.splitter.specs.Split.{Chunk, raw, paragraph, lineBreak, before, isLineEnd, isLineEndOrSpace, line, ticks, four}
+use Rattle.splitter.specs.Split.{Step, afterLineEnd, ticked, step, chunks, split}
 use Rattle.splitter.specs.declared.Code.{Code}
 use Rattle.splitter.specs.declared.Code.the-variants as code
 use Rattle.splitter.proofs.Before.{before-take}
@@ -127,7 +128,8 @@ code-step s e =
       lead = 0x0A ∷ four;
       kept = line (drop 4 s);
       tail = [];
-      bytes = take-add 5 n (0x0A ∷ s) ∙ ap₂ (λ (a b : List ℕ). 0x0A ∷ a ++ b) (starts-take four s e) (sym (before-take isLineEnd (drop 4 s)) ∙ sym (append-nil (line (drop 4 s))));
+      bytes = take-add 5 n (0x0A ∷ s)
+          ∙ ap₂ (λ (a b : List ℕ). 0x0A ∷ a ++ b) (starts-take four s e) (sym (before-take isLineEnd (drop 4 s)) ∙ sym (append-nil (line (drop 4 s))));
       chunk = itself (line (drop 4 s)) 1_000_000;
       leadGaps = refl;
       tailGaps = refl;
@@ -210,7 +212,8 @@ accounted-solid s r a =
     let l = a .lead in
     let k = a .kept in
     let t = a .tail in
-    let e : solid (take (r .used) s) ≡ solid k = ap solid (a .bytes) ∙ solid-append l (k ++ t) ∙ ap₂ _++_ (gaps-solid l (a .leadGaps)) (solid-append k t ∙ ap (λ (x : List ℕ). solid k ++ x) (gaps-solid t (a .tailGaps)) ∙ append-nil (solid k)) in
+    let f : solid (k ++ t) ≡ solid k = solid-append k t ∙ ap (λ (x : List ℕ). solid k ++ x) (gaps-solid t (a .tailGaps)) ∙ append-nil (solid k) in
+    let e : solid (take (r .used) s) ≡ solid k = ap solid (a .bytes) ∙ solid-append l (k ++ t) ∙ ap₂ _++_ (gaps-solid l (a .leadGaps)) f in
     ap solid (sym (take-append-drop (r .used) s)) ∙ solid-append (take (r .used) s) (drop (r .used) s) ∙ ap (λ (x : List ℕ). x ++ solid (drop (r .used) s)) e
 
 chunks-solid : (s : List ℕ) (c : Code) (pass : ℕ) → solid (texts (chunks c pass s)) ≡ solid (drop pass s)

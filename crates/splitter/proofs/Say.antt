@@ -10,9 +10,9 @@ use Rattle.base.specs.Choice.{if_then_else_}
 use Rattle.base.proofs.Choice.{and-left, and-right, and-both}
 use Rattle.base.proofs.Parts.{drop-less}
 use Rattle.utf8.specs.Utf8.{continues, rowOf, table}
-use Rattle.utf8.specs.White.{printing, blank, white, whites}
+use Rattle.white.specs.White.{printing, blank, white, whites}
 use Rattle.utf8.proofs.Text.{Valid}
-use Rattle.utf8.proofs.White.{valid-left, valid-right, printing-append, blank-valid, blank-printing, blank-join, empty-blank}
+use Rattle.white.proofs.White.{valid-left, valid-right, printing-append, blank-valid, blank-printing, blank-join, empty-blank}
 use Rattle.splitter.specs.Split.{Chunk, raw, paragraph, lineBreak, isLineEndOrSpace, Step, step, chunks, split}
 use Rattle.splitter.specs.declared.Code.{Code}
 use Rattle.splitter.specs.declared.Code.the-variants as code
@@ -95,14 +95,15 @@ accounted-right s r a v =
     let k = a .kept in
     let t = a .tail in
     let d = drop (r .used) s in
-    let q : s ≡ l ++ (k ++ (t ++ d)) = sym (take-append-drop (r .used) s) ∙ ap (λ (x : List ℕ). x ++ d) (a .bytes) ∙ append-assoc l (k ++ t) d ∙ ap (λ (x : List ℕ). l ++ x) (append-assoc k t d) in
-    let f = blank-cut l (k ++ (t ++ d)) (a .leadGaps) (rw q at v) in
-    let u = valid-kept k (t ++ d) (a .whole) (f .0) in
-    let g = blank-cut t d (a .tailGaps) (valid-right k (t ++ d) u (f .0)) in
+    let f : (l ++ (k ++ t)) ++ d ≡ l ++ (k ++ (t ++ d)) = append-assoc l (k ++ t) d ∙ ap (λ (x : List ℕ). l ++ x) (append-assoc k t d) in
+    let q : s ≡ l ++ (k ++ (t ++ d)) = sym (take-append-drop (r .used) s) ∙ ap (λ (x : List ℕ). x ++ d) (a .bytes) ∙ f in
+    let c = blank-cut l (k ++ (t ++ d)) (a .leadGaps) (rw q at v) in
+    let u = valid-kept k (t ++ d) (a .whole) (c .0) in
+    let g = blank-cut t d (a .tailGaps) (valid-right k (t ++ d) u (c .0)) in
     record {
       sound = holds-sound (a .chunk) u;
       rest = g .0;
-      same = ap printing q ∙ f .1 ∙ printing-append k (t ++ d) u ∙ ap₂ _++_ (sym (holds-said (a .chunk))) (g .1);
+      same = ap printing q ∙ c .1 ∙ printing-append k (t ++ d) u ∙ ap₂ _++_ (sym (holds-said (a .chunk))) (g .1);
     }
 
 pub step-right : (c : Code) (b : ℕ) (s : List ℕ) → Valid (b ∷ s) → Right (b ∷ s) (step c (b ∷ s))

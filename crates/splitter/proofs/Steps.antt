@@ -112,8 +112,9 @@ module _ (body : List ℕ) (c : Cursor) where
       → chunksFrom body c ≡ stepFrom body c .chunk ∷ chunksFrom body (cursor (c .at + stepFrom body c .used) (stepFrom body c .code))
   chunks-next h =
       let q = drop-cons body (c .at) 0 h in
-      let f : chunksFrom body c ≡ stepFrom body c .chunk ∷ chunks (stepFrom body c .code) 0 (drop (stepFrom body c .used) (drop (c .at) body)) = rw q (chunks-step (c .code) _ _) in
-      f ∙ ap (λ (l : List ℕ). stepFrom body c .chunk ∷ chunks (stepFrom body c .code) 0 l) (drop-drop (stepFrom body c .used) (c .at) body)
+      let r = stepFrom body c in
+      let f : chunksFrom body c ≡ r .chunk ∷ chunks (r .code) 0 (drop (r .used) (drop (c .at) body)) = rw q (chunks-step (c .code) _ _) in
+      f ∙ ap (λ (l : List ℕ). r .chunk ∷ chunks (r .code) 0 l) (drop-drop (r .used) (c .at) body)
 
   -- where no chunk is left
   pub chunks-done : told body Done ≡ firstChunk body c → chunksFrom body c ≡ []
@@ -126,7 +127,9 @@ module _ (body : List ℕ) (c : Cursor) where
   pub chunks-take : (p : Piece) (d : Cursor) → told body (Take p d) ≡ firstChunk body c → chunksFrom body c ≡ chunkOf body p ∷ chunksFrom body d
   chunks-take p d e =
       ⊎-elim (λ (h : length body ≤ c .at). let f = e ∙ first-none h in cc)
-      (λ (h : c .at < length body). let n = next-is p d h e in chunks-next h ∙ ap₂ (λ (x : Chunk) (k : Cursor). x ∷ chunksFrom body k) (sym (n .0)) (sym (n .1)))
+      (λ (h : c .at < length body).
+      let n = next-is p d h e in
+      chunks-next h ∙ ap₂ (λ (x : Chunk) (k : Cursor). x ∷ chunksFrom body k) (sym (n .0)) (sym (n .1)))
       (le-or-lt (length body) (c .at))
 
 pub split-start : (body : List ℕ) → split body ≡ chunksFrom body start

@@ -1,5 +1,5 @@
 -- What the functions inside this crate promise each other; no rule of 01 stands here.
-use Prim.Native.Nat.{ℕ, _+_}
+use Prim.Native.Nat.{ℕ, _+_, _<_}
 use mathlib.Core.Path.{_≡_}
 use mathlib.Core.List.{List}
 use lib.ListN.{length, drop}
@@ -14,6 +14,10 @@ use Rattle.splitter.specs.declared.Step.the-variants.{Take, Done}
 -- where the word from a place on ends, and its characters
 abbrev pub wordFrom : List ℕ → ℕ → Word
 wordFrom body at = record { to = at + length (word (drop at body)); width = characters (word (drop at body)) }
+
+-- some bytes are those that follow the byte at a place of a body
+abbrev pub Follows : List ℕ → ℕ → List ℕ → Type 0
+Follows body at tail = (at < length body) × (tail ≡ drop (at + 1) body)
 
 -- the piece of an answer lies within the body
 abbrev pub Lies : List ℕ → Step → Type 0

@@ -1,11 +1,11 @@
 // The chunks of a body, one at a time (src/buffer/splitter.rs).
 ghost use mathlib.Core.Path.{_≡_};
 ghost use mathlib.Core.Bool.{false};
-ghost use Prim.Native.Nat.{_+_, _-_, _<_};
+ghost use Prim.Native.Nat.{_+_, _-_, _≤_, _<_};
 ghost use lib.ListN.{length, take, drop};
 ghost use Rattle.splitter.specs.Split.{line, step, stripped, ticked as tickedLine, afterLineEnd};
 ghost use Rattle.splitter.specs.Answers.{cursor, told, firstChunk, textOf, Within};
-ghost use Rattle.splitter.specs.Parts.{Gives, wordFrom};
+ghost use Rattle.splitter.specs.Parts.{Follows, Gives, wordFrom};
 ghost use Rattle.splitter.specs.declared.Code.the-variants as code;
 ghost use Rattle.splitter.specs.declared.Step.the-variants.{Take};
 
@@ -100,37 +100,60 @@ fn ticked(body: &[u8], at: usize, last: bool) -> Step
     ensures { λ r. ⌜ Gives (now (body .entry)) at (tickedLine last (drop at (now (body .entry)))) r ⌝ }
 {
     let to = line_end(body, at);
+    let next = to + 1;
     if last {
         if base::starts_with(body, to, b"\n\n") {
             return found(Piece::Raw(at, to, 1_000_001), to, Code::No);
         }
-        return found(Piece::Raw(at, to, 1_000_001), to + 1, Code::No);
+        return found(Piece::Raw(at, to, 1_000_001), next, Code::No);
     }
-    found(Piece::Raw(at, to, 1_000_001), to + 1, Code::Rest)
+    found(Piece::Raw(at, to, 1_000_001), next, Code::Rest)
 }
 
-// What the line end at `start` begins.
-fn after_line_end(body: &[u8], start: usize) -> Step
-    requires { ⌜ start < length (now body) ⌝ }
-    ensures { λ r. ⌜ Gives (now (body .entry)) start (afterLineEnd (drop (start + 1) (now (body .entry)))) r ⌝ }
+// The bytes from a place on.
+fn rest<'a>(body: &'a [u8], at: usize) -> &'a [u8]
+    requires { ⌜ at ≤ length (now body) ⌝ }
+    ensures { λ r. ⌜ now r ≡ drop at (now (body .entry)) ⌝ }
+{
+    &body[at..]
+}
+
+// The text after a prefix, all of it if the prefix isn't there. A prefix of some bytes was there if the part is shorter than the text, as the
+// functions below test for the source's `if let Some(tail)`.
+pub fn strip_prefix<'a>(text: &'a [u8], prefix: &[u8]) -> &'a [u8]
+    ensures { λ r. ⌜ now r ≡ stripped (now (prefix .entry)) (now (text .entry)) ⌝ }
+{
+    if base::starts_with(text, 0, prefix) {
+        return rest(text, prefix.len());
+    }
+    text
+}
+
+// What the line end at `start` begins; `tail` is what follows it.
+fn after_line_end(body: &[u8], start: usize, tail: &[u8]) -> Step
+    requires { ⌜ Follows (now body) start (now tail) ⌝ }
+    ensures { λ r. ⌜ Gives (now (body .entry)) start (afterLineEnd (now (tail .entry))) r ⌝ }
 {
     let at = start + 1;
-    if base::starts_with(body, at, b"    ") {
-        let from = at + 4;
+    let code = strip_prefix(tail, b"    ");
+    if code.len() < tail.len() {
+        let from = body.len() - code.len();
         let to = line_end(body, from);
         return found(Piece::Raw(from, to, 1_000_000), to, Code::No);
     }
-    if base::starts_with(body, at, b"\n```") {
+    if base::starts_with(tail, 0, b"\n```") {
         return found(Piece::Paragraph, at + 1, Code::First);
     }
-    if base::starts_with(body, at, b"\n    ") {
+    if base::starts_with(tail, 0, b"\n    ") {
         return found(Piece::Paragraph, at, Code::No);
     }
-    if base::starts_with(body, at, b"\n") {
-        return found(Piece::Paragraph, at + 1, Code::No);
+    let second = strip_prefix(tail, b"\n");
+    if second.len() < tail.len() {
+        return found(Piece::Paragraph, body.len() - second.len(), Code::No);
     }
-    if base::starts_with(body, at, b" ") {
-        return found(Piece::LineBreak, at + 1, Code::No);
+    let spaced = strip_prefix(tail, b" ");
+    if spaced.len() < tail.len() {
+        return found(Piece::LineBreak, body.len() - spaced.len(), Code::No);
     }
     found(Piece::Space, at, Code::No)
 }
@@ -140,12 +163,14 @@ fn plain(body: &[u8], at: usize) -> Step
     requires { ⌜ at < length (now body) ⌝ }
     ensures { λ r. ⌜ Gives (now (body .entry)) at (step code.No (drop at (now (body .entry)))) r ⌝ }
 {
-    let b = body[at];
-    if b == b'\n' {
-        return after_line_end(body, at);
+    let input = rest(body, at);
+    let tail = strip_prefix(input, b"\n");
+    if tail.len() < input.len() {
+        return after_line_end(body, at, tail);
     }
-    if b == b' ' {
-        return found(Piece::Space, at + 1, Code::No);
+    let spaced = strip_prefix(input, b" ");
+    if spaced.len() < input.len() {
+        return found(Piece::Space, body.len() - spaced.len(), Code::No);
     }
     let w = word_end(body, at);
     let to = w.to;
@@ -189,7 +214,7 @@ fn part<'a>(body: &'a [u8], from: usize, to: usize) -> &'a [u8]
         return &body[0..0];
     }
     if body.len() <= to {
-        return &body[from..];
+        return rest(body, from);
     }
     &body[from..to]
 }
@@ -204,15 +229,4 @@ pub fn text_of<'a>(body: &'a [u8], p: Piece) -> &'a [u8]
         Piece::Paragraph => &body[0..0],
         Piece::LineBreak => &body[0..0],
     }
-}
-
-// The text after a prefix, all of it if the prefix isn't there.
-pub fn strip_prefix<'a>(text: &'a [u8], prefix: &[u8]) -> &'a [u8]
-    ensures { λ r. ⌜ now r ≡ stripped (now (prefix .entry)) (now (text .entry)) ⌝ }
-{
-    if base::starts_with(text, 0, prefix) {
-        let from = prefix.len();
-        return &text[from..];
-    }
-    text
 }

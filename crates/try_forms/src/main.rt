@@ -1,5 +1,5 @@
-// The functions that lend a struct, run: how many chunks some bodies have, and a skip counter's number after a paragraph, an InlineBlock's start
-// and its end.
+// Functions that hand back a part of a slice or lend a struct, run: some texts without a prefix, how many chunks some bodies have, and a skip
+// counter's number after a paragraph, an InlineBlock's start and its end.
 use libc::STDOUT_FILENO;
 
 fn digit(n: usize) -> bool {
@@ -14,7 +14,15 @@ fn digit(n: usize) -> bool {
     }
 }
 
+// The text after two hyphens, all of it if they aren't there.
+fn name(text: &[u8]) -> bool {
+    io::write_all(STDOUT_FILENO, splitter::strip_prefix(text, b"--"))
+}
+
 fn main() {
+    name(b"--port\n");
+    name(b"-p\n");
+    name(b"\n");
     digit(splitter_iter::count_chunks(b""));
     digit(splitter_iter::count_chunks(b"a b"));
     digit(splitter_iter::count_chunks(b"a\n b\n\n"));

@@ -6,7 +6,7 @@ use crate::lines::byte_at;
 use crate::lines::part;
 use console_rules::Settings;
 use document::Checked;
-use walk::Rendered;
+use renderer::Rendered;
 
 // The bytes of roff's preamble.
 const PREAMBLE: usize = 35;
@@ -62,8 +62,8 @@ fn is_wanted(answer: Rendered, room: &[u8], number: usize, place: usize, text: &
     match answer {
         Rendered::Text(n) => number == 0 && n == text.len() && holds(room, text),
         Rendered::Refused(a) => {
-            document::refusal_number(a) as usize == number
-                && document::refusal_place(a) == place
+            refusal::refusal_number(a) as usize == number
+                && refusal::refusal_place(a) == place
                 && holds(room, b"")
         }
     }

@@ -14,7 +14,6 @@ use lib.Seq.{drop-cons, drop-drop, getD-drop}
 use Rattle.base.specs.Choice.{if_then_else_}
 use Rattle.base.proofs.Choice.{eq-or-not, and-left, and-right}
 use Rattle.utf8.specs.Utf8.{Range, within, rowOf, begins, sizeOf, fits, utf8, emit, decodeFrom, decode, encode, scalar, firstOf, characterAt}
-use Rattle.utf8.specs.White.{white, printing, printingCount}
 use Rattle.utf8.specs.Parts.{leadOf}
 use Rattle.utf8.specs.declared.Decoded.the-variants.{Char, Nothing}
 use Rattle.utf8.proofs.Laws.{size-next, size-stop, size-yes, due-1}
@@ -183,24 +182,3 @@ ascii-at s at h l =
 pub past-end : (s : List ℕ) (at : ℕ) → length s ≤ at → Nothing ≡ characterAt s at
 unfolding sizeOf
 past-end s at h = character-none s at (rw (drop-of-length-le s h))
-
--- Printing characters, one character after another
-
-module _ (s : List ℕ) (at c next : ℕ) (r : Read s at c next) where
-  pub printing-not : white c ≡ true → length (printing (drop at s)) ≡ length (printing (drop next s))
-  unfolding printing if_then_else_
-  printing-not w = rw (r .chars, w)
-
-  pub printing-one : white c ≡ false → length (printing (drop at s)) ≡ 1 + length (printing (drop next s))
-  unfolding printing if_then_else_
-  printing-one w = rw (r .chars, w) (omega arith)
-
-pub counted-none : (s : List ℕ) → utf8 s ≡ false → 0 ≡ printingCount s
-unfolding printingCount if_then_else_
-counted-none s e = rw e
-
-pub counted-all : (s : List ℕ) (i n : ℕ) → length s ≤ i → utf8 s ≡ utf8 (drop i s) → length (printing s) ≡ n + length (printing (drop i s)) → n ≡ printingCount s
-unfolding printingCount printing if_then_else_
-counted-all s i n h e f =
-    let z = drop-of-length-le s h in
-    rw (e, z) (omega (arith, f, ap (λ (t : List ℕ). length (printing t)) z))

@@ -2,9 +2,4 @@ pub mod Laws
 pub mod Text
 pub mod Scalars
 pub mod Characters
-pub mod White
-pub mod WhiteBytes
-pub mod Ends
-pub mod Points
-pub mod Trim
 pub mod Samples

@@ -2,11 +2,9 @@
 use mathlib.Core.Path.{_≡_, refl}
 use mathlib.Core.Bool.{true, false}
 use mathlib.Core.List.{[], _∷_}
-use lib.ListN.{length}
 use Rattle.base.specs.Choice.{if_then_else_}
 use Rattle.utf8.specs.declared.Decoded.the-variants.{Char, Nothing}
 use Rattle.utf8.specs.Utf8.{table, rowOf, utf8, decode, encode, bytes, sizeOf, characterAt, characters}
-use Rattle.utf8.specs.White.{whites, white, printing, printingCount, blank, trim}
 
 -- characters of one to four bytes
 four-bytes : bytes "aé漢😀" ≡ 0x61 ∷ 0xC3 ∷ 0xA9 ∷ 0xE6 ∷ 0xBC ∷ 0xA2 ∷ 0xF0 ∷ 0x9F ∷ 0x98 ∷ 0x80 ∷ []
@@ -54,20 +52,3 @@ read-inside = refl
 read-past : characterAt (bytes "aé漢😀") 10 ≡ Nothing
 unfolding bytes encode table rowOf sizeOf characterAt if_then_else_
 read-past = refl
-
--- U+00A0 is White_Space, U+200B is not
-trimmed : trim (bytes "a\u{a0} ") ≡ bytes "a"
-unfolding bytes encode table rowOf whites white blank trim if_then_else_
-trimmed = refl
-
-kept : length (trim (bytes "a \u{200b}")) ≡ 5
-unfolding bytes encode table rowOf whites white blank trim if_then_else_
-kept = refl
-
-prints : printing (bytes "a é\u{3000}漢\n") ≡ decode (bytes "aé漢")
-unfolding bytes encode table rowOf whites white printing if_then_else_
-prints = refl
-
-prints-none : printingCount (0x61 ∷ 0xC3 ∷ []) ≡ 0
-unfolding table rowOf printingCount if_then_else_
-prints-none = refl

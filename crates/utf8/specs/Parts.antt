@@ -1,13 +1,12 @@
 -- What the functions inside this crate promise each other; no rule of 01 or of the Unicode standard stands here.
 use mathlib.Core.Path.{_≡_}
-use mathlib.Core.Bool.{Bool, true, false, _&&_}
-use lib.Dec.{eqb, ltb}
-use mathlib.Core.List.{List, [], _∷_}
-use Prim.Native.Nat.{ℕ, _≤_, _<_, _+_, _-_}
+use mathlib.Core.Bool.{false}
+use lib.Dec.{ltb}
+use mathlib.Core.List.{List, []}
+use Prim.Native.Nat.{ℕ, _≤_, _<_, _+_}
 use lib.ListN.{length, drop, getD}
 use Rattle.base.specs.Choice.{if_then_else_}
-use Rattle.utf8.specs.Utf8.{fits, characters, encode}
-use Rattle.utf8.specs.White.{whites, any}
+use Rattle.utf8.specs.Utf8.{fits, characters}
 
 -- the lead of b's line of table 3-7, by tests of b
 unfoldable pub leadOf : ℕ → ℕ
@@ -26,25 +25,3 @@ pub record Ran (s : List ℕ) (a e r : ℕ) : Type 0 where
 pub record Counted (s : List ℕ) (a e r : ℕ) : Type 0 where
   pub few : r + a ≤ e
   pub rest : r + characters (drop e s) ≡ characters (drop a s)
-
--- the same bytes
-abbrev pub same : List ℕ → List ℕ → Bool
-same [] [] = true
-same [] (y ∷ ys) = false
-same (x ∷ xs) [] = false
-same (x ∷ xs) (y ∷ ys) = eqb x y && same xs ys
-
--- the bytes are one White_Space character
-unfoldable pub whiteBytes : List ℕ → Bool
-whiteBytes w = any (λ c. same w (encode c)) whites
-
--- the last k bytes of s
-abbrev pub last : ℕ → List ℕ → List ℕ
-last k s = drop (length s - k) s
-
--- how many bytes the White_Space character at the end of s has, 0 where none stands there
-unfoldable pub whiteSize : List ℕ → ℕ
-whiteSize s =
-    if whiteBytes (last 1 s) then 1 else
-    if whiteBytes (last 2 s) then 2 else
-    if whiteBytes (last 3 s) then 3 else 0

@@ -13,8 +13,8 @@ use Rattle.splitter.specs.Split.{Chunk, raw}
 use Rattle.splitter.specs.Answers.{chunksFrom, cursor}
 use Rattle.splitter.specs.declared.Code.the-variants as code
 use Rattle.room.proofs.Laws.{extended-in}
-use Rattle.walk.specs.Walk.{Page, page, write, shown, body}
-use Rattle.walk.proofs.Shown.{shown-in, shown-out}
+use Rattle.renderer.specs.Walk.{Page, page, write, shown, body}
+use Rattle.renderer.proofs.Shown.{shown-in, shown-out}
 
 module _ {L : Type 0} where
   -- a text that is written where it fits

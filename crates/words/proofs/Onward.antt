@@ -10,7 +10,7 @@ use Rattle.base.specs.Bytes.{part}
 use Rattle.base.specs.Result.{Result, gives, _>>=_}
 use Rattle.splitter.specs.Split.{Chunk, raw}
 use Rattle.splitter.specs.declared.Code.the-variants as code
-use Rattle.walk.specs.Walk.{Page, page, shown}
+use Rattle.renderer.specs.Walk.{Page, page, shown}
 use Rattle.words.specs.Copies.{Copies}
 use Rattle.words.specs.Onward.{onward, Onward}
 use Rattle.words.specs.declared.Word.{Word}

@@ -9,7 +9,7 @@ use Rattle.splitter.specs.Split.{Chunk}
 use Rattle.splitter.specs.Answers.{chunksFrom, cursor}
 use Rattle.splitter.specs.declared.Code.{Code}
 use Rattle.splitter.specs.declared.Code.the-variants as code
-use Rattle.walk.specs.Walk.{Page, shown, body}
+use Rattle.renderer.specs.Walk.{Page, shown, body}
 
 -- A renderer's rule for a chunk, by what the renderer is asked for and the room's length.
 module _ {I L : Type 0} (full : I → Bool) (chunk : I → ℕ → Chunk → Page L → Result (Page L)) where

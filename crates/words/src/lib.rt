@@ -1,7 +1,7 @@
 // Words and spaces that go into a room as they stand, copied in the same pass that finds their end.
 ghost use mathlib.Core.Path.{_≡_};
-ghost use Prim.Native.Nat.{_-_, _<_, _≤_};
-ghost use lib.ListN.{length};
+ghost use Prim.Native.Nat.{_<_, _≤_};
+ghost use lib.ListN.{length, getD};
 ghost use Rattle.splitter.specs.Split.{isLineEndOrSpace};
 ghost use Rattle.words.specs.Copies.{Copies};
 
@@ -21,26 +21,15 @@ fn ends_word(x: u8) -> bool
     x == b' '
 }
 
-// How far a copy that starts at a place may go: to an end, or as far as there is room left.
-fn last_place(at: usize, end: usize, left: usize) -> usize
-    requires { ⌜ at ≤ end ⌝ }
-    ensures { λ r. ⌜ (at ≤ r) × (r ≤ end) × (r - at ≤ left) ⌝ }
-{
-    if end - at <= left {
-        return end;
-    }
-    at + left
-}
-
 // Copies the word at a place of a body into a room, byte by byte as it is read; none where it does not fit. What ends a word is not
 // above a space, so that most bytes take one test.
 fn copy_word(room: &mut [u8], len: usize, body: &[u8], at: usize) -> Word
-    requires { ⌜ (len ≤ length (now room)) × (at < length (now body)) ⌝ }
+    requires { ⌜ (len ≤ length (now room)) × (at < length (now body)) × (getD (now body) at 0 ≡ 0x20 → ⊥) ⌝ }
     ensures { λ r. ⌜ Copies (now (body .entry)) at len (now (room .entry)) (now (room .exit)) r ⌝ }
 {
     let mut to = at;
     let mut width: usize = 0;
-    let limit = last_place(at, body.len(), room.len() - len);
+    let limit = base::min(body.len(), at + (room.len() - len));
     while to < limit {
         let x = body[to];
         if x <= b' ' {
@@ -55,7 +44,9 @@ fn copy_word(room: &mut [u8], len: usize, body: &[u8], at: usize) -> Word
         to += 1;
     }
     if to < body.len() {
-        return Word { to: at, width: 0 };
+        if !ends_word(body[to]) {
+            return Word { to: at, width: 0 };
+        }
     }
     Word { to, width }
 }

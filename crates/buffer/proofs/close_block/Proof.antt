@@ -5,8 +5,8 @@ use borrow.Author.Needs.{needs}
 use denote.Ref.{now}
 use Rattle.buffer.proofs.close_block.Statement.{statement}
 use Rattle.buffer.proofs.close_block.Tie as tie
-use Rattle.document.specs.declared.Refusal.the-variants as refusal
-use Rattle.document.proofs.Opening.{index-small}
+use Rattle.refusal.specs.declared.Refusal.the-variants as refusal
+use Rattle.records.proofs.Tables.{index-small}
 use Rattle.buffer.specs.Builder.{closesBlock}
 use Rattle.buffer.proofs.Answering.{says-refused, says-same, so-far-accepted, so-far-refused}
 use Rattle.buffer.proofs.Blocks.{closes-not-open, closes-another, closes-in}
@@ -14,8 +14,11 @@ use Rattle.buffer.proofs.Blocks.{closes-not-open, closes-another, close
 returns : tie.Need-returns
 returns c =
     let a = c .before .before .before .before .before .before .before .before .args in
-    let o = c .before .before .before .before .before .so-far .result in
-    says-refused (now (a .room)) (refusal.WrongEnd (a .len)) (closes-not-open (o .stack) (o .depth) (so-far-accepted (now (a .room)) (a .len) o (c .before .before .before .before .before .so-far .ensures .0) (c .before .before .enum-told .given .1)) (c .before .before .before .before .before .so-far .ensures .1) (a .b) (c .if1 .taken))
+    let so-far = c .before .before .before .before .before .so-far in
+    let o = so-far .result in
+    says-refused (now (a .room)) (refusal.WrongEnd (a .len)) (closes-not-open (o .stack) (o .depth)
+    (so-far-accepted (now (a .room)) (a .len) o (so-far .ensures .0) (c .before .before .enum-told .given .1)) (so-far .ensures .1) (a .b)
+    (c .if1 .taken))
 
 cast-if2 : tie.Need-cast-if2
 cast-if2 c = omega (arith, c .before .index-of .ensures, index-small (c .before .before .before .before .before .before .before .before .args .b))
@@ -23,24 +26,46 @@ cast-if2 c = omega (arith, c .before .index-of .ensures, index-small (c .before 
 returns-2 : tie.Need-returns-2
 returns-2 c =
     let a = c .before .before .before .before .before .before .before .before .before .args in
-    let o = c .before .before .before .before .before .before .so-far .result in
-    says-refused (now (a .room)) (refusal.WrongEnd (a .len)) (closes-another (o .stack) (o .depth) (so-far-accepted (now (a .room)) (a .len) o (c .before .before .before .before .before .before .so-far .ensures .0) (c .before .before .before .enum-told .given .1)) (c .before .before .before .before .before .before .so-far .ensures .1) (a .b) (omega arith) (λ e. c .if2 .taken (e ∙ sym (c .before .before .index-of .ensures))))
+    let so-far = c .before .before .before .before .before .before .so-far in
+    let enum-told = c .before .before .before .enum-told in
+    let o = so-far .result in
+    says-refused (now (a .room)) (refusal.WrongEnd (a .len)) (closes-another (o .stack) (o .depth)
+    (so-far-accepted (now (a .room)) (a .len) o (so-far .ensures .0) (enum-told .given .1)) (so-far .ensures .1) (a .b) (omega arith)
+    (λ e. c .if2 .taken (e ∙ sym (c .before .before .index-of .ensures))))
 
 add-put-block : tie.Need-add-put-block
-add-put-block c = omega (arith, c .before .before .before .index-of .ensures, index-small (c .before .before .before .before .before .before .before .before .before .before .args .b))
+add-put-block c =
+    let index-of = c .before .before .before .index-of in
+    let args = c .before .before .before .before .before .before .before .before .before .before .args in
+    omega (arith, index-of .ensures, index-small (args .b))
 
 put-block-requires : tie.Need-put-block-requires
-put-block-requires c κs = let s = so-far-accepted (now (c .before .before .before .before .before .before .before .before .before .before .args .room)) (c .before .before .before .before .before .before .before .before .before .before .args .len) (c .before .before .before .before .before .before .before .so-far .result) (c .before .before .before .before .before .before .before .so-far .ensures .0) (c .before .before .before .before .enum-told .given .1) in (s .inside, s .small)
+put-block-requires c κs =
+    let args = c .before .before .before .before .before .before .before .before .before .before .args in
+    let so-far = c .before .before .before .before .before .before .before .so-far in
+    let enum-told = c .before .before .before .before .enum-told in
+    let s = so-far-accepted (now (args .room)) (args .len) (so-far .result) (so-far .ensures .0) (enum-told .given .1) in
+    (s .inside, s .small)
 
 returns-3 : tie.Need-returns-3
 unfolding closesBlock
-returns-3 c = says-refused (now (c .before .before .before .before .before .before .before .args .room)) (c .before .verdict .given .0 .0) (so-far-refused (now (c .before .before .before .before .before .before .before .args .room)) (c .before .before .before .before .before .before .before .args .len) (c .before .before .before .before .so-far .result) (c .before .before .before .before .so-far .ensures .0) _ (c .before .verdict .given .1))
+returns-3 c =
+    let args = c .before .before .before .before .before .before .before .args in
+    let so-far = c .before .before .before .before .so-far in
+    says-refused (now (args .room)) (c .before .verdict .given .0 .0)
+    (so-far-refused (now (args .room)) (args .len) (so-far .result) (so-far .ensures .0) _ (c .before .verdict .given .1))
 
 returns-4 : tie.Need-returns-4
 returns-4 c =
     let a = c .before .before .before .before .before .before .before .before .before .before .before .before .before .args in
-    let o = c .before .before .before .before .before .before .before .before .before .before .so-far .result in
-    says-same (now (a .room)) _ (closes-in (o .stack) (o .depth) (so-far-accepted (now (a .room)) (a .len) o (c .before .before .before .before .before .before .before .before .before .before .so-far .ensures .0) (c .before .before .before .before .before .before .before .enum-told .given .1)) (c .before .before .before .before .before .before .before .before .before .before .so-far .ensures .1) (a .b) (omega arith) (c .before .before .before .before .if2 .left ∙ c .before .before .before .before .before .before .index-of .ensures) _ (ap (λ (i : ℕ). 0x0200 + i) (c .before .before .before .before .before .before .index-of .ensures))) (c .before .before .put-block .ensures)
+    let so-far = c .before .before .before .before .before .before .before .before .before .before .so-far in
+    let enum-told = c .before .before .before .before .before .before .before .enum-told in
+    let if2 = c .before .before .before .before .if2 in
+    let index-of = c .before .before .before .before .before .before .index-of in
+    let o = so-far .result in
+    says-same (now (a .room)) _ (closes-in (o .stack) (o .depth)
+    (so-far-accepted (now (a .room)) (a .len) o (so-far .ensures .0) (enum-told .given .1)) (so-far .ensures .1) (a .b) (omega arith)
+    (if2 .left ∙ index-of .ensures) _ (ap (λ (i : ℕ). 0x0200 + i) (index-of .ensures))) (c .before .before .put-block .ensures)
 
 pub close-block-spec : {M : Type 1} → statement M
 close-block-spec =

@@ -12,10 +12,14 @@ returns-2 : tie.Need-returns-2
 returns-2 c = room-none (now (c .before .before .args .room)) (c .before .before .args .to) (c .before .before .args .more) (omega arith)
 
 returns-3 : tie.Need-returns-3
-returns-3 c = room-long (now (c .before .before .before .args .room)) (c .before .before .before .args .to) (c .before .before .before .args .more) (omega arith) (c .if3 .taken)
+returns-3 c =
+    let args = c .before .before .before .args in
+    room-long (now (args .room)) (args .to) (args .more) (omega arith) (c .if3 .taken)
 
 returns-4 : tie.Need-returns-4
-returns-4 c = room-in (now (c .before .before .before .args .room)) (c .before .before .before .args .to) (c .before .before .before .args .more) (omega arith) (omega arith)
+returns-4 c =
+    let args = c .before .before .before .args in
+    room-in (now (args .room)) (args .to) (args .more) (omega arith) (omega arith)
 
 pub has-room-spec : {M : Type 1} → statement M
 has-room-spec =

@@ -18,19 +18,33 @@ loop-holds : tie.Need-loop-holds Inv-loop μ-loop
 loop-holds c = going-0 (c .before .args .style) (c .before .pre)
 
 returns : tie.Need-returns Inv-loop μ-loop
-returns c = going-last (c .before .before .before .before .before .loop .inv) (c .before .before .before .record-at .ensures) (c .before .before .before .before .loop-test .taken) (c .before .before .if1 .taken) (sym (c .before .is-text .ensures) ∙ c .if2 .taken)
+returns c =
+    let loop = c .before .before .before .before .before .loop in
+    let record-at = c .before .before .before .record-at in
+    let loop-test = c .before .before .before .before .loop-test in
+    going-last (loop .inv) (record-at .ensures) (loop-test .taken) (c .before .before .if1 .taken) (sym (c .before .is-text .ensures) ∙ c .if2 .taken)
 
 loop-less : tie.Need-loop-less Inv-loop μ-loop
-loop-less c = let r = c .before .before .before .record-at .ensures in omega (arith, r .low (c .before .before .before .before .loop-test .taken), r .order, r .high)
+loop-less c =
+    let record-at = c .before .before .before .record-at in
+    let loop-test = c .before .before .before .before .loop-test in
+    let r = record-at .ensures in
+    omega (arith, r .low (loop-test .taken), r .order, r .high)
 
 loop-again : tie.Need-loop-again Inv-loop μ-loop
-loop-again c = going-next (c .before .before .before .before .before .loop .inv) (c .before .before .before .record-at .ensures) (c .before .before .before .before .loop-test .taken) (inr (sym (c .before .is-text .ensures) ∙ c .if2 .left))
+loop-again c =
+    let loop = c .before .before .before .before .before .loop in
+    let record-at = c .before .before .before .record-at in
+    let loop-test = c .before .before .before .before .loop-test in
+    going-next (loop .inv) (record-at .ensures) (loop-test .taken) (inr (sym (c .before .is-text .ensures) ∙ c .if2 .left))
 
 loop-less-2 : tie.Need-loop-less-2 Inv-loop μ-loop
 loop-less-2 c = let r = c .before .record-at .ensures in omega (arith, r .low (c .before .before .loop-test .taken), r .order, r .high)
 
 loop-again-2 : tie.Need-loop-again-2 Inv-loop μ-loop
-loop-again-2 c = going-next (c .before .before .before .loop .inv) (c .before .record-at .ensures) (c .before .before .loop-test .taken) (inl (c .if1 .left))
+loop-again-2 c =
+    let loop = c .before .before .before .loop in
+    going-next (loop .inv) (c .before .record-at .ensures) (c .before .before .loop-test .taken) (inl (c .if1 .left))
 
 returns-2 : tie.Need-returns-2 Inv-loop μ-loop
 returns-2 c = going-done (c .before .loop .inv) (c .loop-test .left)

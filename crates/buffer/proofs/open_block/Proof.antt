@@ -5,8 +5,8 @@ use borrow.Author.Needs.{needs}
 use denote.Ref.{now}
 use Rattle.buffer.proofs.open_block.Statement.{statement}
 use Rattle.buffer.proofs.open_block.Tie as tie
-use Rattle.document.specs.declared.Refusal.the-variants as refusal
-use Rattle.document.proofs.Opening.{index-small}
+use Rattle.refusal.specs.declared.Refusal.the-variants as refusal
+use Rattle.records.proofs.Tables.{index-small}
 use Rattle.buffer.specs.Builder.{opensBlock}
 use Rattle.buffer.proofs.Answering.{says-refused, says-same, so-far-accepted, so-far-refused}
 use Rattle.buffer.proofs.Blocks.{opens-too-deep, opens-in}
@@ -14,24 +14,41 @@ use Rattle.buffer.proofs.Blocks.{opens-too-deep, opens-in}
 returns : tie.Need-returns
 returns c =
     let a = c .before .before .before .before .before .before .args in
-    let o = c .before .before .before .so-far .result in
-    says-refused (now (a .room)) (refusal.TooDeep (a .len)) (opens-too-deep (o .stack) (o .depth) (so-far-accepted (now (a .room)) (a .len) o (c .before .before .before .so-far .ensures .0) (c .before .enum-told .given .1)) (c .before .before .before .so-far .ensures .1) (a .b) (c .if1 .taken))
+    let so-far = c .before .before .before .so-far in
+    let o = so-far .result in
+    says-refused (now (a .room)) (refusal.TooDeep (a .len)) (opens-too-deep (o .stack) (o .depth)
+    (so-far-accepted (now (a .room)) (a .len) o (so-far .ensures .0) (c .before .enum-told .given .1)) (so-far .ensures .1) (a .b) (c .if1 .taken))
 
 add-put-block : tie.Need-add-put-block
 add-put-block c = omega (arith, c .index-of .ensures, index-small (c .before .before .before .before .before .before .before .before .args .b))
 
 put-block-requires : tie.Need-put-block-requires
-put-block-requires c κs = let s = so-far-accepted (now (c .before .before .before .before .before .before .before .before .args .room)) (c .before .before .before .before .before .before .before .before .args .len) (c .before .before .before .before .before .so-far .result) (c .before .before .before .before .before .so-far .ensures .0) (c .before .before .before .enum-told .given .1) in (s .inside, s .small)
+put-block-requires c κs =
+    let args = c .before .before .before .before .before .before .before .before .args in
+    let so-far = c .before .before .before .before .before .so-far in
+    let enum-told = c .before .before .before .enum-told in
+    let s = so-far-accepted (now (args .room)) (args .len) (so-far .result) (so-far .ensures .0) (enum-told .given .1) in
+    (s .inside, s .small)
 
 returns-2 : tie.Need-returns-2
 unfolding opensBlock
-returns-2 c = says-refused (now (c .before .before .before .before .before .before .args .room)) (c .before .verdict .given .0 .0) (so-far-refused (now (c .before .before .before .before .before .before .args .room)) (c .before .before .before .before .before .before .args .len) (c .before .before .before .so-far .result) (c .before .before .before .so-far .ensures .0) _ (c .before .verdict .given .1))
+returns-2 c =
+    let args = c .before .before .before .before .before .before .args in
+    let so-far = c .before .before .before .so-far in
+    says-refused (now (args .room)) (c .before .verdict .given .0 .0)
+    (so-far-refused (now (args .room)) (args .len) (so-far .result) (so-far .ensures .0) _ (c .before .verdict .given .1))
 
 returns-3 : tie.Need-returns-3
 returns-3 c =
     let a = c .before .before .before .before .before .before .before .before .before .before .before .args in
-    let o = c .before .before .before .before .before .before .before .before .so-far .result in
-    says-same (now (a .room)) _ (opens-in (o .stack) (o .depth) (so-far-accepted (now (a .room)) (a .len) o (c .before .before .before .before .before .before .before .before .so-far .ensures .0) (c .before .before .before .before .before .before .enum-told .given .1)) (c .before .before .before .before .before .before .before .before .so-far .ensures .1) (a .b) (c .before .before .before .before .before .if1 .left) _ (ap (λ (i : ℕ). 0x0100 + i) (c .before .before .before .index-of .ensures))) (c .before .before .put-block .ensures)
+    let so-far = c .before .before .before .before .before .before .before .before .so-far in
+    let enum-told = c .before .before .before .before .before .before .enum-told in
+    let if1 = c .before .before .before .before .before .if1 in
+    let index-of = c .before .before .before .index-of in
+    let o = so-far .result in
+    says-same (now (a .room)) _ (opens-in (o .stack) (o .depth)
+    (so-far-accepted (now (a .room)) (a .len) o (so-far .ensures .0) (enum-told .given .1)) (so-far .ensures .1) (a .b) (if1 .left) _
+    (ap (λ (i : ℕ). 0x0100 + i) (index-of .ensures))) (c .before .before .put-block .ensures)
 
 pub open-block-spec : {M : Type 1} → statement M
 open-block-spec =

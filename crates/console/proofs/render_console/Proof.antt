@@ -5,7 +5,7 @@ use lib.ListN.{length}
 use Rattle.console.proofs.render_console.Statement.{statement}
 use Rattle.console.proofs.render_console.Tie as tie
 use Rattle.base.specs.Result.{measured}
-use Rattle.walk.proofs.Clearing.{standing-measured}
+use Rattle.renderer.proofs.Clearing.{standing-measured}
 use Rattle.console_rules.specs.Console.{console}
 use Rattle.console.proofs.Order.{cleared-room, demand3}
 

@@ -11,15 +11,15 @@ use Rattle.console_words.specs.Onward.{Onward}
 use Rattle.console_words.proofs.Onward.{onward-start, onward-same, onward-next}
 
 abbrev Inv-loop : tie.InvT-loop
-Inv-loop room₀ len body from width len₀ used₀ at₀ room len′ used at = Onward width body room₀ len used₀ from room len′ used at
+Inv-loop room₀ body from set len₀ column₀ at₀ room len column at = Onward set body room₀ (len₀ .0) (column₀ .0) from room (len .0) (column .0) at
 
 abbrev μ-loop : tie.MeasureT-loop
-μ-loop room₀ len body from width len₀ used₀ at₀ room len′ used at = length body - at
+μ-loop room₀ body from set len₀ column₀ at₀ room len column at = length body - at
 
 loop-holds : tie.Need-loop-holds Inv-loop μ-loop
 loop-holds c =
     let a = c .before .before .args in
-    onward-start (a .width) (now (a .body)) (now (a .room)) (a .len) (a .column .0) (a .from) (c .before .before .pre .0) (c .before .before .pre .1)
+    onward-start (a .set) (now (a .body)) (now (a .room)) (a .len .0) (a .column .0) (a .from) (c .before .before .pre .0) (c .before .before .pre .1)
 
 sub-n : tie.Need-sub-n Inv-loop μ-loop
 sub-n c = c .before .before .before .copy-next .ensures .order
@@ -32,42 +32,43 @@ returns c =
     let g = c .before .before .before .before .copy-next in
     let l = c .before .before .before .before .before .before .loop in
     let a = c .before .before .before .before .before .before .before .before .before .args in
-    onward-same (a .width) (now (a .body)) (now (a .room)) (a .len) (a .column .0) (a .from) (l .room) (l .len) (l .used) (l .at) (l .inv) (g .last .0) (g .result) (g .ensures) (g .kept .0)
+    onward-same (a .set) (now (a .body)) (now (a .room)) (a .len .0) (a .column .0) (a .from) (l .room) (l .len .0) (l .column .0) (l .at) (l .inv) (g .last .0) (g .result) (g .ensures) (g .kept .0)
 
 same-length-2 : tie.Need-same-length-2 Inv-loop μ-loop
-same-length-2 c = c .before .before .before .before .before .before .copy-next .kept .0 ∙ c .before .before .before .before .before .before .before .before .loop .inv .words .size
+same-length-2 c = c .before .before .before .before .before .before .before .copy-next .kept .0 ∙ c .before .before .before .before .before .before .before .before .before .loop .inv .words .size
 
 returns-2 : tie.Need-returns-2 Inv-loop μ-loop
 returns-2 c =
-    let g = c .before .before .before .before .before .before .copy-next in
-    let l = c .before .before .before .before .before .before .before .before .loop in
-    let a = c .before .before .before .before .before .before .before .before .before .before .before .args in
-    onward-same (a .width) (now (a .body)) (now (a .room)) (a .len) (a .column .0) (a .from) (l .room) (l .len) (l .used) (l .at) (l .inv) (g .last .0) (g .result) (g .ensures) (g .kept .0)
-
-add-len : tie.Need-add-len Inv-loop μ-loop
-add-len c =
-    let e = c .before .before .before .before .before .before .copy-next .ensures in
-    let l = c .before .before .before .before .before .before .before .before .loop in
-    let f : l .len + (c .before .before .before .before .before .before .copy-next .result .to - l .at) ≤ length (now (c .before .before .before .before .before .before .before .before .before .before .before .args .room)) = omega (arith, e .fits (omega (arith, e .order)), l .inv .words .size) in
-    search needs
-
-add-used : tie.Need-add-used Inv-loop μ-loop
-add-used c =
-    let e = c .before .before .before .before .before .before .before .copy-next .ensures in
-    let f = e .narrow (omega (arith, e .order)) in
-    let l = c .before .before .before .before .before .before .before .before .before .loop in
-    let t = ltb-false (c .before .before .before .before .before .before .before .before .before .before .before .before .args .width) (l .used + (c .before .before .before .before .before .before .before .copy-next .result .to - l .at)) (sym (c .before .before .folds-at .ensures) ∙ c .before .if2 .left) in
-    omega (arith, f, t, c .before .before .before .before .before .before .before .before .before .before .before .before .fits .width)
-
-loop-less : tie.Need-loop-less Inv-loop μ-loop
-loop-less c = let e = c .before .before .before .before .before .before .before .copy-next .ensures in omega (arith, e .order, e .within (omega (arith, e .order)))
-
-loop-again : tie.Need-loop-again Inv-loop μ-loop
-loop-again c =
     let g = c .before .before .before .before .before .before .before .copy-next in
     let l = c .before .before .before .before .before .before .before .before .before .loop in
     let a = c .before .before .before .before .before .before .before .before .before .before .before .before .args in
-    onward-next (a .width) (now (a .body)) (now (a .room)) (a .len) (a .column .0) (a .from) (l .room) (l .len) (l .used) (l .at) (l .inv) (g .last .0) (g .result) (g .ensures) (g .kept .0) (omega (arith, g .ensures .order)) (ltb-false _ _ (sym (c .before .before .folds-at .ensures) ∙ c .before .if2 .left))
+    onward-same (a .set) (now (a .body)) (now (a .room)) (a .len .0) (a .column .0) (a .from) (l .room) (l .len .0) (l .column .0) (l .at) (l .inv) (g .last .0) (g .result) (g .ensures) (g .kept .0)
+
+add-longer : tie.Need-add-longer Inv-loop μ-loop
+add-longer c =
+    let e = c .before .before .before .before .before .before .before .before .copy-next .ensures in
+    let l = c .before .before .before .before .before .before .before .before .before .before .loop in
+    let f : l .len .0 + (c .before .before .before .before .before .before .before .before .copy-next .result .to - l .at) ≤ length (now (c .before .before .before .before .before .before .before .before .before .before .before .before .before .args .room)) = omega (arith, e .fits (omega (arith, e .order)), l .inv .words .size) in
+    search needs
+
+add-wider : tie.Need-add-wider Inv-loop μ-loop
+add-wider c =
+    let e = c .before .before .before .before .before .before .before .before .before .before .copy-next .ensures in
+    let f = c .before .before .before .before .before .measure-word .ensures .1 (omega (arith, e .narrow (omega (arith, e .order)))) in
+    omega (arith, f, c .before .before .before .before .folds-at .ensures .1 (c .before .before .before .if2 .left))
+
+loop-less : tie.Need-loop-less Inv-loop μ-loop
+loop-less c = let e = c .before .before .before .before .before .before .before .before .before .before .copy-next .ensures in omega (arith, e .order, e .within (omega (arith, e .order)))
+
+loop-again : tie.Need-loop-again Inv-loop μ-loop
+loop-again c =
+    let g = c .before .before .before .before .before .before .before .before .before .before .copy-next in
+    let l = c .before .before .before .before .before .before .before .before .before .before .before .before .loop in
+    let a = c .before .before .before .before .before .before .before .before .before .before .before .before .before .before .before .args in
+    let m = c .before .before .before .before .before .measure-word in
+    onward-next (a .set) (now (a .body)) (now (a .room)) (a .len .0) (a .column .0) (a .from) (l .room) (l .len .0) (l .column .0) (l .at) (l .inv)
+    (g .last .0) (g .result) (g .ensures) (g .kept .0) (omega (arith, g .ensures .order)) (m .result .0) (m .ensures .0)
+    (ltb-false _ _ (sym (c .before .before .before .before .folds-at .ensures .0) ∙ c .before .before .before .if2 .left))
 
 pub fill-line-spec : {M : Type 1} → statement M
 fill-line-spec =
@@ -81,9 +82,10 @@ fill-line-spec =
     same-length
     returns
     (λ c κs. search needs)
+    (λ c κs. search needs)
     same-length-2
     returns-2
-    add-len
-    add-used
+    add-longer
+    add-wider
     loop-less
     loop-again)

@@ -6,8 +6,8 @@ use Rattle.console_words.proofs.Onward.{ready-if}
 
 returns-6 : tie.Need-returns-6
 returns-6 c =
-    let a = c .before .before .before .before .before .before .before .before .before .before .before .args in
-    ready-if (now (a .room)) (a .m) (a .margin) (a .code) (c .before .before .before .before .before .before .before .before .before .if1 .left) (c .before .before .before .before .before .before .before .if2 .left) (c .before .before .before .before .before .if3 .left) (c .before .before .before .before .if4 .left) (c .before .before .before .if5 .left) (c .before .enum-told .given .1)
+    let a = c .before .before .before .before .before .before .before .before .before .before .before .before .args in
+    ready-if (now (a .room)) (a .m) (a .margin .0) (a .code) (c .before .before .before .before .before .before .before .before .before .before .if1 .left) (c .before .before .before .before .before .before .before .before .if2 .left) (c .before .before .before .before .before .before .if3 .left) (c .before .before .before .before .before .if4 .left) (c .before .before .before .before .if5 .left) (c .before .before .enum-told .given .1)
 
 pub follows-spec : {M : Type 1} → statement M
 follows-spec =

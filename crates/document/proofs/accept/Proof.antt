@@ -7,46 +7,49 @@ use lib.ListN.{take}
 use Rattle.document.proofs.accept.Statement.{statement}
 use Rattle.document.proofs.accept.Tie as tie
 use Rattle.document.specs.Document.{opens, closes}
-use Rattle.document.proofs.Opening.{index-small, accept-unknown, accept-text, accept-other, accept-start, accept-end, accept-start-body, accept-end-body}
+use Rattle.records.proofs.Tables.{index-small}
+use Rattle.document.proofs.Opening.{accept-unknown, accept-text, accept-other, accept-start, accept-end, accept-start-body, accept-end-body}
 
 returns : tie.Need-returns
 returns c =
-    (accept-text (c .before .before .before .before .before .before .before .args .at) _ (take (c .before .before .before .before .before .before .before .args .depth) (now (c .before .before .before .before .before .before .before .args .stack))) (c .before .before .before .enum-told2 .given .1) (sym (c .before .valid .ensures) ∙ c .if1 .taken), omega arith)
+    let a = c .before .before .before .before .before .before .before .args in
+    (accept-text (a .at) _ (take (a .depth) (now (a .stack))) (c .before .before .before .enum-told2 .given .1) (sym (c .before .valid .ensures) ∙ c .if1 .taken), omega arith)
 
 returns-2 : tie.Need-returns-2
 returns-2 c =
-    (accept-start-body (c .before .before .before .before .before .before .args .at) (now (c .before .before .before .before .before .before .args .document)) (c .before .before .before .before .before .before .args .h .start) (c .before .before .before .before .before .before .args .h .next) _ (c .before .before .kind .given .1) (c .if2 .taken) (omega arith), omega arith)
+    let a = c .before .before .before .before .before .before .args in
+    (accept-start-body (a .at) (now (a .document)) (a .h .start) (a .h .stop) _ (c .before .before .kind .given .1) (c .if2 .taken) (omega arith), omega arith)
 
 cast-open-block : tie.Need-cast-open-block
 cast-open-block c = let h = index-small (c .before .before .before .before .kind .given .0 .0) in omega (arith, h, c .index-of .ensures)
 
 returns-3 : tie.Need-returns-3
 returns-3 c =
-    (accept-end-body (c .before .before .before .before .before .before .args .at) (now (c .before .before .before .before .before .before .args .document)) (c .before .before .before .before .before .before .args .h .start) (c .before .before .before .before .before .before .args .h .next) _ (c .before .before .kind2 .given .1) (c .if3 .taken) (omega arith), omega arith)
+    let a = c .before .before .before .before .before .before .args in
+    (accept-end-body (a .at) (now (a .document)) (a .h .start) (a .h .stop) _ (c .before .before .kind2 .given .1) (c .if3 .taken) (omega arith), omega arith)
 
-cast-close-block : tie.Need-cast-close-block
-cast-close-block c = let h = index-small (c .before .before .before .before .kind2 .given .0 .0) in omega (arith, h, c .index-of2 .ensures)
+cast-close-top : tie.Need-cast-close-top
+cast-close-top c = let h = index-small (c .before .before .before .before .kind2 .given .0 .0) in omega (arith, h, c .index-of2 .ensures)
 
 returns-4 : tie.Need-returns-4
 returns-4 c = (accept-unknown (c .before .before .before .before .args .at) _ _ (c .enum-told .given .1), omega arith)
 
 returns-5 : tie.Need-returns-5
-returns-5 c =
-    (accept-other (c .before .before .before .before .before .before .before .args .at) _ _ (c .before .before .before .enum-told2 .given .1) (sym (c .before .valid .ensures) ∙ c .if1 .left), omega arith)
+returns-5 c = (accept-other (c .before .before .before .before .before .before .before .args .at) _ _ (c .before .before .before .enum-told2 .given .1) (sym (c .before .valid .ensures) ∙ c .if1 .left), omega arith)
 
 returns-6 : tie.Need-returns-6
-returns-6 c = (
-  c .before .before .open-block .ensures .0 ∙ ap (λ (n : ℕ). opens (c .before .before .before .before .before .before .before .before .before .before .before .args .at) n (take (c .before .before .before .before .before .before .before .before .before .before .before .args .depth) (now (c .before .before .before .before .before .before .before .before .before .before .before .args .stack)))) (c .before .before .before .index-of .ensures)
-      ∙ accept-start (c .before .before .before .before .before .before .before .before .before .before .before .args .at) (now (c .before .before .before .before .before .before .before .before .before .before .before .args .document)) (c .before .before .before .before .before .before .before .before .before .before .before .args .h .start) (c .before .before .before .before .before .before .before .before .before .before .before .args .h .next) _ (c .before .before .before .before .before .before .before .kind .given .1) (c .before .before .before .before .before .if2 .left),
-  c .before .before .open-block .ensures .1,
-)
+returns-6 c =
+    let a = c .before .before .before .before .before .before .before .before .before .before .before .args in
+    let e = ap (λ (n : ℕ). opens (a .at) n (take (a .depth) (now (a .stack)))) (c .before .before .before .index-of .ensures) in
+    let f = accept-start (a .at) (now (a .document)) (a .h .start) (a .h .stop) _ (c .before .before .before .before .before .before .before .kind .given .1) (c .before .before .before .before .before .if2 .left) in
+    (c .before .before .open-block .ensures .0 (omega arith) ∙ e ∙ f, c .before .before .open-block .ensures .1 .0)
 
 returns-7 : tie.Need-returns-7
-returns-7 c = (
-  c .close-block .ensures .0 ∙ ap (λ (n : ℕ). closes (c .before .before .before .before .before .before .before .before .before .args .at) n (take (c .before .before .before .before .before .before .before .before .before .args .depth) (now (c .before .before .before .before .before .before .before .before .before .args .stack)))) (c .before .index-of2 .ensures)
-      ∙ accept-end (c .before .before .before .before .before .before .before .before .before .args .at) (now (c .before .before .before .before .before .before .before .before .before .args .document)) (c .before .before .before .before .before .before .before .before .before .args .h .start) (c .before .before .before .before .before .before .before .before .before .args .h .next) _ (c .before .before .before .before .before .kind2 .given .1) (c .before .before .before .if3 .left),
-  c .close-block .ensures .1,
-)
+returns-7 c =
+    let a = c .before .before .before .before .before .before .before .before .before .args in
+    let e = ap (λ (n : ℕ). closes (a .at) n (take (a .depth) (now (a .stack)))) (c .before .index-of2 .ensures) in
+    let f = accept-end (a .at) (now (a .document)) (a .h .start) (a .h .stop) _ (c .before .before .before .before .before .kind2 .given .1) (c .before .before .before .if3 .left) in
+    (c .close-top .ensures .0 ∙ e ∙ f, omega (arith, c .close-top .ensures .1))
 
 pub accept-spec : {M : Type 1} → statement M
 accept-spec =
@@ -67,7 +70,7 @@ accept-spec =
     (λ c. search needs)
     returns-3
     (λ c κs. search needs)
-    cast-close-block
+    cast-close-top
     (λ c κs. search needs)
     returns-4
     returns-5

@@ -1,24 +1,25 @@
+use mathlib.Core.Path.{ap, _∙_}
 use native.Mathlib.Omega.{arith}
 use borrow.Author.Needs.{needs}
 use denote.Ref.{now}
 use Rattle.document.proofs.close_block.Statement.{statement}
 use Rattle.document.proofs.close_block.Tie as tie
-use Rattle.document.proofs.Opening.{closes-none, closes-other, closes-same}
+use Rattle.document.specs.Document.{closes}
+use Rattle.document.proofs.Opening.{take-capped}
+
+close-top-requires : tie.Need-close-top-requires
+close-top-requires c κs = omega (arith, c .min .ensures)
 
 returns : tie.Need-returns
-returns c = (closes-none (now (c .before .args .stack)) (c .before .args .depth) (c .before .args .i) (c .before .args .at) (omega arith) (c .if1 .taken), omega arith)
-
-returns-2 : tie.Need-returns-2
-returns-2 c = (closes-other (now (c .before .before .before .args .stack)) (c .before .before .before .args .depth) (c .before .before .before .args .i) (c .before .before .before .args .at) (omega arith) (c .before .before .if1 .left) (c .if2 .taken), omega arith)
-
-returns-3 : tie.Need-returns-3
-returns-3 c = (closes-same (now (c .before .before .before .args .stack)) (c .before .before .before .args .depth) (c .before .before .before .args .i) (c .before .before .before .args .at) (omega arith) (c .before .before .if1 .left) (c .if2 .left), omega arith)
+returns c =
+    let a = c .before .before .before .args in
+    let f = take-capped (now (a .stack)) (a .depth) (c .before .min .result) (c .before .min .ensures) in
+    (c .close-top .ensures .0 ∙ ap (closes (a .at) (a .i)) f, omega (arith, c .before .min .ensures, c .close-top .ensures .1))
 
 pub close-block-spec : {M : Type 1} → statement M
 close-block-spec =
     tie.close
     (tie.spec
-    returns
-    (λ c. search needs)
-    returns-2
-    returns-3)
+    (λ c κs. search needs)
+    close-top-requires
+    returns)

@@ -8,7 +8,7 @@ use lib.ListN.{length, take, drop}
 use Rattle.document.proofs.open_blocks.Statement.{statement}
 use Rattle.document.proofs.open_blocks.Tie as tie
 use Rattle.document.specs.Document.{reads, openBlocks}
-use Rattle.document.proofs.Tokens.{reads-end}
+use Rattle.document.proofs.Refusals.{reads-end}
 use Rattle.document.proofs.Opening.{turn-open, turn-shallow, turn-refused, reads-cut, reads-on, reads-refused}
 
 abbrev Inv-loop : tie.InvT-loop
@@ -27,7 +27,7 @@ returns c =
     (sym (sym (c .before .before .before .loop .inv .2) ∙ reads-cut (now (c .before .before .before .before .before .args .document)) (c .before .before .before .loop .at) _ (c .before .before .loop-test .taken) (sym (c .before .fits-at .ensures) ∙ not-true _ (c .if1 .taken))), (c .before .before .before .loop .inv .1, c .before .before .before .loop .inv .0))
 
 accept-requires : tie.Need-accept-requires Inv-loop μ-loop
-accept-requires c κs = let r = c .before .record-at .ensures in (r .order, r .high, c .before .before .before .before .before .loop .inv .0, c .before .before .before .before .before .loop .inv .1)
+accept-requires c κs = let r = c .before .record-at .ensures in (omega (arith, r .order, r .ends), omega (arith, r .high, r .ends), c .before .before .before .before .before .loop .inv .0, c .before .before .before .before .before .loop .inv .1)
 
 returns-2 : tie.Need-returns-2 Inv-loop μ-loop
 returns-2 c = (

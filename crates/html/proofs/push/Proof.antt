@@ -6,7 +6,7 @@ use denote.Ref.{now}
 use lib.ListN.{set}
 use Rattle.html.proofs.push.Statement.{statement}
 use Rattle.html.proofs.push.Tie as tie
-use Rattle.document.proofs.Opening.{index-small}
+use Rattle.records.proofs.Tables.{index-small}
 
 cast-stack : tie.Need-cast-stack
 cast-stack c = let h = index-small (c .before .before .args .b) in omega (arith, h, c .index-of .ensures)

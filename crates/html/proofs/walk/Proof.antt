@@ -8,144 +8,220 @@ use Rattle.html.proofs.walk.Statement.{statement}
 use Rattle.html.proofs.walk.Tie as tie
 use Rattle.splitter.specs.Answers.{start}
 use Rattle.splitter.proofs.Answers.{took, ended}
-use Rattle.walk.specs.Rendered.{Inside}
-use Rattle.html.proofs.Walked.{On, InBody, on-start, on-out, on-end, on-unknown, on-start-low, on-entered, on-end-low, on-left, on-start-meta, on-end-meta, on-hidden, on-body, on-done, on-stopped, body-on, body-at}
+use Rattle.renderer.specs.Rendered.{Inside}
+use Rattle.html.proofs.Walked.{On, InBody, on-start, on-out, on-end, on-unknown, on-start-low, on-entered, on-end-low, on-left, on-meta, on-hidden, on-body, on-done, on-stopped, body-on, body-at}
 
+-- The chunks of a body: the room keeps its length, the style and the skip counter stay, and what is shown and the chunks from the cursor
+-- on, with the records after the body, give the whole. What is left of the body falls.
 abbrev Inv-chunks : tie.InvT-chunks
-Inv-chunks document tags sheet strict full room₀ at len₀ lay₀ stack depth start next skip st body cursor₀ room len lay cursor =
-    (length room ≡ length room₀) × (lay ≡ lay₀) × InBody (length room₀) strict full sheet document room at len lay₀ (take depth stack) body cursor
+Inv-chunks document tags sheet strict full room₀ at len₀ lay₀ stack depth body cursor₀ room len lay cursor =
+    (length room ≡ length room₀) × (lay ≡ lay₀) × InBody (length room₀) strict full sheet tags document room at len lay₀ (take depth stack) body cursor
 
 abbrev μ-chunks : tie.MeasureT-chunks
-μ-chunks document tags sheet strict full room₀ at len₀ lay₀ stack depth start next skip st body cursor₀ room len lay cursor = length body + 1 - cursor .at
+μ-chunks document tags sheet strict full room₀ at len₀ lay₀ stack depth body cursor₀ room len lay cursor = length body + 1 - cursor .at
 
+-- The records: what is shown and the records from `at` on give the whole, and the open blocks are those of the accepted document. What is
+-- left of the document falls.
 abbrev Inv-records : tie.InvT-records
-Inv-records document tags sheet strict full room₀ at₀ len₀ lay₀ stack₀ depth₀ room at len lay stack depth = On (length room₀) strict full sheet document room at len lay stack depth
+Inv-records document tags sheet strict full room₀ at₀ len₀ lay₀ stack₀ depth₀ room at len lay stack depth =
+    On (length room₀) strict full sheet tags document room at len lay stack depth
 
 abbrev μ-records : tie.MeasureT-records
 μ-records document tags sheet strict full room₀ at₀ len₀ lay₀ stack₀ depth₀ room at len lay stack depth = length document - at
 
+-- From the chunks of a body back to where its record was read, where its kind was told, and where its style was changed.
+abbrev read : (c : tie.At-chunks Inv-chunks μ-chunks Inv-records μ-records) → tie.After-record-at Inv-chunks μ-chunks Inv-records μ-records
+read c = c .before .before .before .before .before .before .before .before .before .before .before .before .before .before
+
+abbrev told : (c : tie.At-chunks Inv-chunks μ-chunks Inv-records μ-records) → tie.After-kind3 Inv-chunks μ-chunks Inv-records μ-records
+told c = c .before .before .before .before .before .before .before .before .before .before
+
+abbrev changed : (c : tie.At-chunks Inv-chunks μ-chunks Inv-records μ-records) → tie.After-change-style Inv-chunks μ-chunks Inv-records μ-records
+changed c = c .before .before .before .before .before
+
 records-holds : tie.Need-records-holds Inv-chunks μ-chunks Inv-records μ-records
-records-holds c = on-start _ _ _ _ (now (c .before .before .before .before .args .document)) (now (c .before .before .before .before .args .room)) _ refl refl (c .before .before .before .before .pre .1)
+records-holds c =
+    let s = c .before .before .before .before in
+    on-start _ _ _ _ _ (now (s .args .document)) (now (s .args .room)) _ (s .pre .0) refl refl (s .pre .1)
 
 same-length : tie.Need-same-length Inv-chunks μ-chunks Inv-records μ-records
 same-length c = c .before .before .records .inv .same
 
 returns : tie.Need-returns Inv-chunks μ-chunks Inv-records μ-records
-returns c = (on-out _ _ _ _ _ (c .before .before .records .inv) (c .if1 .taken), tt)
+returns c = (on-out _ _ _ _ _ _ (c .before .before .records .inv) (c .if1 .taken), tt)
 
 records-less : tie.Need-records-less Inv-chunks μ-chunks Inv-records μ-records
-records-less c = on-unknown _ _ _ _ _ (c .before .before .before .before .before .records .inv) (c .before .before .record-at .ensures) (c .before .before .before .before .records-test .taken) (c .enum-told .given .1)
+records-less c =
+    let r = c .before .before .before .before in
+    on-unknown _ _ _ _ _ _ (r .before .before .before .records .inv) (r .record-at .ensures) (r .before .before .records-test .taken) (c .enum-told .given .1)
 
 records-again : tie.Need-records-again Inv-chunks μ-chunks Inv-records μ-records
-records-again c = on-unknown _ _ _ _ _ (c .before .before .before .before .before .records .inv) (c .before .before .record-at .ensures) (c .before .before .before .before .records-test .taken) (c .enum-told .given .1)
-
-meet-meta-requires : tie.Need-meet-meta-requires Inv-chunks μ-chunks Inv-records μ-records
-meet-meta-requires c κs = c .before .before .before .before .before .before .before .before .before .before .before .before .before .before .pre .0
-
-same-length-2 : tie.Need-same-length-2 Inv-chunks μ-chunks Inv-records μ-records
-same-length-2 c = c .before .before .meet-meta .kept .0 ∙ c .before .before .before .before .before .before .before .before .before .before .before .before .records .inv .same
-
-returns-2 : tie.Need-returns-2 Inv-chunks μ-chunks Inv-records μ-records
-returns-2 c = (on-start-meta _ _ _ _ _ (c .before .before .before .before .before .before .before .before .before .before .before .before .records .inv) (c .before .before .before .before .before .before .before .before .before .record-at .ensures) (c .before .before .before .before .before .before .before .before .before .before .before .records-test .taken) _ _ (c .before .before .before .before .before .before .before .kind .given .1) (c .before .before .before .before .before .index-of .ensures) (c .before .before .before .before .if2 .taken) (c .before .before .meet-meta .ensures .0), subst (λ (n : ℕ). Inside n (c .before .before .meet-meta .result)) (c .before .before .before .before .before .before .before .before .before .before .before .before .records .inv .same) (c .before .before .meet-meta .ensures .1))
-
-slice-aggregate-in-list : tie.Need-slice-aggregate-in-list Inv-chunks μ-chunks Inv-records μ-records
-slice-aggregate-in-list c = sym (c .before .before .before .before .before .before .before .before .before .records .inv .long)
-
-in-list-requires : tie.Need-in-list-requires Inv-chunks μ-chunks Inv-records μ-records
-in-list-requires c κs = omega (arith, c .before .before .before .before .before .before .before .before .before .records .inv .low, c .before .before .before .before .before .before .before .before .before .records .inv .long)
-
-put-block-requires : tie.Need-put-block-requires Inv-chunks μ-chunks Inv-records μ-records
-put-block-requires c κs = c .before .before .before .before .before .before .before .before .before .before .before .before .before .before .before .before .before .pre .0
+records-again c =
+    let r = c .before .before .before .before in
+    on-unknown _ _ _ _ _ _ (r .before .before .before .records .inv) (r .record-at .ensures) (r .before .before .records-test .taken) (c .enum-told .given .1)
 
 slice-aggregate-push : tie.Need-slice-aggregate-push Inv-chunks μ-chunks Inv-records μ-records
-slice-aggregate-push c = sym (c .before .before .before .before .before .before .before .before .before .before .before .before .before .before .before .before .records .inv .long)
+slice-aggregate-push c =
+    sym (c .before .before .before .before .before .before .before .before .before .before .before .before .before .before .records .inv .long)
 
 push-requires : tie.Need-push-requires Inv-chunks μ-chunks Inv-records μ-records
-push-requires c κs = let d = on-start-low _ _ _ _ _ (c .before .before .before .before .before .before .before .before .before .before .before .before .before .before .before .before .records .inv) (c .before .before .before .before .before .before .before .before .before .before .before .before .before .record-at .ensures) (c .before .before .before .before .before .before .before .before .before .before .before .before .before .before .before .records-test .taken) (c .before .before .before .before .before .before .before .before .before .before .before .kind .given .1) in omega (arith, c .before .before .before .before .before .before .before .before .before .before .before .before .before .before .before .before .records .inv .long)
+push-requires c κs =
+    let r = c .before .before .before .before .before .before .before .before .before .before .before in
+    let o = r .before .before .before .records .inv in
+    let d = on-start-low _ _ _ _ _ _ o (r .record-at .ensures) (r .before .before .records-test .taken)
+    (c .before .before .before .before .before .before .before .kind .given .1) in
+    omega (arith, o .long)
 
 add-depth : tie.Need-add-depth Inv-chunks μ-chunks Inv-records μ-records
-add-depth c = let d = on-start-low _ _ _ _ _ (c .before .before .before .before .before .before .before .before .before .before .before .before .before .before .before .before .before .before .records .inv) (c .before .before .before .before .before .before .before .before .before .before .before .before .before .before .before .record-at .ensures) (c .before .before .before .before .before .before .before .before .before .before .before .before .before .before .before .before .before .records-test .taken) (c .before .before .before .before .before .before .before .before .before .before .before .before .before .kind .given .1) in omega arith
+add-depth c =
+    let r = c .before .before .before .before .before .before .before .before .before .before .before .before .before in
+    let d = on-start-low _ _ _ _ _ _ (r .before .before .before .records .inv) (r .record-at .ensures) (r .before .before .records-test .taken)
+    (c .before .before .before .before .before .before .before .before .before .kind .given .1) in
+    omega arith
 
 records-less-2 : tie.Need-records-less-2 Inv-chunks μ-chunks Inv-records μ-records
-records-less-2 c = let r = c .before .before .before .before .before .before .before .before .before .before .before .before .before .before .before .before .record-at .ensures in let k = r .low (c .before .before .before .before .before .before .before .before .before .before .before .before .before .before .before .before .before .before .records-test .taken) in omega (arith, r .order, r .high)
-
-records-again-2 : tie.Need-records-again-2 Inv-chunks μ-chunks Inv-records μ-records
-records-again-2 c = on-entered _ _ _ _ _ (c .before .before .before .before .before .before .before .before .before .before .before .before .before .before .before .before .before .before .before .records .inv) (c .before .before .before .before .before .before .before .before .before .before .before .before .before .before .before .before .record-at .ensures) (c .before .before .before .before .before .before .before .before .before .before .before .before .before .before .before .before .before .before .records-test .taken) _ _ _ _ _ _ _ (c .before .before .before .before .before .before .before .before .before .before .before .before .before .before .kind .given .1) (c .before .before .before .before .before .before .before .before .before .before .before .before .index-of .ensures) (c .before .before .before .before .before .before .before .before .before .before .before .if2 .left) (c .before .before .before .before .before .before .put-block .kept .0) (c .before .before .before .before .before .before .before .before .before .in-list .ensures) (c .before .before .before .before .before .before .before .before .start-span .ensures) (c .before .before .before .before .before .before .put-block .ensures) (c .before .before .push .ensures) (c .before .before .push .kept .0) (c .skip-start .ensures)
-
-meet-meta-requires-2 : tie.Need-meet-meta-requires-2 Inv-chunks μ-chunks Inv-records μ-records
-meet-meta-requires-2 c κs = c .before .before .before .before .before .before .before .before .before .before .before .before .before .before .pre .0
-
-same-length-3 : tie.Need-same-length-3 Inv-chunks μ-chunks Inv-records μ-records
-same-length-3 c = c .before .before .meet-meta2 .kept .0 ∙ c .before .before .before .before .before .before .before .before .before .before .before .before .records .inv .same
-
-returns-3 : tie.Need-returns-3 Inv-chunks μ-chunks Inv-records μ-records
-returns-3 c = (on-end-meta _ _ _ _ _ (c .before .before .before .before .before .before .before .before .before .before .before .before .records .inv) (c .before .before .before .before .before .before .before .before .before .record-at .ensures) (c .before .before .before .before .before .before .before .before .before .before .before .records-test .taken) _ _ (c .before .before .before .before .before .before .before .kind2 .given .1) (c .before .before .before .before .before .index-of2 .ensures) (c .before .before .before .before .if3 .taken) (c .before .before .meet-meta2 .ensures .0), subst (λ (n : ℕ). Inside n (c .before .before .meet-meta2 .result)) (c .before .before .before .before .before .before .before .before .before .before .before .before .records .inv .same) (c .before .before .meet-meta2 .ensures .1))
+records-less-2 c =
+    let r = c .before .before .before .before .before .before .before .before .before .before .before .before .before .before in
+    let k = r .record-at .ensures .low (r .before .before .records-test .taken) in
+    omega (arith, r .record-at .ensures .order, r .record-at .ensures .high)
 
 sub-depth : tie.Need-sub-depth Inv-chunks μ-chunks Inv-records μ-records
-sub-depth c = on-end-low _ _ _ _ _ (c .before .before .before .before .before .before .before .before .records .inv) (c .before .before .before .before .before .record-at .ensures) (c .before .before .before .before .before .before .before .records-test .taken) (c .before .before .before .kind2 .given .1)
-
-slice-aggregate-in-list-2 : tie.Need-slice-aggregate-in-list-2 Inv-chunks μ-chunks Inv-records μ-records
-slice-aggregate-in-list-2 c = sym (c .before .before .before .before .before .before .before .before .before .records .inv .long)
-
-in-list-requires-2 : tie.Need-in-list-requires-2 Inv-chunks μ-chunks Inv-records μ-records
-in-list-requires-2 c κs = omega (arith, c .before .before .before .before .before .before .before .before .before .records .inv .low, c .before .before .before .before .before .before .before .before .before .records .inv .long)
-
-put-block-requires-2 : tie.Need-put-block-requires-2 Inv-chunks μ-chunks Inv-records μ-records
-put-block-requires-2 c κs = c .before .before .before .before .before .before .before .before .before .before .before .before .before .before .before .before .before .pre .0
+sub-depth c =
+    let r = c .before .before .before .before .before in
+    on-end-low _ _ _ _ _ _ (r .before .before .before .records .inv) (r .record-at .ensures) (r .before .before .records-test .taken)
+    (c .before .kind2 .given .1)
 
 records-less-3 : tie.Need-records-less-3 Inv-chunks μ-chunks Inv-records μ-records
-records-less-3 c = let r = c .before .before .before .before .before .before .before .before .before .before .before .before .before .record-at .ensures in let k = r .low (c .before .before .before .before .before .before .before .before .before .before .before .before .before .before .before .records-test .taken) in omega (arith, r .order, r .high)
-
-records-again-3 : tie.Need-records-again-3 Inv-chunks μ-chunks Inv-records μ-records
-records-again-3 c = on-left _ _ _ _ _ (c .before .before .before .before .before .before .before .before .before .before .before .before .before .before .before .before .records .inv) (c .before .before .before .before .before .before .before .before .before .before .before .before .before .record-at .ensures) (c .before .before .before .before .before .before .before .before .before .before .before .before .before .before .before .records-test .taken) _ _ _ _ _ _ (c .before .before .before .before .before .before .before .before .before .before .before .kind2 .given .1) (c .before .before .before .before .before .before .before .before .before .index-of2 .ensures) (c .before .before .before .before .before .before .before .before .if3 .left) (c .before .before .before .put-block2 .kept .0) (c .before .before .before .before .before .before .in-list2 .ensures) (c .before .before .before .before .before .end-span .ensures) (c .before .before .before .put-block2 .ensures) (c .skip-end .ensures)
+records-less-3 c =
+    let r = c .before .before .before .before .before .before .before .before .before .before .before in
+    let k = r .record-at .ensures .low (r .before .before .records-test .taken) in
+    omega (arith, r .record-at .ensures .order, r .record-at .ensures .high)
 
 records-less-4 : tie.Need-records-less-4 Inv-chunks μ-chunks Inv-records μ-records
-records-less-4 c = let r = c .before .before .before .before .before .record-at .ensures in let k = r .low (c .before .before .before .before .before .before .before .records-test .taken) in omega (arith, r .order, r .high)
+records-less-4 c =
+    let r = c .before .before .before .before .before .before .before in
+    let k = r .record-at .ensures .low (r .before .before .records-test .taken) in
+    omega (arith, r .record-at .ensures .order, r .record-at .ensures .high)
 
 records-again-4 : tie.Need-records-again-4 Inv-chunks μ-chunks Inv-records μ-records
-records-again-4 c = on-hidden _ _ _ _ _ (c .before .before .before .before .before .before .before .before .records .inv) (c .before .before .before .before .before .record-at .ensures) (c .before .before .before .before .before .before .before .records-test .taken) (c .before .before .before .kind3 .given .1) (sym (c .before .enabled .ensures) ∙ c .if4 .taken)
-
-change-style-requires : tie.Need-change-style-requires Inv-chunks μ-chunks Inv-records μ-records
-change-style-requires c κs = c .before .before .before .before .before .before .before .before .before .before .before .before .before .before .pre .0
-
-sub-body : tie.Need-sub-body Inv-chunks μ-chunks Inv-records μ-records
-sub-body c = let r = c .before .before .before .before .before .before .before .before .before .record-at .ensures in omega (arith, r .order, r .high)
-
-part-body-start : tie.Need-part-body-start Inv-chunks μ-chunks Inv-records μ-records
-part-body-start c = let r = c .before .before .before .before .before .before .before .before .before .record-at .ensures in omega (arith, r .order, r .high)
-
-part-body-end : tie.Need-part-body-end Inv-chunks μ-chunks Inv-records μ-records
-part-body-end c = let r = c .before .before .before .before .before .before .before .before .before .record-at .ensures in omega (arith, r .order, r .high)
-
-chunks-holds : tie.Need-chunks-holds Inv-chunks μ-chunks Inv-records μ-records
-chunks-holds c = (refl, refl, body-at (c .before .before .before .change-style .kept .0 ∙ c .before .before .before .before .before .before .before .before .before .before .before .before .before .records .inv .same) (on-body _ _ _ _ _ (c .before .before .before .before .before .before .before .before .before .before .before .before .before .records .inv) (c .before .before .before .before .before .before .before .before .before .before .record-at .ensures) (c .before .before .before .before .before .before .before .before .before .before .before .before .records-test .taken) (c .before .before .before .before .before .before .before .before .kind3 .given .1) _ _ (sym (c .before .before .before .before .before .before .enabled .ensures) ∙ c .before .before .before .before .before .if4 .left) (c .before .before .before .change-style .ensures)))
+records-again-4 c =
+    let r = c .before .before .before .before .before .before .before in
+    on-hidden _ _ _ _ _ _ (r .before .before .before .records .inv) (r .record-at .ensures) (r .before .before .records-test .taken)
+    (c .before .before .before .kind3 .given .1)
+    (sym (c .before .enabled .ensures) ∙ c .if3 .taken)
 
 records-less-5 : tie.Need-records-less-5 Inv-chunks μ-chunks Inv-records μ-records
-records-less-5 c = let r = c .before .before .before .before .before .before .before .before .before .before .before .before .before .before .record-at .ensures in let k = r .low (c .before .before .before .before .before .before .before .before .before .before .before .before .before .before .before .before .records-test .taken) in omega (arith, r .order, r .high)
-
-records-again-5 : tie.Need-records-again-5 Inv-chunks μ-chunks Inv-records μ-records
-records-again-5 c = let e = c .before .before .before .before .before .before .before .change-style .kept .0 ∙ c .before .before .before .before .before .before .before .before .before .before .before .before .before .before .before .before .before .records .inv .same in rw (c .before .before .before .chunks .inv .1) (on-done _ _ _ _ _ (c .before .before .before .before .before .before .before .before .before .before .before .before .before .before .before .before .before .records .inv) (c .before .before .before .before .before .before .before .before .before .before .before .before .before .before .record-at .ensures) (c .before .before .before .before .before .before .before .before .before .before .before .before .before .before .before .before .records-test .taken) (c .before .before .before .before .before .before .before .before .before .before .before .before .kind3 .given .1) (c .before .before .before .chunks .inv .0 ∙ e) (body-at (sym e) (c .before .before .before .chunks .inv .2)) (ended _ _ _ (c .enum-told2 .given .1) (c .before .before .step-at .ensures)))
+records-less-5 c =
+    let r = read (c .before .before .before) in
+    let k = r .record-at .ensures .low (r .before .before .records-test .taken) in
+    omega (arith, r .record-at .ensures .order, r .record-at .ensures .high)
 
 records-less-6 : tie.Need-records-less-6 Inv-chunks μ-chunks Inv-records μ-records
-records-less-6 c = let r = c .before .before .before .before .before .before .before .before .before .before .before .before .before .before .before .before .before .before .record-at .ensures in let k = r .low (c .before .before .before .before .before .before .before .before .before .before .before .before .before .before .before .before .before .before .before .before .records-test .taken) in omega (arith, r .order, r .high)
-
-records-again-6 : tie.Need-records-again-6 Inv-chunks μ-chunks Inv-records μ-records
-records-again-6 c = let e = c .before .before .before .before .before .before .before .before .before .before .before .change-style .kept .0 ∙ c .before .before .before .before .before .before .before .before .before .before .before .before .before .before .before .before .before .before .before .before .before .records .inv .same in on-stopped _ _ _ _ _ (c .before .before .before .before .before .before .before .before .before .before .before .before .before .before .before .before .before .before .before .before .before .records .inv) (c .before .before .before .before .before .before .before .before .before .before .before .before .before .before .before .before .before .before .record-at .ensures) (c .before .before .before .before .before .before .before .before .before .before .before .before .before .before .before .before .before .before .before .before .records-test .taken) (c .before .before .before .before .before .before .before .before .before .before .before .before .before .before .before .before .kind3 .given .1) (c .before .before .before .before .before .before .before .chunks .inv .0 ∙ e) (body-at (sym e) (c .before .before .before .before .before .before .before .chunks .inv .2)) (took _ _ _ _ _ (c .before .before .before .before .piece .given .1) (c .before .before .before .before .before .before .step-at .ensures)) (sym (c .before .before .ends-body .ensures _) ∙ c .before .if5 .taken) _ (c .enable-number .ensures)
+records-less-6 c =
+    let r = read (c .before .before .before .before .before .before .before) in
+    let k = r .record-at .ensures .low (r .before .before .records-test .taken) in
+    omega (arith, r .record-at .ensures .order, r .record-at .ensures .high)
 
 chunks-less : tie.Need-chunks-less Inv-chunks μ-chunks Inv-records μ-records
-chunks-less c = let t = took _ _ _ _ _ (c .before .before .before .before .before .before .before .piece .given .1) (c .before .before .before .before .before .before .before .before .before .step-at .ensures) in omega (arith, t .further, t .short)
+chunks-less c =
+    let t = took _ _ _ _ _ (c .before .before .before .before .before .before .before .piece .given .1)
+    (c .before .before .before .before .before .before .before .before .before .step-at .ensures) in omega (arith, t .further, t .short)
 
 chunks-again : tie.Need-chunks-again Inv-chunks μ-chunks Inv-records μ-records
-chunks-again c = (c .before .before .put-chunk .kept .0 ∙ c .before .before .before .before .before .before .before .before .before .before .chunks .inv .0, c .before .before .before .before .before .before .before .before .before .before .chunks .inv .1, body-on _ _ _ _ _ (c .before .before .before .before .before .before .before .before .before .before .chunks .inv .2) (took _ _ _ _ _ (c .before .before .before .before .before .before .before .piece .given .1) (c .before .before .before .before .before .before .before .before .before .step-at .ensures)) _ _ (c .before .before .before .before .before .before .before .before .before .before .chunks .inv .0) (sym (c .before .before .before .before .before .ends-body .ensures _) ∙ c .before .before .before .before .if5 .left) (c .before .before .put-chunk .ensures))
+chunks-again c =
+    let i = c .before .before .before .before .before .before .before .before .before .before .chunks .inv in (
+      c .before .before .put-chunk .kept .0 ∙ i .0,
+      i .1,
+      body-on _ _ _ _ _ _ (i .2) (took _ _ _ _ _ (c .before .before .before .before .before .before .before .piece .given .1)
+          (c .before .before .before .before .before .before .before .before .before .step-at .ensures)) _ _ (i .0)
+          (sym (c .before .before .before .before .before .ends-body .ensures _) ∙ c .before .before .before .before .if4 .left)
+          (c .before .before .put-chunk .ensures),
+    )
 
-change-style-requires-2 : tie.Need-change-style-requires-2 Inv-chunks μ-chunks Inv-records μ-records
-change-style-requires-2 c κs = c .before .before .before .before .before .before .before .pre .0
+same-length-3 : tie.Need-same-length-3 Inv-chunks μ-chunks Inv-records μ-records
+same-length-3 c = c .before .before .finish .kept .0 ∙ c .before .before .before .before .before .records .inv .same
 
-same-length-4 : tie.Need-same-length-4 Inv-chunks μ-chunks Inv-records μ-records
-same-length-4 c = c .before .before .before .before .put-all .kept .0 ∙ c .before .before .before .before .before .before .before .before .change-style2 .kept .0 ∙ c .before .before .before .before .before .before .before .before .before .before .before .records .inv .same
+returns-3 : tie.Need-returns-3 Inv-chunks μ-chunks Inv-records μ-records
+returns-3 c = (
+  on-end _ _ _ _ _ _ (c .before .before .before .before .before .records .inv) _ (c .before .before .before .before .records-test .left)
+      (c .before .before .finish .ensures .0),
+  subst (λ (n : ℕ). Inside n (c .before .before .finish .result)) (c .before .before .before .before .before .records .inv .same)
+      (c .before .before .finish .ensures .1),
+)
 
-returns-4 : tie.Need-returns-4 Inv-chunks μ-chunks Inv-records μ-records
-returns-4 c = (on-end _ _ _ _ _ (c .before .before .before .before .before .before .before .before .before .before .before .records .inv) _ _ _ _ _ (c .before .before .before .before .before .before .before .before .before .before .records-test .left) (c .before .before .before .before .before .before .before .before .change-style2 .kept .0) (c .answer .ensures .0) (c .before .before .before .before .before .before .before .before .change-style2 .ensures) (c .before .before .before .before .put-all .ensures), subst (λ (n : ℕ). Inside n (c .answer .result)) (c .before .before .before .before .put-all .kept .0 ∙ c .before .before .before .before .before .before .before .before .change-style2 .kept .0 ∙ c .before .before .before .before .before .before .before .before .before .before .before .records .inv .same) (c .answer .ensures .1))
+same-length-2 : tie.Need-same-length-2 Inv-chunks μ-chunks Inv-records μ-records
+same-length-2 c = c .before .before .meet-meta .kept .0 ∙ c .before .before .before .before .before .before .before .before .before .records .inv .same
+
+returns-2 : tie.Need-returns-2 Inv-chunks μ-chunks Inv-records μ-records
+returns-2 c =
+    let r = c .before .before .before .before .before .before in
+    let o = r .before .before .before .records .inv in (
+      on-meta _ _ _ _ _ _ o (r .record-at .ensures) (r .before .before .records-test .taken) _
+          (sym (c .before .before .before .before .before .is-meta .ensures) ∙ c .before .before .before .before .if2 .taken)
+          (c .before .before .meet-meta .ensures .0),
+      subst (λ (n : ℕ). Inside n (c .before .before .meet-meta .result)) (o .same) (c .before .before .meet-meta .ensures .1),
+    )
+
+records-again-2 : tie.Need-records-again-2 Inv-chunks μ-chunks Inv-records μ-records
+records-again-2 c =
+    let r = c .before .before .before .before .before .before .before .before .before .before .before .before .before .before in
+    on-entered _ _ _ _ _ _ (r .before .before .before .records .inv) (r .record-at .ensures) (r .before .before .records-test .taken) _ _ _ _
+    (c .before .before .before .before .before .before .before .before .before .before .kind .given .1)
+    (sym (c .before .before .before .before .before .before .before .before .before .before .before .before .before .is-meta .ensures)
+    ∙ c .before .before .before .before .before .before .before .before .before .before .before .before .if2 .left)
+    (c .before .before .before .before .before .before .put-start .kept .0) (c .before .before .before .before .before .before .put-start .ensures)
+    (c .before .before .push .ensures) (c .before .before .push .kept .0) (c .skip-start .ensures)
+
+records-again-3 : tie.Need-records-again-3 Inv-chunks μ-chunks Inv-records μ-records
+records-again-3 c =
+    let r = c .before .before .before .before .before .before .before .before .before .before .before in
+    on-left _ _ _ _ _ _ (r .before .before .before .records .inv) (r .record-at .ensures) (r .before .before .records-test .taken) _ _ _
+    (c .before .before .before .before .before .before .before .kind2 .given .1)
+    (sym (c .before .before .before .before .before .before .before .before .before .before .is-meta .ensures)
+    ∙ c .before .before .before .before .before .before .before .before .before .if2 .left) (c .before .before .before .put-end .kept .0)
+    (c .before .before .before .put-end .ensures) (c .skip-end .ensures)
+
+slice-aggregate-put-start : tie.Need-slice-aggregate-put-start Inv-chunks μ-chunks Inv-records μ-records
+slice-aggregate-put-start c = sym (c .before .before .before .before .before .before .before .before .before .before .records .inv .long)
+
+slice-aggregate-put-end : tie.Need-slice-aggregate-put-end Inv-chunks μ-chunks Inv-records μ-records
+slice-aggregate-put-end c = sym (c .before .before .before .before .before .before .before .before .before .before .records .inv .long)
+
+chunks-holds : tie.Need-chunks-holds Inv-chunks μ-chunks Inv-records μ-records
+chunks-holds c =
+    let r = c .before .before .before .before .before .before .before .before .before .before .before .before .before in
+    let o = r .before .before .before .records .inv in (
+      refl,
+      refl,
+      body-at (c .before .before .before .before .change-style .kept .0 ∙ o .same)
+          (on-body _ _ _ _ _ _ o (r .record-at .ensures) (r .before .before .records-test .taken)
+          (c .before .before .before .before .before .before .before .before .before .kind3 .given .1) _ _ _ _ (c .get .ensures)
+          (sym (c .before .before .before .before .before .before .before .enabled .ensures) ∙ c .before .before .before .before .before .before .if3 .left)
+          (c .before .styled .ensures) (c .before .before .before .before .change-style .ensures)),
+    )
+
+records-again-5 : tie.Need-records-again-5 Inv-chunks μ-chunks Inv-records μ-records
+records-again-5 c =
+    let b = c .before .before .before in
+    let r = read b in
+    let o = r .before .before .before .records .inv in
+    let i = b .chunks .inv in
+    let e = changed b .change-style .kept .0 ∙ o .same in
+    rw (i .1)
+    (on-done _ _ _ _ _ _ o (r .record-at .ensures) (r .before .before .records-test .taken) (told b .kind3 .given .1) (i .0 ∙ e) (body-at (sym e) (i .2))
+    (ended _ _ _ (c .enum-told2 .given .1) (c .before .before .step-at .ensures)))
+
+records-again-6 : tie.Need-records-again-6 Inv-chunks μ-chunks Inv-records μ-records
+records-again-6 c =
+    let b = c .before .before .before .before .before .before .before in
+    let r = read b in
+    let o = r .before .before .before .records .inv in
+    let i = b .chunks .inv in
+    let e = changed b .change-style .kept .0 ∙ o .same in
+    rw (i .1)
+    (on-stopped _ _ _ _ _ _ o (r .record-at .ensures) (r .before .before .records-test .taken) (told b .kind3 .given .1) (i .0 ∙ e) (body-at (sym e) (i .2))
+    (took _ _ _ _ _ (c .before .before .before .before .piece .given .1) (c .before .before .before .before .before .before .step-at .ensures))
+    (sym (c .before .before .ends-body .ensures _) ∙ c .before .if4 .taken) _ (c .enable-number .ensures))
 
 pub walk-spec : {M : Type 1} → statement M
 walk-spec =
@@ -159,18 +235,16 @@ walk-spec =
     same-length
     returns
     (λ c κs. search needs)
+    (λ c κs. search needs)
+    (λ c κs. search needs)
+    same-length-2
+    returns-2
     (λ c. search needs)
     records-less
     records-again
     (λ c. search needs)
+    slice-aggregate-put-start
     (λ c κs. search needs)
-    meet-meta-requires
-    same-length-2
-    returns-2
-    slice-aggregate-in-list
-    in-list-requires
-    (λ c κs. search needs)
-    put-block-requires
     slice-aggregate-push
     push-requires
     add-depth
@@ -178,15 +252,9 @@ walk-spec =
     records-less-2
     records-again-2
     (λ c. search needs)
-    (λ c κs. search needs)
-    meet-meta-requires-2
-    same-length-3
-    returns-3
     sub-depth
-    slice-aggregate-in-list-2
-    in-list-requires-2
+    slice-aggregate-put-end
     (λ c κs. search needs)
-    put-block-requires-2
     (λ c κs. search needs)
     records-less-3
     records-again-3
@@ -194,10 +262,9 @@ walk-spec =
     (λ c κs. search needs)
     records-less-4
     records-again-4
-    change-style-requires
-    sub-body
-    part-body-start
-    part-body-end
+    (λ c κs. search needs)
+    (λ c κs. search needs)
+    (λ c κs. search needs)
     chunks-holds
     (λ c κs. search needs)
     (λ c. search needs)
@@ -211,8 +278,6 @@ walk-spec =
     (λ c κs. search needs)
     chunks-less
     chunks-again
-    change-style-requires-2
     (λ c κs. search needs)
-    (λ c κs. search needs)
-    same-length-4
-    returns-4)
+    same-length-3
+    returns-3)

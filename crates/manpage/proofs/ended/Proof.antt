@@ -1,110 +1,63 @@
-use mathlib.Core.Path.{sym, ap, _∙_}
-use mathlib.Core.Bool.{false}
+use mathlib.Core.Path.{sym, subst}
+use Prim.Native.Nat.{_-_}
 use borrow.Author.Needs.{needs}
 use denote.Ref.{now}
-use lib.ListN.{length}
 use Rattle.manpage.proofs.ended.Statement.{statement}
 use Rattle.manpage.proofs.ended.Tie as tie
-use mathlib.Core.Bool.{false≢true}
 use Rattle.base.specs.Choice.{if_then_else_}
-use Rattle.base.specs.Result.{gives}
-use Rattle.base.proofs.Results.{bind-end}
-use Rattle.document.specs.declared.Block.{Block}
-use Rattle.document.specs.declared.Kind.the-variants as kind
+use Rattle.base.specs.Result.{Result}
+use Rattle.records.specs.declared.Block.{Block}
 use Rattle.utf8.specs.Utf8.{encode, bytes}
-use Rattle.manpage.specs.Roff.{ended}
-use Rattle.manpage.specs.Parts.{flags, marked, between, isHeading, isTermRef}
-use Rattle.manpage.proofs.Blocks.{stripped, ended-as}
-use Rattle.manpage.proofs.Capturing.{headingName, heading-made}
+use Rattle.manpage.specs.Roff.{Outcome, heading, ended}
+use Rattle.manpage.specs.Parts.{locals, between, Follows}
+use Rattle.manpage.proofs.Blocks.{stripped, ended-nothing, ended-section}
 
 returns : tie.Need-returns
-unfolding headingName if_then_else_
-returns c = λ on.
+unfolding ended heading bytes encode if_then_else_
+returns c = λ p on.
     let a = c .before .before .before .before .before .before .before .before .before .args in
-    let kept = between (now (a .document)) (a .from) (a .at) in
     let g = c .before .before .control in
-    heading-made _ (a .at) (a .b) _ kept (now (a .room)) (g .last .0) (a .m .len) (g .result .len) on (flags on (a .m)) (flags on (g .result)) (ap isHeading (c .before .before .before .before .before .enum-told .given .1)) (ap headingName (c .before .before .before .before .before .enum-told .given .1)) (g .ensures kept on)
+    subst (λ (b : Block). Follows (ended p b (locals (a .m) (between (now (a .document)) (a .from) (a .at)) on)) (now (a .room)) (a .m) (g .last .0) (g .result))
+    (sym (c .before .before .before .before .before .enum-told .given .1)) (g .ensures)
 
 returns-2 : tie.Need-returns-2
-unfolding headingName if_then_else_
-returns-2 c = λ on.
-    let a = c .before .before .before .before .before .before .before .before .before .args in
-    let kept = between (now (a .document)) (a .from) (a .at) in
+unfolding heading bytes encode if_then_else_
+returns-2 c = λ p on.
+    let a = c .before .before .before .before .before .before .before .before .args in
     let g = c .before .before .control2 in
-    heading-made _ (a .at) (a .b) _ kept (now (a .room)) (g .last .0) (a .m .len) (g .result .len) on (flags on (a .m)) (flags on (g .result)) (ap isHeading (c .before .before .before .before .before .enum-told2 .given .1)) (ap headingName (c .before .before .before .before .before .enum-told2 .given .1)) (g .ensures kept on)
+    subst (λ (o : Result Outcome). Follows o (now (a .room)) (a .m) (g .last .0) (g .result))
+    (sym (ended-section p (locals (a .m) (between (now (a .document)) (a .from) (a .at)) on) (a .b) (c .before .before .before .before .before .match .keys2))) (g .ensures)
 
 returns-3 : tie.Need-returns-3
-unfolding headingName if_then_else_
-returns-3 c = λ on.
+unfolding ended
+returns-3 c = λ p on.
     let a = c .before .before .before .before .before .before .before .before .before .args in
-    let kept = between (now (a .document)) (a .from) (a .at) in
-    let g = c .before .before .control3 in
-    heading-made _ (a .at) (a .b) _ kept (now (a .room)) (g .last .0) (a .m .len) (g .result .len) on (flags on (a .m)) (flags on (g .result)) (ap isHeading (c .before .before .before .before .before .enum-told3 .given .1)) (ap headingName (c .before .before .before .before .before .enum-told3 .given .1)) (g .ensures kept on)
+    let g = c .before .before .before .roff-linebreak in
+    let r = c .strip-newlines in
+    subst (λ (b : Block). Follows (ended p b (locals (a .m) (between (now (a .document)) (a .from) (a .at)) on)) (now (a .room)) (a .m) (g .last .0) (r .result))
+    (sym (c .before .before .before .before .before .enum-told2 .given .1)) (stripped (r .ensures) (g .ensures))
 
 returns-4 : tie.Need-returns-4
-unfolding headingName if_then_else_
-returns-4 c = λ on.
-    let a = c .before .before .before .before .before .before .before .before .before .args in
-    let kept = between (now (a .document)) (a .from) (a .at) in
-    let g = c .before .before .control4 in
-    heading-made _ (a .at) (a .b) _ kept (now (a .room)) (g .last .0) (a .m .len) (g .result .len) on (flags on (a .m)) (flags on (g .result)) (ap isHeading (c .before .before .before .before .before .enum-told4 .given .1)) (ap headingName (c .before .before .before .before .before .enum-told4 .given .1)) (g .ensures kept on)
+unfolding ended bytes encode if_then_else_
+returns-4 c = λ p on.
+    let a = c .before .before .before .before .before .before .before .before .before .before .args in
+    let g = c .before .before .before .control0 in
+    let r = c .strip-newlines2 in
+    subst (λ (b : Block). Follows (ended p b (locals (a .m) (between (now (a .document)) (a .from) (a .at)) on)) (now (a .room)) (a .m) (g .last .0) (r .result))
+    (sym (c .before .before .before .before .before .before .enum-told3 .given .1)) (stripped (r .ensures) (g .ensures))
 
 returns-5 : tie.Need-returns-5
 unfolding ended bytes encode if_then_else_
-returns-5 c = λ on.
+returns-5 c = λ p on.
     let a = c .before .before .before .before .before .before .before .before .before .args in
-    let kept = between (now (a .document)) (a .from) (a .at) in
-    let g = c .before .before .before .roff-linebreak in
-    ended-as _ (a .at) (a .b) on _ kept (now (a .room)) (g .last .0) (a .m) (c .strip-newlines .result) (ap isHeading (c .before .before .before .before .before .enum-told5 .given .1))
-    (stripped false on kept (g .last .0) (g .result) (c .strip-newlines .result) _ _ (c .strip-newlines .ensures) (g .ensures kept on)) (λ s. ap (λ (x : Block). ended (length (now (a .room))) (a .at) x s) (sym (c .before .before .before .before .before .enum-told5 .given .1)))
+    let g = c .before .before .control02 in
+    subst (λ (b : Block). Follows (ended p b (locals (a .m) (between (now (a .document)) (a .from) (a .at)) on)) (now (a .room)) (a .m) (g .last .0) (g .result))
+    (sym (c .before .before .before .before .before .enum-told4 .given .1)) (g .ensures)
 
 returns-6 : tie.Need-returns-6
-unfolding ended bytes encode if_then_else_
-returns-6 c = λ on.
-    let a = c .before .before .before .before .before .before .before .before .before .before .args in
-    let kept = between (now (a .document)) (a .from) (a .at) in
-    let g = c .before .before .before .control0 in
-    ended-as _ (a .at) (a .b) on _ kept (now (a .room)) (g .last .0) (a .m) (c .strip-newlines2 .result) (ap isHeading (c .before .before .before .before .before .before .enum-told6 .given .1))
-    (stripped false on kept (g .last .0) (g .result) (c .strip-newlines2 .result) _ _ (c .strip-newlines2 .ensures) (g .ensures kept on)) (λ s. ap (λ (x : Block). ended (length (now (a .room))) (a .at) x s) (sym (c .before .before .before .before .before .before .enum-told6 .given .1)))
-
-returns-7 : tie.Need-returns-7
-unfolding ended bytes encode if_then_else_
-returns-7 c = λ on.
-    let a = c .before .before .before .before .args in
-    let kept = between (now (a .document)) (a .from) (a .at) in
-    ended-as _ (a .at) (a .b) on gives kept (now (a .room)) (now (a .room)) (a .m) (a .m) (ap isHeading (c .enum-told7 .given .1)) (sym (bind-end (marked kept on (now (a .room)) (a .m)))) (λ s. ap (λ (x : Block). ended (length (now (a .room))) (a .at) x s) (sym (c .enum-told7 .given .1)))
-
-returns-8 : tie.Need-returns-8
-unfolding ended bytes encode if_then_else_
-returns-8 c = λ on.
-    let a = c .before .before .before .before .args in
-    let kept = between (now (a .document)) (a .from) (a .at) in
-    ended-as _ (a .at) (a .b) on gives kept (now (a .room)) (now (a .room)) (a .m) (a .m) (ap isHeading (c .enum-told8 .given .1)) (sym (bind-end (marked kept on (now (a .room)) (a .m)))) (λ s. ap (λ (x : Block). ended (length (now (a .room))) (a .at) x s) (sym (c .enum-told8 .given .1)))
-
-returns-9 : tie.Need-returns-9
-unfolding ended bytes encode if_then_else_
-returns-9 c = λ on.
-    let a = c .before .before .before .before .args in
-    let kept = between (now (a .document)) (a .from) (a .at) in
-    ended-as _ (a .at) (a .b) on gives kept (now (a .room)) (now (a .room)) (a .m) (a .m) (ap isHeading (c .enum-told9 .given .1)) (sym (bind-end (marked kept on (now (a .room)) (a .m)))) (λ s. ap (λ (x : Block). ended (length (now (a .room))) (a .at) x s) (sym (c .enum-told9 .given .1)))
-
-returns-10 : tie.Need-returns-10
-returns-10 c = λ on. absurd (false≢true (sym (c .before .before .before .before .pre .1) ∙ ap (λ (x : Block). isTermRef (kind.End x)) (c .enum-told10 .given .1)))
-
-returns-11 : tie.Need-returns-11
-unfolding ended bytes encode if_then_else_
-returns-11 c = λ on.
-    let a = c .before .before .before .before .before .before .before .before .before .args in
-    let kept = between (now (a .document)) (a .from) (a .at) in
-    let g = c .before .before .control02 in
-    ended-as _ (a .at) (a .b) on _ kept (now (a .room)) (g .last .0) (a .m) (g .result) (ap isHeading (c .before .before .before .before .before .enum-told11 .given .1)) (g .ensures kept on) (λ s. ap (λ (x : Block). ended (length (now (a .room))) (a .at) x s) (sym (c .before .before .before .before .before .enum-told11 .given .1)))
-
-returns-12 : tie.Need-returns-12
-unfolding ended bytes encode if_then_else_
-returns-12 c = λ on.
-    let a = c .before .before .before .before .args in
-    let kept = between (now (a .document)) (a .from) (a .at) in
-    ended-as _ (a .at) (a .b) on gives kept (now (a .room)) (now (a .room)) (a .m) (a .m) (ap isHeading (c .enum-told12 .given .1)) (sym (bind-end (marked kept on (now (a .room)) (a .m)))) (λ s. ap (λ (x : Block). ended (length (now (a .room))) (a .at) x s) (sym (c .enum-told12 .given .1)))
+returns-6 c = λ p on.
+    let a = c .before .before .before .args in
+    ended-nothing p (between (now (a .document)) (a .from) (a .at)) on (now (a .room)) (a .m) (a .b) (c .match .keys6)
 
 pub ended-spec : {M : Type 1} → statement M
 ended-spec =
@@ -114,13 +67,6 @@ ended-spec =
     (λ c. search needs)
     (λ c κs. search needs)
     (λ c. search needs)
-    (λ c. search needs)
-    (λ c κs. search needs)
-    (λ c. search needs)
-    (λ c. search needs)
-    (λ c κs. search needs)
-    (λ c. search needs)
-    (λ c. search needs)
     (λ c κs. search needs)
     (λ c. search needs)
     (λ c κs. search needs)
@@ -131,12 +77,7 @@ ended-spec =
     (λ c κs. search needs)
     (λ c. search needs)
     (λ c. search needs)
-    (λ c. search needs)
-    (λ c. search needs)
-    (λ c. search needs)
-    (λ c. search needs)
     (λ c κs. search needs)
-    (λ c. search needs)
     (λ c. search needs)
     returns
     (λ c. search needs)
@@ -147,12 +88,4 @@ ended-spec =
     returns-4
     (λ c. search needs)
     returns-5
-    (λ c. search needs)
-    returns-6
-    returns-7
-    returns-8
-    returns-9
-    returns-10
-    (λ c. search needs)
-    returns-11
-    returns-12)
+    returns-6)

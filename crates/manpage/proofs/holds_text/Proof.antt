@@ -4,11 +4,11 @@ use borrow.Author.Needs.{needs}
 use lib.Dec.{ltb}
 use Rattle.manpage.proofs.holds_text.Statement.{statement}
 use Rattle.manpage.proofs.holds_text.Tie as tie
-use Rattle.document.specs.declared.Kind.{Kind}
+use Rattle.records.specs.declared.Kind.{Kind}
 use Rattle.manpage.specs.Parts.{isText}
 
 returns : tie.Need-returns
-returns c = ap (λ (k : Kind). isText k && ltb (c .before .before .before .args .h .start) (c .before .before .before .args .h .next)) (sym (c .before .enum-told .given .1))
+returns c = ap (λ (k : Kind). isText k && ltb (c .before .before .before .args .h .start) (c .before .before .before .args .h .stop)) (sym (c .before .enum-told .given .1))
 
 pub holds-text-spec : {M : Type 1} → statement M
 holds-text-spec =

@@ -1,22 +1,24 @@
-use mathlib.Core.Path.{ap, _∙_}
+use mathlib.Core.Path.{sym, ap, _∙_}
+use mathlib.Core.Bool.{Bool}
+use Prim.Native.Nat.{_-_}
 use borrow.Author.Needs.{needs}
 use denote.Ref.{now}
-use lib.ListN.{length}
 use Rattle.manpage.proofs.put_text.Statement.{statement}
 use Rattle.manpage.proofs.put_text.Tie as tie
-use Rattle.base.specs.Result.{_>>=_}
-use Rattle.manpage.specs.Roff.{subsection, text, fontOf}
-use Rattle.manpage.specs.Parts.{marked}
-use Rattle.manpage.proofs.Composing.{steps}
-use Rattle.manpage.specs.declared.roff.Font.{Font}
+use Rattle.roff_escape.specs.declared.roff.Font.{Font}
+use Rattle.roff_escape.specs.Composer.{text}
+use Rattle.roff_escape.proofs.Composing.{pushed-then, pushed-same}
+use Rattle.manpage.specs.Roff.{fontOf}
 
 returns : tie.Need-returns
-returns c = λ kept capture.
+returns c =
+    let s = c .before .before .before .before .before .before .before .put-subsection in
     let a = c .before .before .before .before .before .before .before .before .before .before .before .args in
-    let s = c .before .before .before .before .before .before .before .subsection in
-    let t = c .before .before .text in
-    steps (λ n. subsection n (a .style)) (λ n. text n (fontOf (a .style)) (now (a .bytes))) _ _ _ _ _ (s .kept .0) (s .ensures kept capture)
-    (t .ensures kept capture ∙ ap (λ (f : Font). marked kept capture (s .last .0) (s .result) >>= text (length (s .last .0)) f (now (a .bytes))) (c .before .before .before .font-of .ensures))
+    pushed-then (s .kept .0) (s .ensures)
+    (pushed-same
+    (ap (λ (b : Bool). text b (fontOf (a .style)) (now (a .bytes))) (sym (s .ensures .strip))
+    ∙ ap (λ (f : Font). text (s .result .strip) f (now (a .bytes))) (sym (c .before .before .before .font-of .ensures)))
+    (c .before .before .text .ensures))
 
 pub put-text-spec : {M : Type 1} → statement M
 put-text-spec =

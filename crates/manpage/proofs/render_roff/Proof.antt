@@ -8,8 +8,8 @@ use Rattle.manpage.proofs.render_roff.Statement.{statement}
 use Rattle.manpage.proofs.render_roff.Tie as tie
 use Rattle.base.specs.Result.{measured}
 use Rattle.document.proofs.Walks.{verdict-gives, verdict-refused}
-use Rattle.walk.specs.Rendered.{standing, filled}
-use Rattle.walk.proofs.Clearing.{standing-measured}
+use Rattle.renderer.specs.Rendered.{standing, filled}
+use Rattle.renderer.proofs.Clearing.{standing-measured}
 use Rattle.manpage.proofs.Walking.{roff-accepted, roff-refused}
 
 returns : tie.Need-returns

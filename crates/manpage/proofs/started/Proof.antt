@@ -1,93 +1,40 @@
-use mathlib.Core.Path.{sym, ap, _∙_}
-use mathlib.Core.Bool.{true}
+use mathlib.Core.Path.{sym, subst}
+use Prim.Native.Nat.{_-_}
 use borrow.Author.Needs.{needs}
 use denote.Ref.{now}
-use lib.ListN.{length}
 use Rattle.manpage.proofs.started.Statement.{statement}
 use Rattle.manpage.proofs.started.Tie as tie
-use mathlib.Core.Bool.{false≢true}
 use Rattle.base.specs.Choice.{if_then_else_}
-use Rattle.base.specs.Result.{gives}
-use Rattle.base.proofs.Results.{bind-end}
-use Rattle.document.specs.declared.Block.{Block}
-use Rattle.document.specs.declared.Kind.the-variants as kind
+use Rattle.records.specs.declared.Block.{Block}
 use Rattle.utf8.specs.Utf8.{encode, bytes}
 use Rattle.manpage.specs.Roff.{started}
-use Rattle.manpage.specs.Parts.{marked, isHeading, isTermRef}
-use Rattle.manpage.proofs.Blocks.{stripped, started-as, started-heading}
+use Rattle.manpage.specs.Parts.{locals, Follows}
+use Rattle.manpage.proofs.Blocks.{stripped, started-nothing}
 
 returns : tie.Need-returns
 unfolding started bytes encode if_then_else_
-returns c = λ kept on.
-    let a = c .before .before .before .args in
-    started-heading _ (a .at) (a .b) on kept (now (a .room)) (a .m) (ap isHeading (c .enum-told .given .1)) (λ s. ap (λ (x : Block). started (length (now (a .room))) (a .at) x s) (sym (c .enum-told .given .1)))
+returns c = λ p kept on.
+    let a = c .before .before .before .before .before .before .before .before .before .args in
+    let g = c .before .before .before .control0 in
+    subst (λ (b : Block). Follows (started p b (locals (a .m) kept on)) (now (a .room)) (a .m) (g .last .0) (c .strip-newlines .result)) (sym (c .before .before .before .before .before .before .enum-told .given .1))
+    (stripped (c .strip-newlines .ensures) (g .ensures))
 
 returns-2 : tie.Need-returns-2
 unfolding started bytes encode if_then_else_
-returns-2 c = λ kept on.
-    let a = c .before .before .before .args in
-    started-heading _ (a .at) (a .b) on kept (now (a .room)) (a .m) (ap isHeading (c .enum-told2 .given .1)) (λ s. ap (λ (x : Block). started (length (now (a .room))) (a .at) x s) (sym (c .enum-told2 .given .1)))
+returns-2 c = λ p kept on.
+    let a = c .before .before .before .before .before .before .before .before .args in
+    let g = c .before .before .control02 in
+    subst (λ (b : Block). Follows (started p b (locals (a .m) kept on)) (now (a .room)) (a .m) (g .last .0) (g .result)) (sym (c .before .before .before .before .before .enum-told2 .given .1)) (g .ensures)
 
 returns-3 : tie.Need-returns-3
 unfolding started bytes encode if_then_else_
-returns-3 c = λ kept on.
-    let a = c .before .before .before .args in
-    started-heading _ (a .at) (a .b) on kept (now (a .room)) (a .m) (ap isHeading (c .enum-told3 .given .1)) (λ s. ap (λ (x : Block). started (length (now (a .room))) (a .at) x s) (sym (c .enum-told3 .given .1)))
-
-returns-4 : tie.Need-returns-4
-unfolding started bytes encode if_then_else_
-returns-4 c = λ kept on.
-    let a = c .before .before .before .args in
-    started-heading _ (a .at) (a .b) on kept (now (a .room)) (a .m) (ap isHeading (c .enum-told4 .given .1)) (λ s. ap (λ (x : Block). started (length (now (a .room))) (a .at) x s) (sym (c .enum-told4 .given .1)))
-
-returns-5 : tie.Need-returns-5
-unfolding started bytes encode if_then_else_
-returns-5 c = λ kept on.
-    let a = c .before .before .before .before .before .before .before .before .before .args in
-    let g = c .before .before .before .control0 in
-    started-as _ (a .at) (a .b) on _ kept (now (a .room)) (g .last .0) (a .m) (c .strip-newlines .result) (ap isHeading (c .before .before .before .before .before .before .enum-told5 .given .1))
-    (stripped true on kept (g .last .0) (g .result) (c .strip-newlines .result) _ _ (c .strip-newlines .ensures) (g .ensures kept on)) (λ s. ap (λ (x : Block). started (length (now (a .room))) (a .at) x s) (sym (c .before .before .before .before .before .before .enum-told5 .given .1)))
-
-returns-6 : tie.Need-returns-6
-unfolding started bytes encode if_then_else_
-returns-6 c = λ kept on.
-    let a = c .before .before .before .args in
-    started-as _ (a .at) (a .b) on gives kept (now (a .room)) (now (a .room)) (a .m) (a .m) (ap isHeading (c .enum-told6 .given .1)) (sym (bind-end (marked kept on (now (a .room)) (a .m)))) (λ s. ap (λ (x : Block). started (length (now (a .room))) (a .at) x s) (sym (c .enum-told6 .given .1)))
-
-returns-7 : tie.Need-returns-7
-unfolding started bytes encode if_then_else_
-returns-7 c = λ kept on.
-    let a = c .before .before .before .args in
-    started-as _ (a .at) (a .b) on gives kept (now (a .room)) (now (a .room)) (a .m) (a .m) (ap isHeading (c .enum-told7 .given .1)) (sym (bind-end (marked kept on (now (a .room)) (a .m)))) (λ s. ap (λ (x : Block). started (length (now (a .room))) (a .at) x s) (sym (c .enum-told7 .given .1)))
-
-returns-8 : tie.Need-returns-8
-unfolding started bytes encode if_then_else_
-returns-8 c = λ kept on.
-    let a = c .before .before .before .before .before .before .before .before .args in
-    let g = c .before .before .control02 in
-    started-as _ (a .at) (a .b) on _ kept (now (a .room)) (g .last .0) (a .m) (g .result) (ap isHeading (c .before .before .before .before .before .enum-told8 .given .1)) (g .ensures kept on) (λ s. ap (λ (x : Block). started (length (now (a .room))) (a .at) x s) (sym (c .before .before .before .before .before .enum-told8 .given .1)))
-
-returns-9 : tie.Need-returns-9
-unfolding started bytes encode if_then_else_
-returns-9 c = λ kept on.
-    let a = c .before .before .before .args in
-    started-as _ (a .at) (a .b) on gives kept (now (a .room)) (now (a .room)) (a .m) (a .m) (ap isHeading (c .enum-told9 .given .1)) (sym (bind-end (marked kept on (now (a .room)) (a .m)))) (λ s. ap (λ (x : Block). started (length (now (a .room))) (a .at) x s) (sym (c .enum-told9 .given .1)))
-
-returns-10 : tie.Need-returns-10
-returns-10 c = λ kept on. absurd (false≢true (sym (c .before .before .before .pre) ∙ ap (λ (x : Block). isTermRef (kind.Start x)) (c .enum-told10 .given .1)))
-
-returns-11 : tie.Need-returns-11
-unfolding started bytes encode if_then_else_
-returns-11 c = λ kept on.
+returns-3 c = λ p kept on.
     let a = c .before .before .before .before .before .before .before .before .args in
     let g = c .before .before .control03 in
-    started-as _ (a .at) (a .b) on _ kept (now (a .room)) (g .last .0) (a .m) (g .result) (ap isHeading (c .before .before .before .before .before .enum-told11 .given .1)) (g .ensures kept on) (λ s. ap (λ (x : Block). started (length (now (a .room))) (a .at) x s) (sym (c .before .before .before .before .before .enum-told11 .given .1)))
+    subst (λ (b : Block). Follows (started p b (locals (a .m) kept on)) (now (a .room)) (a .m) (g .last .0) (g .result)) (sym (c .before .before .before .before .before .enum-told3 .given .1)) (g .ensures)
 
-returns-12 : tie.Need-returns-12
-unfolding started bytes encode if_then_else_
-returns-12 c = λ kept on.
-    let a = c .before .before .before .args in
-    started-as _ (a .at) (a .b) on gives kept (now (a .room)) (now (a .room)) (a .m) (a .m) (ap isHeading (c .enum-told12 .given .1)) (sym (bind-end (marked kept on (now (a .room)) (a .m)))) (λ s. ap (λ (x : Block). started (length (now (a .room))) (a .at) x s) (sym (c .enum-told12 .given .1)))
+returns-4 : tie.Need-returns-4
+returns-4 c = λ p kept on. started-nothing p kept on (now (c .before .before .args .room)) (c .before .before .args .m) (c .before .before .args .b) (c .match .keys4)
 
 pub started-spec : {M : Type 1} → statement M
 started-spec =
@@ -95,35 +42,18 @@ started-spec =
     (tie.spec
     (λ c. search needs)
     (λ c. search needs)
-    (λ c. search needs)
-    (λ c. search needs)
-    (λ c. search needs)
-    (λ c. search needs)
     (λ c κs. search needs)
     (λ c κs. search needs)
     (λ c. search needs)
     (λ c. search needs)
-    (λ c. search needs)
-    (λ c. search needs)
     (λ c κs. search needs)
-    (λ c. search needs)
-    (λ c. search needs)
     (λ c. search needs)
     (λ c. search needs)
     (λ c κs. search needs)
     (λ c. search needs)
     returns
+    (λ c. search needs)
     returns-2
+    (λ c. search needs)
     returns-3
-    returns-4
-    (λ c. search needs)
-    returns-5
-    returns-6
-    returns-7
-    (λ c. search needs)
-    returns-8
-    returns-9
-    returns-10
-    (λ c. search needs)
-    returns-11
-    returns-12)
+    returns-4)

@@ -1,4 +1,6 @@
 use mathlib.Core.Path.{refl, sym, ap, _∙_}
+use mathlib.Core.List.{[]}
+use mathlib.Core.Bool.{true, false, not}
 use Prim.Native.Nat.{ℕ, _-_}
 use native.Mathlib.Omega.{arith}
 use borrow.Author.Needs.{needs}
@@ -7,14 +9,15 @@ use denote.Ref.{now}
 use lib.ListN.{length}
 use Rattle.manpage.proofs.walk.Statement.{statement}
 use Rattle.manpage.proofs.walk.Tie as tie
-use Rattle.document.proofs.Reading.{read-on}
-use Rattle.walk.specs.Walk.{write}
-use Rattle.manpage.specs.Escape.{preamble}
-use Rattle.manpage.specs.Roff.{initial}
+use Rattle.records.specs.declared.Kind.the-variants as kind
+use Rattle.refusal.specs.declared.Refusal.the-variants as refusal
+use Rattle.room.specs.Room.{extended}
+use Rattle.roff_escape.specs.Escape.{preamble}
 use Rattle.manpage.specs.Parts.{isTermRef}
-use Rattle.document.specs.declared.Refusal.the-variants as refusal
-use Rattle.manpage.proofs.Walking.{On, on-start, on-unknown, on-started, on-ended, on-text, on-captured, refused-11, refused-12, refused-13, answer-refused, done}
+use Rattle.manpage.proofs.Walking.{On, on-start, Taken, taken, taken-less, on-unknown, on-started, on-ended, on-text, on-captured, refused-11, refused-12, refused-13, answer-refused, done}
 
+-- Invariant: what stands in the room, and the rules run from `at` on, give the whole text; what is captured is the text from where capture
+-- began up to `at`. What falls is what is left of the document.
 abbrev Inv-loop : tie.InvT-loop
 Inv-loop document room₀ m₀ capture₀ from₀ at₀ room m capture from at = On (length room₀) document room m capture from at
 
@@ -24,7 +27,18 @@ abbrev μ-loop : tie.MeasureT-loop
 loop-holds : tie.Need-loop-holds Inv-loop μ-loop
 loop-holds c =
     let g = c .before .before .put-preamble in
-    on-start (length (g .last .0)) (now (c .before .before .before .before .before .before .args .document)) (g .last .0) (g .result) refl (g .ensures ∙ ap (λ (n : ℕ). write n preamble initial) (sym (g .kept .0)))
+    on-start (length (g .last .0)) (now (c .before .before .before .before .before .before .args .document)) (g .last .0) (g .result) refl
+    (g .ensures .0 ∙ ap (λ (n : ℕ). extended n preamble []) (sym (g .kept .0))) (g .ensures .1)
+
+-- the record at `at`
+here : (c : tie.After-record-at Inv-loop μ-loop)
+    → let l = c .before .before .before .before .before .loop in
+    Taken (length (c .before .before .before .before .before .before .before .before .put-preamble .last .0))
+    (now (c .before .before .before .before .before .before .before .before .before .before .before .before .args .document))
+    (l .room) (l .m) (l .capture) (c .before .begin-at .result) (l .at) (c .record-at .result)
+here c =
+    taken (c .before .before .before .before .before .loop .inv) (c .record-at .ensures) (c .before .before .if2 .left)
+    (c .before .begin-at .result) (c .before .begin-at .ensures)
 
 same-length : tie.Need-same-length Inv-loop μ-loop
 same-length c = c .before .before .loop .inv .same ∙ c .before .before .before .before .before .put-preamble .kept .0
@@ -50,73 +64,80 @@ returns-2 c =
 
 returns-3 : tie.Need-returns-3 Inv-loop μ-loop
 returns-3 c =
-    let w = answer-refused _ _ (c .before .before .before .before .before .before .before .loop .room) (refusal.NoForm (c .before .before .before .before .before .before .before .loop .at)) (refused-11 (c .before .before .before .before .before .before .before .loop .inv) (c .before .before .record-at .ensures) (c .before .before .before .before .if2 .left) _ (c .before .before .before .begin-at .ensures) (c .before .before .before .before .before .if1 .left) (sym (c .before .is-term-ref .ensures) ∙ c .if3 .taken)) _ (c .before .before .before .before .before .before .before .before .before .before .put-preamble .kept .0) in
+    let t = here (c .before .before) in
+    let e = sym (c .before .is-term-ref .ensures) ∙ c .if3 .taken in
+    let w = answer-refused _ _ (c .before .before .before .before .before .before .before .loop .room) (refusal.NoForm (c .before .before .before .before .before .before .before .loop .at)) (refused-11 t (c .before .before .before .before .before .if1 .left) e) _ (c .before .before .before .before .before .before .before .before .before .before .put-preamble .kept .0) in
     (w .stands, w .inside)
 
 returns-4 : tie.Need-returns-4 Inv-loop μ-loop
 returns-4 c =
-    let w = answer-refused _ _ (c .before .before .before .before .before .before .before .before .before .before .before .before .before .before .loop .room) (refusal.HeadingNotAscii (c .before .before .before .before .before .before .before .before .before .before .before .before .before .before .loop .at)) (refused-12 (c .before .before .before .before .before .before .before .before .before .before .before .before .before .before .loop .inv) (c .before .before .before .before .before .before .before .before .before .record-at .ensures) (c .before .before .before .before .before .before .before .before .before .before .before .if2 .left) _ (c .before .before .before .before .before .before .before .before .before .before .begin-at .ensures) (c .before .before .before .before .before .before .before .before .before .before .before .before .if1 .left) (c .before .before .before .before .before .kind .given .1) (c .before .before .before .if4 .taken) (sym (c .before .is-ascii .ensures) ∙ not-true _ (c .if5 .taken))) _ (c .before .before .before .before .before .before .before .before .before .before .before .before .before .before .before .before .before .put-preamble .kept .0) in
+    let t = here (c .before .before .before .before .before .before .before .before .before) in
+    let a = sym (c .before .is-ascii .ensures) ∙ not-true _ (c .if5 .taken) in
+    let e = refused-12 t (c .before .before .before .before .before .before .before .before .before .before .before .before .if1 .left) (c .before .before .before .before .before .kind .given .1) (c .before .before .before .if4 .taken) a in
+    let w = answer-refused _ _ (c .before .before .before .before .before .before .before .before .before .before .before .before .before .before .loop .room) (refusal.HeadingNotAscii (c .before .before .before .before .before .before .before .before .before .before .before .before .before .before .loop .at)) e _ (c .before .before .before .before .before .before .before .before .before .before .before .before .before .before .before .before .before .put-preamble .kept .0) in
     (w .stands, w .inside)
 
 sub-is-ascii : tie.Need-sub-is-ascii Inv-loop μ-loop
-sub-is-ascii c = c .before .before .before .before .before .before .record-at .ensures .order
+sub-is-ascii c = let r = c .before .before .before .before .before .before .record-at .ensures in omega (arith, r .order, r .ends)
 
 part-is-ascii-start : tie.Need-part-is-ascii-start Inv-loop μ-loop
-part-is-ascii-start c = c .before .before .before .before .before .before .record-at .ensures .order
+part-is-ascii-start c = let r = c .before .before .before .before .before .before .record-at .ensures in omega (arith, r .order, r .ends)
 
 part-is-ascii-end : tie.Need-part-is-ascii-end Inv-loop μ-loop
-part-is-ascii-end c = c .before .before .before .before .before .before .record-at .ensures .high
+part-is-ascii-end c = let r = c .before .before .before .before .before .before .record-at .ensures in omega (arith, r .high, r .ends)
 
 sub-put-text : tie.Need-sub-put-text Inv-loop μ-loop
-sub-put-text c = c .before .before .before .before .before .before .before .record-at .ensures .order
+sub-put-text c = let r = c .before .before .before .before .before .before .before .record-at .ensures in omega (arith, r .order, r .ends)
 
 part-put-text-start : tie.Need-part-put-text-start Inv-loop μ-loop
-part-put-text-start c = c .before .before .before .before .before .before .before .record-at .ensures .order
+part-put-text-start c = let r = c .before .before .before .before .before .before .before .record-at .ensures in omega (arith, r .order, r .ends)
 
 part-put-text-end : tie.Need-part-put-text-end Inv-loop μ-loop
-part-put-text-end c = c .before .before .before .before .before .before .before .record-at .ensures .high
-
-started-requires : tie.Need-started-requires Inv-loop μ-loop
-started-requires c κs = sym (ap isTermRef (c .before .before .kind2 .given .1)) ∙ sym (c .before .before .before .before .before .is-term-ref .ensures) ∙ c .before .before .before .before .if3 .left
+part-put-text-end c = let r = c .before .before .before .before .before .before .before .record-at .ensures in omega (arith, r .high, r .ends)
 
 ended-requires : tie.Need-ended-requires Inv-loop μ-loop
-ended-requires c κs = (omega (arith, c .before .before .before .before .before .before .before .before .if2 .left), sym (ap isTermRef (c .before .before .kind3 .given .1)) ∙ sym (c .before .before .before .before .before .is-term-ref .ensures) ∙ c .before .before .before .before .if3 .left)
+ended-requires c κs = omega (arith, c .before .before .before .before .before .before .before .before .if2 .left)
 
 loop-less : tie.Need-loop-less Inv-loop μ-loop
-loop-less c = let k = read-on (c .before .before .before .before .before .before .before .before .before .record-at .ensures) (c .before .before .before .before .before .before .before .before .before .before .before .if2 .left) in omega (arith, c .before .before .before .before .before .before .before .before .before .before .before .if2 .left)
+loop-less c = taken-less (here (c .before .before .before .before .before .before .before .before .before))
 
 loop-less-2 : tie.Need-loop-less-2 Inv-loop μ-loop
-loop-less-2 c = let k = read-on (c .before .before .before .before .before .before .before .before .before .before .before .record-at .ensures) (c .before .before .before .before .before .before .before .before .before .before .before .before .before .if2 .left) in omega (arith, c .before .before .before .before .before .before .before .before .before .before .before .before .before .if2 .left)
+loop-less-2 c = taken-less (here (c .before .before .before .before .before .before .before .before .before .before .before))
 
 loop-less-3 : tie.Need-loop-less-3 Inv-loop μ-loop
-loop-less-3 c = let k = read-on (c .before .before .before .before .before .before .before .before .before .before .record-at .ensures) (c .before .before .before .before .before .before .before .before .before .before .before .before .if2 .left) in omega (arith, c .before .before .before .before .before .before .before .before .before .before .before .before .if2 .left)
+loop-less-3 c = taken-less (here (c .before .before .before .before .before .before .before .before .before .before))
 
 loop-less-4 : tie.Need-loop-less-4 Inv-loop μ-loop
-loop-less-4 c = let k = read-on (c .before .before .before .before .before .before .before .before .before .before .record-at .ensures) (c .before .before .before .before .before .before .before .before .before .before .before .before .if2 .left) in omega (arith, c .before .before .before .before .before .before .before .before .before .before .before .before .if2 .left)
+loop-less-4 c = taken-less (here (c .before .before .before .before .before .before .before .before .before .before))
 
 loop-less-5 : tie.Need-loop-less-5 Inv-loop μ-loop
-loop-less-5 c = let k = read-on (c .before .before .before .before .record-at .ensures) (c .before .before .before .before .before .before .if2 .left) in omega (arith, c .before .before .before .before .before .before .if2 .left)
+loop-less-5 c = taken-less (here (c .before .before .before .before))
 
 loop-again : tie.Need-loop-again Inv-loop μ-loop
-loop-again c = on-captured (c .before .before .before .before .before .before .before .before .before .before .before .before .before .before .loop .inv) (c .before .before .before .before .before .before .before .before .before .record-at .ensures) (c .before .before .before .before .before .before .before .before .before .before .before .if2 .left) _ (c .before .before .before .before .before .before .before .before .before .before .begin-at .ensures) (c .before .before .before .before .before .kind .given .1) (c .before .before .before .if4 .taken) (sym (c .before .is-ascii .ensures) ∙ not-false _ (c .if5 .left))
+loop-again c =
+    on-captured (here (c .before .before .before .before .before .before .before .before .before)) (c .before .before .before .before .before .kind .given .1) (c .before .before .before .if4 .taken) (sym (c .before .is-ascii .ensures) ∙ not-false _ (c .if5 .left))
 
 loop-again-2 : tie.Need-loop-again-2 Inv-loop μ-loop
 loop-again-2 c =
     let g = c .before .before .put-text in
-    on-text (c .before .before .before .before .before .before .before .before .before .before .before .before .before .before .before .before .loop .inv) (c .before .before .before .before .before .before .before .before .before .before .before .record-at .ensures) (c .before .before .before .before .before .before .before .before .before .before .before .before .before .if2 .left) _ (c .before .before .before .before .before .before .before .before .before .before .before .before .begin-at .ensures) (g .last .0) (g .result) (g .kept .0) (c .before .before .before .before .before .before .before .kind .given .1) (c .before .before .before .before .before .if4 .left) (g .ensures)
+    on-text (here (c .before .before .before .before .before .before .before .before .before .before .before)) (g .last .0) (g .result) (g .kept .0) (c .before .before .before .before .before .before .before .kind .given .1) (c .before .before .before .before .before .if4 .left) (g .ensures)
 
 loop-again-3 : tie.Need-loop-again-3 Inv-loop μ-loop
 loop-again-3 c =
     let g = c .before .before .before .started in
-    on-started (c .before .before .before .before .before .before .before .before .before .before .before .before .before .before .before .loop .inv) (c .before .before .before .before .before .before .before .before .before .before .record-at .ensures) (c .before .before .before .before .before .before .before .before .before .before .before .before .if2 .left) _ (c .before .before .before .before .before .before .before .before .before .before .before .begin-at .ensures) (g .last .0) (g .result) (g .kept .0) (c .opens-capture .result) (c .before .before .before .before .before .before .kind2 .given .1) (c .opens-capture .ensures) (g .ensures)
+    let n = sym (ap isTermRef (c .before .before .before .before .before .before .kind2 .given .1)) ∙ sym (c .before .before .before .before .before .before .before .before .before .is-term-ref .ensures) ∙ c .before .before .before .before .before .before .before .before .if3 .left in
+    on-started (here (c .before .before .before .before .before .before .before .before .before .before)) (g .last .0) (g .result) (g .kept .0) (c .opens-capture .result) (c .before .before .before .before .before .before .kind2 .given .1) n (c .opens-capture .ensures)
+    (g .ensures)
 
 loop-again-4 : tie.Need-loop-again-4 Inv-loop μ-loop
 loop-again-4 c =
     let g = c .before .before .before .ended in
-    on-ended (c .before .before .before .before .before .before .before .before .before .before .before .before .before .before .before .loop .inv) (c .before .before .before .before .before .before .before .before .before .before .record-at .ensures) (c .before .before .before .before .before .before .before .before .before .before .before .before .if2 .left) _ (c .before .before .before .before .before .before .before .before .before .before .before .begin-at .ensures) (g .last .0) (g .result) (g .kept .0) (c .ends-capture .result) (c .before .before .before .before .before .before .kind3 .given .1) (c .ends-capture .ensures) (g .ensures)
+    let n = sym (ap isTermRef (c .before .before .before .before .before .before .kind3 .given .1)) ∙ sym (c .before .before .before .before .before .before .before .before .before .is-term-ref .ensures) ∙ c .before .before .before .before .before .before .before .before .if3 .left in
+    on-ended (here (c .before .before .before .before .before .before .before .before .before .before)) (g .last .0) (g .result) (g .kept .0) (c .ends-capture .result) (c .before .before .before .before .before .before .kind3 .given .1) n (c .ends-capture .ensures)
+    (g .ensures)
 
 loop-again-5 : tie.Need-loop-again-5 Inv-loop μ-loop
-loop-again-5 c = on-unknown (c .before .before .before .before .before .before .before .before .before .loop .inv) (c .before .before .before .before .record-at .ensures) (c .before .before .before .before .before .before .if2 .left) _ (c .before .before .before .before .before .begin-at .ensures) (c .enum-told .given .1)
+loop-again-5 c = on-unknown (here (c .before .before .before .before)) (c .enum-told .given .1)
 
 pub walk-spec : {M : Type 1} → statement M
 walk-spec =
@@ -147,7 +168,7 @@ walk-spec =
     part-put-text-end
     (λ c κs. search needs)
     (λ c. search needs)
-    started-requires
+    (λ c κs. search needs)
     (λ c κs. search needs)
     (λ c. search needs)
     ended-requires

@@ -6,7 +6,7 @@ use Rattle.markdown.proofs.rendered.Tie as tie
 use Rattle.base.specs.Choice.{if_then_else_}
 use Rattle.utf8.specs.Utf8.{bytes, encode}
 use Rattle.document.proofs.Walks.{verdict-gives, verdict-refused}
-use Rattle.markdown.specs.Parts.{tags}
+use Rattle.markdown_marks.specs.Parts.{tags}
 use Rattle.markdown.proofs.Whole.{markdown-refused, markdown-accepted}
 
 walk-requires : tie.Need-walk-requires
@@ -17,7 +17,11 @@ returns : tie.Need-returns
 returns c = (markdown-refused _ _ _ _ _ (verdict-refused [] (c .before .before .before .check .ensures) (c .before .verdict .given .1)), tt)
 
 returns-2 : tie.Need-returns-2
-returns-2 c = (markdown-accepted _ _ _ _ (verdict-gives [] (c .before .before .before .before .before .before .before .check .ensures) (c .before .before .before .before .before .enum-told .given .1)) (c .before .before .walk .ensures .0), c .before .before .walk .ensures .1)
+returns-2 c = (
+  markdown-accepted _ _ _ _ (verdict-gives [] (c .before .before .before .before .before .before .before .check .ensures)
+      (c .before .before .before .before .before .enum-told .given .1)) (c .before .before .walk .ensures .0),
+  c .before .before .walk .ensures .1,
+)
 
 pub rendered-spec : {M : Type 1} → statement M
 rendered-spec =

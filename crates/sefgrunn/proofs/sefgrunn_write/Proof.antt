@@ -3,7 +3,7 @@ use borrow.Author.Needs.{needs}
 use denote.Ref.{now}
 use Rattle.sefgrunn.proofs.sefgrunn_write.Statement.{statement}
 use Rattle.sefgrunn.proofs.sefgrunn_write.Tie as tie
-use Rattle.document.specs.declared.Style.{Style}
+use Rattle.records.specs.declared.Style.{Style}
 use Rattle.buffer.specs.Builder.{writes}
 use Rattle.sefgrunn.proofs.Numbers.{built-number, says-same, says-out, style-in, style-start, style-end, style-unknown}
 

@@ -5,7 +5,9 @@ use Rattle.splitter.proofs.later.Tie as tie
 use Rattle.splitter.proofs.Answers.{later-tick}
 
 returns : tie.Need-returns
-returns c = later-tick (now (c .before .before .before .before .args .body)) (c .before .before .before .before .args .at) (c .ticked .result) _ (c .before .starts-with .ensures) (c .ticked .ensures)
+returns c =
+    let a = c .before .before .before .before .args in
+    later-tick (now (a .body)) (a .at) (c .ticked .result) _ (c .before .starts-with .ensures) (c .ticked .ensures)
 
 pub later-spec : {M : Type 1} → statement M
 later-spec =

@@ -1,3 +1,4 @@
+-- The loop's invariant: the line that ends where that from `i` on ends is the one from `at` on. What is left of the body falls.
 use mathlib.Core.Path.{_≡_, refl, ap}
 use Prim.Native.Nat.{_+_, _-_}
 use native.Mathlib.Omega.{arith}
@@ -20,13 +21,24 @@ loop-holds : tie.Need-loop-holds Inv-loop μ-loop
 loop-holds c = refl
 
 returns : tie.Need-returns Inv-loop μ-loop
-returns c = let e = ap length (before-stop isLineEnd (now (c .before .before .before .before .args .body)) (c .before .before .before .loop .i) (c .before .before .loop-test .taken) (eq-eqb _ _ (c .if1 .taken))) in omega (arith, c .before .before .before .loop .inv)
+returns c =
+    let t = c .before .before in
+    let l = t .before .loop in
+    let e = ap length (before-stop isLineEnd (now (t .before .before .args .body)) (l .i) (t .loop-test .taken) (eq-eqb _ _ (c .if1 .taken))) in
+    omega (arith, l .inv)
 
 loop-again : tie.Need-loop-again Inv-loop μ-loop
-loop-again c = let e = ap length (before-go isLineEnd (now (c .before .before .before .before .args .body)) (c .before .before .before .loop .i) (c .before .before .loop-test .taken) (ne-eqb _ _ (c .if1 .left))) in omega (arith, c .before .before .before .loop .inv)
+loop-again c =
+    let t = c .before .before in
+    let l = t .before .loop in
+    let e = ap length (before-go isLineEnd (now (t .before .before .args .body)) (l .i) (t .loop-test .taken) (ne-eqb _ _ (c .if1 .left))) in
+    omega (arith, l .inv)
 
 returns-2 : tie.Need-returns-2 Inv-loop μ-loop
-returns-2 c = let e = ap length (before-none isLineEnd (now (c .before .before .args .body)) (c .before .loop .i) (c .loop-test .left)) in omega (arith, c .before .loop .inv)
+returns-2 c =
+    let l = c .before .loop in
+    let e = ap length (before-none isLineEnd (now (c .before .before .args .body)) (l .i) (c .loop-test .left)) in
+    omega (arith, l .inv)
 
 pub line-end-spec : {M : Type 1} → statement M
 line-end-spec =

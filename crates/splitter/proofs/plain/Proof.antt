@@ -2,25 +2,68 @@ use borrow.Author.Needs.{needs}
 use denote.Ref.{now}
 use Rattle.splitter.proofs.plain.Statement.{statement}
 use Rattle.splitter.proofs.plain.Tie as tie
-use Rattle.splitter.proofs.Answers.{gave, plain-line, plain-space, plain-word}
+use Rattle.splitter.proofs.Answers.{gave, input-short, line-follows, after-line, after-one-space, a-word}
+
+after-line-end-requires : tie.Need-after-line-end-requires
+after-line-end-requires c κs =
+    let s = c .before .before .before .before .before in
+    let i = c .before .before .before .rest in
+    let p = c .before .strip-prefix in
+    line-follows (now (s .args .body)) (s .args .at) (s .pre) (now (i .result)) (i .ensures) (now (p .result)) (p .ensures) (c .if1 .taken)
 
 returns : tie.Need-returns
-returns c = plain-line (now (c .before .before .before .before .args .body)) (c .before .before .before .before .args .at) (c .before .before .before .before .pre) (c .after-line-end .result) (c .before .if1 .taken) (c .after-line-end .ensures)
+returns c =
+    let t = c .before in
+    let s = t .before .before .before .before .before in
+    let i = t .before .before .before .rest in
+    let p = t .before .strip-prefix in
+    after-line (now (s .args .body)) (s .args .at) (s .pre) (now (i .result)) (i .ensures) (now (p .result)) (c .after-line-end .result)
+    (p .ensures) (t .if1 .taken) (c .after-line-end .ensures)
+
+sub-found : tie.Need-sub-found
+sub-found c =
+    let l = c .before .before .before in
+    let s = l .before .before .before .before .before in
+    let i = l .before .before .before .rest in
+    input-short (now (s .args .body)) (s .args .at) (s .pre) (now (i .result)) (i .ensures) (now (c .before .strip-prefix2 .result)) (c .if2 .taken)
 
 returns-2 : tie.Need-returns-2
-returns-2 c = gave (c .found .ensures) (plain-space (now (c .before .before .before .before .before .args .body)) (c .before .before .before .before .before .args .at) (c .before .before .before .before .before .pre) (c .before .before .if1 .left) (c .before .if2 .taken))
+returns-2 c =
+    let t = c .before in
+    let l = t .before .before .before in
+    let s = l .before .before .before .before .before in
+    let i = l .before .before .before .rest in
+    let p = l .before .strip-prefix in
+    let q = t .before .strip-prefix2 in
+    gave (c .found .ensures)
+    (after-one-space (now (s .args .body)) (s .args .at) (s .pre) (now (i .result)) (i .ensures) (now (p .result)) (p .ensures) (l .if1 .left)
+    (now (q .result)) (q .ensures) (t .if2 .taken))
 
 returns-3 : tie.Need-returns-3
-returns-3 c = gave (c .found2 .ensures) (plain-word (now (c .before .before .before .before .before .before .args .body)) (c .before .before .before .before .before .before .args .at) (c .before .before .before .before .before .before .pre) (c .before .before .before .if1 .left) (c .before .word-end .result) (c .before .before .if2 .left) (c .before .word-end .ensures))
+returns-3 c =
+    let t = c .before .before in
+    let l = t .before .before .before in
+    let s = l .before .before .before .before .before in
+    let i = l .before .before .before .rest in
+    let p = l .before .strip-prefix in
+    let q = t .before .strip-prefix2 in
+    let w = c .before .word-end in
+    gave (c .found2 .ensures)
+    (a-word (now (s .args .body)) (s .args .at) (s .pre) (now (i .result)) (i .ensures) (now (p .result)) (p .ensures) (l .if1 .left)
+    (now (q .result)) (w .result) (q .ensures) (t .if2 .left) (w .ensures))
 
 pub plain-spec : {M : Type 1} → statement M
 plain-spec =
     tie.close
     (tie.spec
+    (λ c κs. search needs)
     (λ c. search needs)
     (λ c κs. search needs)
+    after-line-end-requires
     returns
     (λ c. search needs)
+    (λ c κs. search needs)
+    sub-found
     (λ c κs. search needs)
     returns-2
     (λ c κs. search needs)

@@ -6,7 +6,9 @@ use Rattle.splitter.proofs.text_of.Tie as tie
 use Rattle.splitter.proofs.Answers.{text-raw}
 
 returns : tie.Need-returns
-returns c = c .part .ensures ∙ text-raw (now (c .before .before .before .before .before .args .body)) _ _ _ (c .before .before .before .before .before .args .p) (c .before .before .p .given .1)
+returns c =
+    let a = c .before .before .before .before .before .args in
+    c .part .ensures ∙ text-raw (now (a .body)) _ _ _ (a .p) (c .before .before .p .given .1)
 
 pub text-of-spec : {M : Type 1} → statement M
 text-of-spec =

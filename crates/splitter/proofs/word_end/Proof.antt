@@ -1,3 +1,5 @@
+-- The loop's invariant: what was read and counted up to `to`, with what is still to come, is the word from `at` on. What is left of the body
+-- falls.
 use mathlib.Core.Logic.{⊎-elim}
 use Prim.Native.Nat.{_-_}
 use native.Mathlib.Omega.{arith}
@@ -19,19 +21,37 @@ loop-holds : tie.Need-loop-holds Inv-loop μ-loop
 loop-holds c = reading-start _ _
 
 returns : tie.Need-returns Inv-loop μ-loop
-returns c = reading-stop (now (c .before .before .before .before .args .body)) (c .before .before .before .before .args .at) (c .before .before .before .loop .to) (c .before .before .before .loop .width) (c .before .before .before .loop .inv) (c .before .before .loop-test .taken) (space-ends _ (c .if1 .taken))
+returns c =
+    let t = c .before .before in
+    let a = t .before .before .args in
+    let l = t .before .loop in
+    reading-stop (now (a .body)) (a .at) (l .to) (l .width) (l .inv) (t .loop-test .taken) (space-ends _ (c .if1 .taken))
 
 returns-2 : tie.Need-returns-2 Inv-loop μ-loop
-returns-2 c = reading-stop (now (c .before .before .before .before .before .args .body)) (c .before .before .before .before .before .args .at) (c .before .before .before .before .loop .to) (c .before .before .before .before .loop .width) (c .before .before .before .before .loop .inv) (c .before .before .before .loop-test .taken) (line-ends _ (c .if2 .taken))
+returns-2 c =
+    let t = c .before .before .before in
+    let a = t .before .before .args in
+    let l = t .before .loop in
+    reading-stop (now (a .body)) (a .at) (l .to) (l .width) (l .inv) (t .loop-test .taken) (line-ends _ (c .if2 .taken))
 
 add-width : tie.Need-add-width Inv-loop μ-loop
 add-width c = omega (arith, c .before .before .before .before .before .loop .inv .few)
 
 loop-again : tie.Need-loop-again Inv-loop μ-loop
-loop-again c = ⊎-elim (λ w. reading-one (now (c .before .before .before .before .before .before .args .body)) (c .before .before .before .before .before .before .args .at) (c .before .before .before .before .before .loop .to) (c .before .before .before .before .before .loop .width) (c .before .before .before .before .before .loop .inv) (c .before .before .before .before .loop-test .taken) (neither-ends _ (c .before .if2 .left) (c .before .before .if1 .left)) _ (w .1) (w .0 .taken)) (λ w. reading-none (now (c .before .before .before .before .before .before .args .body)) (c .before .before .before .before .before .before .args .at) (c .before .before .before .before .before .loop .to) (c .before .before .before .before .before .loop .width) (c .before .before .before .before .before .loop .inv) (c .before .before .before .before .loop-test .taken) (neither-ends _ (c .before .if2 .left) (c .before .before .if1 .left)) _ (w .1) (w .0 .left)) (c .if3 .came)
+loop-again c =
+    let t = c .before .before .before .before in
+    let s = now (t .before .before .args .body) in
+    let at = t .before .before .args .at in
+    let l = t .before .loop in
+    let n = neither-ends _ (c .before .if2 .left) (c .before .before .if1 .left) in
+    ⊎-elim (λ w. reading-one s at (l .to) (l .width) (l .inv) (t .loop-test .taken) n _ (w .1) (w .0 .taken))
+    (λ w. reading-none s at (l .to) (l .width) (l .inv) (t .loop-test .taken) n _ (w .1) (w .0 .left)) (c .if3 .came)
 
 returns-3 : tie.Need-returns-3 Inv-loop μ-loop
-returns-3 c = reading-end (now (c .before .before .args .body)) (c .before .before .args .at) (c .before .loop .to) (c .before .loop .width) (c .before .loop .inv) (c .loop-test .left)
+returns-3 c =
+    let a = c .before .before .args in
+    let l = c .before .loop in
+    reading-end (now (a .body)) (a .at) (l .to) (l .width) (l .inv) (c .loop-test .left)
 
 pub word-end-spec : {M : Type 1} → statement M
 word-end-spec =

@@ -4,13 +4,15 @@ use mathlib.Core.Logic.{⊎-elim}
 use Prim.Native.Nat.{_+_, _-_, _≤_, _<_}
 use native.Mathlib.Omega.{arith}
 use borrow.Author.Needs.{needs}
+use borrow.Author.Tests.{not-true, not-false}
 use denote.Ref.{now}
 use lib.ListN.{length, getD}
-use Rattle.splitter.specs.Split.{isLineEndOrSpace}
 use Rattle.words.proofs.copy_word.Statement.{statement}
 use Rattle.words.proofs.copy_word.Tie as tie
+use Rattle.splitter.specs.Split.{isLineEndOrSpace}
 use Rattle.words.proofs.Copying.{Copying, above-space, copying-start, copied-none, copied-stop, copied-end, copying-one, copying-more}
 
+-- The word is read up to `to` and copied as far; what is left of the body falls.
 abbrev Inv-loop : tie.InvT-loop
 Inv-loop room₀ len body at to₀ width₀ limit room to width = Copying body at len room₀ room to width
 
@@ -21,7 +23,7 @@ loop-holds : tie.Need-loop-holds Inv-loop μ-loop
 loop-holds c = let a = c .before .before .before .args in copying-start (now (a .body)) (a .at) (a .len) (now (a .room)) (c .before .before .before .pre .0) (c .before .before .before .pre .1)
 
 shared-slice-read-x : tie.Need-shared-slice-read-x Inv-loop μ-loop
-shared-slice-read-x c = omega (arith, c .before .loop-test .taken, c .before .before .before .last-place .ensures .1)
+shared-slice-read-x c = omega (arith, c .before .loop-test .taken, c .before .before .before .min .ensures)
 
 same-length : tie.Need-same-length Inv-loop μ-loop
 same-length c = c .before .before .before .before .before .loop .inv .size
@@ -30,7 +32,8 @@ returns : tie.Need-returns Inv-loop μ-loop
 returns c =
     let a = c .before .before .before .before .before .before .before .before .before .args in
     let l = c .before .before .before .before .before .loop in
-    copied-stop (now (a .body)) (a .at) (a .len) (now (a .room)) (l .room) (l .to) (l .width) (l .inv) (omega (arith, c .before .before .before .before .loop-test .taken, c .before .before .before .before .before .before .last-place .ensures .1)) (sym (c .before .ends-word .ensures) ∙ c .if2 .taken)
+    let h : l .to < length (now (a .body)) = omega (arith, c .before .before .before .before .loop-test .taken, c .before .before .before .before .before .before .min .ensures) in
+    copied-stop (now (a .body)) (a .at) (a .len) (now (a .room)) (l .room) (l .to) (l .width) (l .inv) (c .before .before .before .before .before .before .before .before .before .pre .2) h (sym (c .before .ends-word .ensures) ∙ c .if2 .taken)
 
 sub-room : tie.Need-sub-room Inv-loop μ-loop
 sub-room c = c .before .before .before .loop .inv .order
@@ -38,47 +41,59 @@ sub-room c = c .before .before .before .loop .inv .order
 add-room : tie.Need-add-room Inv-loop μ-loop
 add-room c =
     let l = c .before .before .before .loop in
-    let f : c .before .before .before .before .before .before .before .args .len + (l .to - c .before .before .before .before .before .before .before .args .at) ≤ length (now (c .before .before .before .before .before .before .before .args .room)) = omega (arith, l .inv .size, c .before .before .loop-test .taken, c .before .before .before .before .last-place .ensures .2, l .inv .order, c .before .before .before .before .before .before .before .pre .0) in
+    let a = c .before .before .before .before .before .before .before .args in
+    let f : a .len + (l .to - a .at) ≤ length (now (a .room)) = omega (arith, l .inv .size, c .before .before .loop-test .taken, c .before .before .before .before .min .ensures, l .inv .order, c .before .before .before .before .before .before .before .pre .0) in
     search needs
 
 slice-write-room : tie.Need-slice-write-room Inv-loop μ-loop
-slice-write-room c = let i = c .before .before .before .loop .inv in omega (arith, i .size, c .before .before .loop-test .taken, c .before .before .before .before .last-place .ensures .2, i .order, c .before .before .before .before .before .before .before .pre .0)
+slice-write-room c = let i = c .before .before .before .loop .inv in omega (arith, i .size, c .before .before .loop-test .taken, c .before .before .before .before .min .ensures, i .order, c .before .before .before .before .before .before .before .pre .0)
 
 add-width : tie.Need-add-width Inv-loop μ-loop
-add-width c = let i = c .before .before .before .before .loop .inv in omega (arith, i .narrow)
+add-width c = omega (arith, c .before .before .before .before .loop .inv .narrow)
 
 loop-less : tie.Need-loop-less Inv-loop μ-loop
-loop-less c = omega (arith, c .before .before .before .loop-test .taken, c .before .before .before .before .before .last-place .ensures .1)
+loop-less c = omega (arith, c .before .before .before .loop-test .taken, c .before .before .before .before .before .min .ensures)
 
 loop-again : tie.Need-loop-again Inv-loop μ-loop
 loop-again c =
     let a = c .before .before .before .before .before .before .before .before .args in
     let l = c .before .before .before .before .loop in
-    let near : l .to < length (now (a .body)) = omega (arith, c .before .before .before .loop-test .taken, c .before .before .before .before .before .last-place .ensures .1) in
-    let left : l .to - a .at < length (l .room) - a .len = omega (arith, l .inv .size, c .before .before .before .loop-test .taken, c .before .before .before .before .before .last-place .ensures .2, l .inv .order, c .before .before .before .before .before .before .before .before .pre .0) in
-    let stop : isLineEndOrSpace (getD (now (a .body)) (l .to) 0) ≡ false = ⊎-elim (λ w. sym (w .1 .ensures) ∙ w .2 .left) (λ w. above-space _ (w .left)) (c .before .if1 .came) in
+    let x = now (a .body) in
+    let near : l .to < length x = omega (arith, c .before .before .before .loop-test .taken, c .before .before .before .before .before .min .ensures) in
+    let left : l .to - a .at < length (l .room) - a .len = omega (arith, l .inv .size, c .before .before .before .loop-test .taken, c .before .before .before .before .before .min .ensures, l .inv .order, c .before .before .before .before .before .before .before .before .pre .0) in
+    let stop : isLineEndOrSpace (getD x (l .to) 0) ≡ false = ⊎-elim (λ w. sym (w .1 .ensures) ∙ w .2 .left) (λ w. above-space _ (w .left)) (c .before .if1 .came) in
     ⊎-elim
-    (λ w. copying-one (now (a .body)) (a .at) (a .len) (now (a .room)) (l .room) (l .to) (l .width) (l .inv) near left _ (w .1) stop (w .0 .taken))
-    (λ w. copying-more (now (a .body)) (a .at) (a .len) (now (a .room)) (l .room) (l .to) (l .width) (l .inv) near left _ (w .1) stop (w .0 .left))
+    (λ w. copying-one x (a .at) (a .len) (now (a .room)) (l .room) (l .to) (l .width) (l .inv) near left _ (w .1) stop (w .0 .taken))
+    (λ w. copying-more x (a .at) (a .len) (now (a .room)) (l .room) (l .to) (l .width) (l .inv) near left _ (w .1) stop (w .0 .left))
     (c .if3 .came)
 
 same-length-2 : tie.Need-same-length-2 Inv-loop μ-loop
-same-length-2 c = c .before .before .loop .inv .size
+same-length-2 c = c .before .before .before .before .before .loop .inv .size
 
 returns-2 : tie.Need-returns-2 Inv-loop μ-loop
 returns-2 c =
-    let a = c .before .before .before .before .before .before .args in
-    let l = c .before .before .loop in
-    copied-none (now (a .body)) (a .at) (a .len) (now (a .room)) (l .room) (l .to) (l .width) (l .inv)
+    let a = c .before .before .before .before .before .before .before .before .before .args in
+    let l = c .before .before .before .before .before .loop in
+    let f : length (now (a .room)) ≤ a .len + (l .to - a .at) = omega (arith, c .before .before .before .before .loop-test .left, c .before .before .before .before .before .before .min .ensures, l .inv .order, c .before .before .before .before .before .before .before .before .before .pre .0, c .before .before .before .if4 .taken) in
+    copied-none (now (a .body)) (a .at) (a .len) (now (a .room)) (l .room) (l .to) (l .width) (l .inv) (c .before .before .before .before .before .before .before .before .before .pre .2) (c .before .before .before .if4 .taken) (sym (c .before .ends-word2 .ensures) ∙ not-true _ (c .if5 .taken)) f
 
 same-length-3 : tie.Need-same-length-3 Inv-loop μ-loop
-same-length-3 c = c .before .before .loop .inv .size
+same-length-3 c = c .before .before .before .before .before .loop .inv .size
 
 returns-3 : tie.Need-returns-3 Inv-loop μ-loop
 returns-3 c =
+    let a = c .before .before .before .before .before .before .before .before .before .args in
+    let l = c .before .before .before .before .before .loop in
+    copied-stop (now (a .body)) (a .at) (a .len) (now (a .room)) (l .room) (l .to) (l .width) (l .inv) (c .before .before .before .before .before .before .before .before .before .pre .2) (c .before .before .before .if4 .taken) (sym (c .before .ends-word2 .ensures) ∙ not-false _ (c .if5 .left))
+
+same-length-4 : tie.Need-same-length-4 Inv-loop μ-loop
+same-length-4 c = c .before .before .loop .inv .size
+
+returns-4 : tie.Need-returns-4 Inv-loop μ-loop
+returns-4 c =
     let a = c .before .before .before .before .before .before .args in
     let l = c .before .before .loop in
-    copied-end (now (a .body)) (a .at) (a .len) (now (a .room)) (l .room) (l .to) (l .width) (l .inv) (c .if4 .left)
+    copied-end (now (a .body)) (a .at) (a .len) (now (a .room)) (l .room) (l .to) (l .width) (l .inv) (c .before .before .before .before .before .before .pre .2) (c .if4 .left)
 
 pub copy-word-spec : {M : Type 1} → statement M
 copy-word-spec =
@@ -86,6 +101,7 @@ copy-word-spec =
     (tie.spec
     Inv-loop
     μ-loop
+    (λ c. search needs)
     (λ c. search needs)
     (λ c κs. search needs)
     loop-holds
@@ -100,7 +116,11 @@ copy-word-spec =
     (λ c. search needs)
     loop-less
     loop-again
+    (λ c. search needs)
+    (λ c κs. search needs)
     same-length-2
     returns-2
     same-length-3
-    returns-3)
+    returns-3
+    same-length-4
+    returns-4)

@@ -1,8 +1,8 @@
 -- `Skip::push` meets its contract: it is `*self = self.pushed();`, so `InPlace.antt`'s law takes `pushed`'s theorem to it.
 -- Assumes nothing.
 use Rattle.proof_kit.proofs.Kit.{ℕ, givenOf, tables, tablesOf, tripleOf, entered, cited}
-use Rattle.document.specs.declared.Block.the-variants.{InlineBlock}
-use Rattle.walk.specs.Walk.{skipStart}
+use Rattle.records.specs.declared.Block.the-variants.{InlineBlock}
+use Rattle.skip.specs.Counter.{skipStart}
 use Rattle.skip.specs.Answers.{held}
 use Rattle.skip.proofs.InPlace.{Callee, replaces}
 use Rattle.skip.proofs.Skip.pushed.Symbol as callee-def

@@ -1,0 +1,4 @@
+pub mod Nesting
+pub mod Adding
+pub mod Titles
+pub mod Laws

@@ -1,0 +1,51 @@
+use mathlib.Core.Path.{sym, ap, ap₂, _∙_}
+use mathlib.Core.List.{List}
+use Prim.Native.Nat.{ℕ, _+_}
+use native.Mathlib.Omega.{arith}
+use borrow.Author.Needs.{needs}
+use denote.Ref.{now}
+use lib.ListN.{length}
+use Rattle.splitter.specs.Split.{raw}
+use Rattle.splitter.specs.Answers.{chunkOf}
+use Rattle.console.proofs.put_piece.Statement.{statement}
+use Rattle.console.proofs.put_piece.Tie as tie
+use Rattle.console_rules.specs.Console.{measureOf}
+use Rattle.console_chunks.proofs.Chunks.{near-same, near-on}
+use Rattle.console_chunks.proofs.Bodies.{chunk-raw, piece-raw, piece-narrow}
+
+returns : tie.Need-returns
+returns c =
+    let a = c .before .before .before .before .before .before .before .before .before .before .before .args in
+    let q = c .before .before .before .before .before .before .before .before .before .before .before .pre in
+    let g = c .before .before .place-chunk in
+    let w = c .before .before .before .width-of .ensures in
+    let narrow = piece-narrow (now (a .body)) (a .piece) (q .3) in
+    let is = piece-raw (now (a .body)) (a .piece) (sym (c .before .before .before .before .before .before .before .before .is-text .ensures) ∙ c .before .before .before .before .before .before .before .if1 .taken) in (
+      (λ kept.
+          chunk-raw (measureOf (a .set)) (a .set) (length (now (a .room))) (a .margin .0) (a .at) _ _ (chunkOf (now (a .body)) (a .piece)) _ _
+          (is ∙ ap₂ (λ (x : List ℕ) (w : ℕ). raw x w) (sym (c .before .before .before .before .text-or .ensures)) (sym w)) (g .ensures .0 (omega (arith, q .0, q .1, q .2, w, narrow)) kept)),
+      near-on 0 _ (a .margin .0 + 1_032_771) (a .m .lay) (a .m .lay) (g .result) (omega (arith, w, narrow, q .2)) (near-same 0 (a .m .lay)) (g .ensures .1),
+    )
+
+returns-2 : tie.Need-returns-2
+returns-2 c =
+    let a = c .before .before .before .before .before .before .before .before .args in
+    let g = c .before .before .put-break in (
+      (λ kept. g .ensures .0 (sym (c .before .before .before .before .before .is-text .ensures) ∙ c .before .before .before .before .if1 .left) (now (a .body)) (a .margin .0) (a .at) kept),
+      near-on 0 0 (a .margin .0 + 1_032_771) (a .m .lay) (a .m .lay) (g .result) (omega arith) (near-same 0 (a .m .lay)) (g .ensures .1),
+    )
+
+pub put-piece-spec : {M : Type 1} → statement M
+put-piece-spec =
+    tie.close
+    (tie.spec
+    (λ c κs. search needs)
+    (λ c. search needs)
+    (λ c κs. search needs)
+    (λ c κs. search needs)
+    (λ c κs. search needs)
+    (λ c. search needs)
+    returns
+    (λ c κs. search needs)
+    (λ c. search needs)
+    returns-2)

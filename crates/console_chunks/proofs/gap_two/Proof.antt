@@ -1,0 +1,63 @@
+use mathlib.Core.Path.{sym, _∙_}
+use Prim.Native.Nat.{_+_, _-_}
+use native.Mathlib.Omega.{arith}
+use borrow.Author.Needs.{needs}
+use denote.Ref.{now}
+use lib.ListN.{length, replicate}
+use Rattle.console_chunks.proofs.gap_two.Statement.{statement}
+use Rattle.console_chunks.proofs.gap_two.Tie as tie
+use Rattle.console_rules.specs.Console.{column, gap2}
+use Rattle.console_chunks.proofs.Pages.{wrote, agree, idle}
+use Rattle.console_chunks.proofs.Chunks.{gap-no, gap-near, gap-wide, gap-due, near-same, near-column}
+
+returns : tie.Need-returns
+returns c =
+    let a = c .before .before .before .before .before .before .before .before .before .before .before .before .before .args in
+    let n = length (now (a .room)) in
+    let e = c .at-column .ensures in
+    let p = c .before .plus .ensures in (
+      (λ fits kept.
+          wrote (now (a .room)) _ (a .m .len .0) _ kept (a .m .lay) _ (replicate (2 - a .padded .0) 0x20) n
+          (λ l. column (l .column .0 + (2 - a .padded .0)) l) (rw (p .0 (omega arith)) at e) (c .before .before .before .before .put-spaces .ensures)
+          ∙ agree (now (a .room)) (a .m .len .0) kept (a .m .lay) _ (gap2 n (a .padded .0))
+          (λ h. sym (gap-due n _ (a .padded .0) (c .before .before .before .before .before .before .before .before .before .before .if1 .taken) (c .before .before .before .before .before .before .before .before .before .if2 .taken) (c .before .before .before .before .before .before .before .if3 .taken)))),
+      near-column 2 _ (a .m .lay) _ e (omega (arith, p .1)),
+    )
+
+returns-2 : tie.Need-returns-2
+returns-2 c =
+    let a = c .before .before .before .before .before .before .args in
+    let n = length (now (a .room)) in (
+      (λ fits kept. idle (now (a .room)) (a .m .len .0) kept (a .m .lay) (gap2 n (a .padded .0)) (λ h. gap-wide n _ (a .padded .0) (c .if3 .left))),
+      near-same 2 (a .m .lay),
+    )
+
+returns-3 : tie.Need-returns-3
+returns-3 c =
+    let a = c .before .before .before .before .args in
+    let n = length (now (a .room)) in (
+      (λ fits kept. idle (now (a .room)) (a .m .len .0) kept (a .m .lay) (gap2 n (a .padded .0)) (λ h. gap-near n _ (a .padded .0) (c .if2 .left))),
+      near-same 2 (a .m .lay),
+    )
+
+returns-4 : tie.Need-returns-4
+returns-4 c =
+    let a = c .before .before .before .args in
+    let n = length (now (a .room)) in (
+      (λ fits kept. idle (now (a .room)) (a .m .len .0) kept (a .m .lay) (gap2 n (a .padded .0)) (λ h. gap-no n _ (a .padded .0) (c .if1 .left))),
+      near-same 2 (a .m .lay),
+    )
+
+pub gap-two-spec : {M : Type 1} → statement M
+gap-two-spec =
+    tie.close
+    (tie.spec
+    (λ c. search needs)
+    (λ c κs. search needs)
+    (λ c κs. search needs)
+    (λ c κs. search needs)
+    (λ c. search needs)
+    returns
+    returns-2
+    returns-3
+    returns-4)

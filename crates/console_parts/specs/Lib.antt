@@ -1,4 +1,0 @@
-pub mod Shown
-pub mod Blocks
-pub mod Counted
-pub mod Pieces

@@ -1,0 +1,18 @@
+use mathlib.Core.Path.{ap, _∙_}
+use Prim.Native.Nat.{_-_}
+use borrow.Author.Needs.{needs}
+use Rattle.markdown_marks.proofs.after_end.Statement.{statement}
+use Rattle.markdown_marks.proofs.after_end.Tie as tie
+use Rattle.html_rules.specs.Markdown.{endLay}
+use Rattle.html_rules.specs.declared.Markdown.{Markdown}
+
+returns : tie.Need-returns
+returns c = c .end-lay .ensures ∙ ap (λ (x : Markdown). endLay (c .before .before .args .b) x) (c .before .styled .ensures)
+
+pub after-end-spec : {M : Type 1} → statement M
+after-end-spec =
+    tie.close
+    (tie.spec
+    (λ c κs. search needs)
+    (λ c κs. search needs)
+    returns)

@@ -1,0 +1,36 @@
+-- 01, 'Refused documents': the number and the place of each refusal.
+use Prim.Native.Nat.{ℕ}
+use Rattle.refusal.specs.declared.Refusal.{Refusal}
+use Rattle.refusal.specs.declared.Refusal.the-variants as refusal
+
+-- the table of 'Refused documents': the number of each refusal
+abbrev pub refusalNumber : Refusal → ℕ
+refusalNumber refusal.TooLong = 1
+refusalNumber (refusal.CutShort p) = 2
+refusalNumber (refusal.UnknownKind p) = 3
+refusalNumber (refusal.BlockWithBody p) = 4
+refusalNumber (refusal.NotUtf8 p) = 5
+refusalNumber (refusal.WrongEnd p) = 6
+refusalNumber (refusal.TooDeep p) = 7
+refusalNumber (refusal.LeftOpen p) = 8
+refusalNumber refusal.TooWide = 9
+refusalNumber (refusal.BeyondMargin p) = 10
+refusalNumber (refusal.NoForm p) = 11
+refusalNumber (refusal.HeadingNotAscii p) = 12
+refusalNumber refusal.NoRoom = 13
+
+-- the place that it carries; '0 for 1, 9 and 13', which carry none. What the others carry is said where they are given (`first`, `closed`).
+abbrev pub refusalPlace : Refusal → ℕ
+refusalPlace refusal.TooLong = 0
+refusalPlace (refusal.CutShort p) = p
+refusalPlace (refusal.UnknownKind p) = p
+refusalPlace (refusal.BlockWithBody p) = p
+refusalPlace (refusal.NotUtf8 p) = p
+refusalPlace (refusal.WrongEnd p) = p
+refusalPlace (refusal.TooDeep p) = p
+refusalPlace (refusal.LeftOpen p) = p
+refusalPlace refusal.TooWide = 0
+refusalPlace (refusal.BeyondMargin p) = p
+refusalPlace (refusal.NoForm p) = p
+refusalPlace (refusal.HeadingNotAscii p) = p
+refusalPlace refusal.NoRoom = 0

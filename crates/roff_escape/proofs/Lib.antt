@@ -1,0 +1,4 @@
+pub mod Escaping
+pub mod Plain
+pub mod Buffer
+pub mod Composing

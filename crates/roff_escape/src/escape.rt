@@ -1,0 +1,197 @@
+// Escape bytes by roff's rules, into a lent room (src/buffer/manpage/escape.rs).
+ghost use mathlib.Core.Path.{_≡_};
+ghost use lib.ListN.{length};
+ghost use Rattle.base.specs.Result.{_>>=_ as bind};
+ghost use Rattle.room.specs.Room.{seen, extended};
+ghost use Rattle.roff_escape.specs.Escape.{guard, backslash, replaced, specialByte, spacesByte, escapeByte, startsLine, escape, lineStart};
+ghost use Rattle.roff_escape.specs.Parts.{plain, plainHere, Copies};
+
+// Escaping rules.
+pub enum Escape {
+    // a line end first, unless a line starts here already
+    UnescapedAtNewline,
+    // spaces and line ends escaped: arguments of control lines
+    Spaces,
+    // bytes that roff considers special escaped
+    Special,
+    // as Special, and a line end becomes a space
+    SpecialNoNewline,
+    // as it is
+    Unescaped,
+}
+
+// The length of the text so far, and whether a line starts there.
+pub struct Line {
+    pub len: usize,
+    pub fresh: bool,
+}
+
+// A full stop and an apostrophe are guarded at the start of a line.
+fn put_guard(room: &mut [u8], len: usize, start: bool, c: u8) -> usize
+    ensures { λ r. ⌜ seen (now (room .exit)) r ≡ bind (seen (now (room .entry)) len) (extended (length (now (room .entry))) (guard start c)) ⌝ }
+{
+    if !start {
+        return len;
+    }
+    match c {
+        b'.' | b'\'' => room::put_all(room, len, b"\\&"),
+        _ => len,
+    }
+}
+
+fn put_backslash(room: &mut [u8], len: usize, c: u8) -> usize
+    ensures { λ r. ⌜ seen (now (room .exit)) r ≡ bind (seen (now (room .entry)) len) (extended (length (now (room .entry))) (backslash c)) ⌝ }
+{
+    match c {
+        b'\\' | b'-' => room::put(room, len, b'\\'),
+        _ => len,
+    }
+}
+
+// An apostrophe becomes APOSTROPHE, and a line end the byte given for it.
+fn put_replaced(room: &mut [u8], len: usize, ends: u8, c: u8) -> usize
+    ensures { λ r. ⌜ seen (now (room .exit)) r ≡ bind (seen (now (room .entry)) len) (extended (length (now (room .entry))) (replaced ends c)) ⌝ }
+{
+    match c {
+        b'\'' => room::put_all(room, len, b"\\*(Aq"),
+        b'\n' => room::put(room, len, ends),
+        _ => room::put(room, len, c),
+    }
+}
+
+// A byte of text.
+fn put_special(room: &mut [u8], len: usize, ends: u8, start: bool, c: u8) -> usize
+    ensures { λ r. ⌜ seen (now (room .exit)) r ≡ bind (seen (now (room .entry)) len) (extended (length (now (room .entry))) (specialByte ends start c)) ⌝ }
+{
+    let guarded = put_guard(room, len, start, c);
+    let marked = put_backslash(room, guarded, c);
+    put_replaced(room, marked, ends, c)
+}
+
+// A byte of a control line's argument.
+fn put_space(room: &mut [u8], len: usize, c: u8) -> usize
+    ensures { λ r. ⌜ seen (now (room .exit)) r ≡ bind (seen (now (room .entry)) len) (extended (length (now (room .entry))) (spacesByte c)) ⌝ }
+{
+    match c {
+        b' ' | b'\n' => room::put_all(room, len, b"\\ "),
+        _ => room::put(room, len, c),
+    }
+}
+
+// A byte in a mode.
+pub fn put_byte(room: &mut [u8], len: usize, mode: Escape, start: bool, c: u8) -> usize
+    ensures { λ r. ⌜ seen (now (room .exit)) r ≡ bind (seen (now (room .entry)) len) (extended (length (now (room .entry))) (escapeByte mode start c)) ⌝ }
+{
+    match mode {
+        Escape::UnescapedAtNewline => room::put(room, len, c),
+        Escape::Spaces => put_space(room, len, c),
+        Escape::Special => put_special(room, len, b'\n', start, c),
+        Escape::SpecialNoNewline => put_special(room, len, b' ', start, c),
+        Escape::Unescaped => room::put(room, len, c),
+    }
+}
+
+// Whether the byte after this one counts as the first of a line.
+pub fn starts_line(mode: Escape, c: u8) -> bool
+    ensures { λ r. ⌜ r ≡ startsLine mode c ⌝ }
+{
+    match mode {
+        Escape::UnescapedAtNewline => c == b'\n',
+        Escape::Spaces => c == b'\n',
+        Escape::Special => c == b'\n',
+        Escape::SpecialNoNewline => false,
+        Escape::Unescaped => c == b'\n',
+    }
+}
+
+// 'for &c in payload.as_bytes()': some bytes in a mode.
+pub fn escape_bytes(room: &mut [u8], len: usize, mode: Escape, start: bool, bytes: &[u8]) -> Line
+    ensures text { λ r. ⌜ seen (now (room .exit)) (r .len) ≡ bind (seen (now (room .entry)) len) (extended (length (now (room .entry))) (escape mode start (now (bytes .entry)))) ⌝ }
+    ensures line { λ r. ⌜ r .fresh ≡ lineStart mode start (now (bytes .entry)) ⌝ }
+{
+    let mut n = len;
+    let mut fresh = start;
+    let mut i: usize = 0;
+    while i < bytes.len() {
+        let c = bytes[i];
+        n = put_byte(room, n, mode, fresh, c);
+        fresh = starts_line(mode, c);
+        i += 1;
+    }
+    Line { len: n, fresh }
+}
+
+// A byte that text leaves as it is, save at the start of a line.
+fn is_plain(c: u8) -> bool
+    ensures { λ r. ⌜ r ≡ plain c ⌝ }
+{
+    match c {
+        b'\n' => false,
+        b'\'' => false,
+        b'-' => false,
+        b'\\' => false,
+        _ => true,
+    }
+}
+
+// Whether plain bytes stay as they are here: in text, and not at the start of a line.
+fn plain_here(mode: Escape, fresh: bool) -> bool
+    ensures { λ r. ⌜ r ≡ plainHere mode fresh ⌝ }
+{
+    if fresh {
+        return false;
+    }
+    match mode {
+        Escape::UnescapedAtNewline => false,
+        Escape::Spaces => false,
+        Escape::Special => true,
+        Escape::SpecialNoNewline => true,
+        Escape::Unescaped => false,
+    }
+}
+
+// Copies the plain bytes from a place on, as many as fit; says where it stopped.
+fn copy_plain(room: &mut [u8], len: usize, bytes: &[u8], at: usize) -> usize
+    ensures { λ r. ⌜ Copies (now (bytes .entry)) at len (now (room .entry)) (now (room .exit)) r ⌝ }
+{
+    let mut i = at;
+    let mut n = len;
+    while i < bytes.len() {
+        let c = bytes[i];
+        if !is_plain(c) {
+            return i;
+        }
+        if room.len() <= n {
+            return i;
+        }
+        room[n] = c;
+        n += 1;
+        i += 1;
+    }
+    i
+}
+
+// Some bytes of text, as `escape_bytes` writes them; most are plain, and those are copied by runs.
+pub fn escape_text(room: &mut [u8], len: usize, mode: Escape, start: bool, bytes: &[u8]) -> Line
+    ensures text { λ r. ⌜ seen (now (room .exit)) (r .len) ≡ bind (seen (now (room .entry)) len) (extended (length (now (room .entry))) (escape mode start (now (bytes .entry)))) ⌝ }
+    ensures line { λ r. ⌜ r .fresh ≡ lineStart mode start (now (bytes .entry)) ⌝ }
+{
+    let mut n = len;
+    let mut fresh = start;
+    let mut i: usize = 0;
+    while i < bytes.len() {
+        if plain_here(mode, fresh) {
+            let k = copy_plain(room, n, bytes, i);
+            n += k - i;
+            i = k;
+            if bytes.len() <= i {
+                return Line { len: n, fresh };
+            }
+        }
+        let c = bytes[i];
+        n = put_byte(room, n, mode, fresh, c);
+        fresh = starts_line(mode, c);
+        i += 1;
+    }
+    Line { len: n, fresh }
+}

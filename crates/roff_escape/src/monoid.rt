@@ -1,0 +1,47 @@
+// The labelled buffer (src/buffer/manpage/monoid.rs). It is not stored: 'roff bytes are written as they arise', so that a piece goes through
+// `escape` as it is pushed. What stands for the buffer is a `Line`: how long the text is, and whether a line starts there.
+ghost use mathlib.Core.Path.{_≡_};
+ghost use mathlib.Core.List.{[], _∷_};
+ghost use lib.ListN.{length};
+ghost use Rattle.base.specs.Result.{_>>=_ as bind};
+ghost use Rattle.room.specs.Room.{seen, extended};
+ghost use Rattle.roff_escape.specs.Escape.{atNewline};
+ghost use Rattle.roff_escape.specs.Monoid.{piece, lineEnd, lineHere, escapeAll, lineAfter};
+use crate::escape::Escape;
+use crate::escape::Line;
+
+fn at_newline(mode: Escape) -> bool
+    ensures { λ r. ⌜ r ≡ atNewline mode ⌝ }
+{
+    match mode {
+        Escape::UnescapedAtNewline => true,
+        Escape::Spaces => false,
+        Escape::Special => false,
+        Escape::SpecialNoNewline => false,
+        Escape::Unescaped => false,
+    }
+}
+
+// A line end before what starts a line of its own.
+fn new_line(room: &mut [u8], at: Line, mode: Escape) -> Line
+    ensures text { λ r. ⌜ seen (now (room .exit)) (r .len) ≡ bind (seen (now (room .entry)) (at .len)) (extended (length (now (room .entry))) (lineEnd mode (at .fresh))) ⌝ }
+    ensures line { λ r. ⌜ r .fresh ≡ lineHere mode (at .fresh) ⌝ }
+{
+    if at.fresh {
+        return at;
+    }
+    if at_newline(mode) {
+        let len = room::put(room, at.len, b'\n');
+        return Line { len, fresh: true };
+    }
+    at
+}
+
+// `FreeMonoid::push_str`, escaped at once.
+pub fn push_str(room: &mut [u8], at: Line, mode: Escape, bytes: &[u8]) -> Line
+    ensures text { λ r. ⌜ seen (now (room .exit)) (r .len) ≡ bind (seen (now (room .entry)) (at .len)) (extended (length (now (room .entry))) (escapeAll (at .fresh) (piece mode (now (bytes .entry)) ∷ []))) ⌝ }
+    ensures line { λ r. ⌜ r .fresh ≡ lineAfter (at .fresh) (piece mode (now (bytes .entry)) ∷ []) ⌝ }
+{
+    let line = new_line(room, at, mode);
+    crate::escape::escape_bytes(room, line.len, mode, line.fresh, bytes)
+}

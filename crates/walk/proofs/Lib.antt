@@ -1,4 +1,0 @@
-pub mod Shown
-pub mod Leads
-pub mod Keeps
-pub mod Clearing
