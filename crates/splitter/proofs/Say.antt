@@ -13,10 +13,10 @@ use Rattle.utf8.specs.Utf8.{continues, rowOf, table}
 use Rattle.white.specs.White.{printing, blank, white, whites}
 use Rattle.utf8.proofs.Text.{Valid}
 use Rattle.white.proofs.White.{valid-left, valid-right, printing-append, blank-valid, blank-printing, blank-join, empty-blank}
-use Rattle.splitter.specs.Split.{Chunk, raw, paragraph, lineBreak, isLineEndOrSpace, Step, step, chunks, split}
+use Rattle.splitter.specs.Split.{Chunk, raw, paragraph, lineBreak, isLineEndOrSpace, Step, step, chunks, chunksOf}
 use Rattle.splitter.specs.declared.Code.{Code}
 use Rattle.splitter.specs.declared.Code.the-variants as code
-use Rattle.splitter.proofs.Steps.{step-moves}
+use Rattle.splitter.proofs.Fits.{step-moves}
 use Rattle.splitter.proofs.Kept.{gaps, Holds, itself, aSpace, aParagraph, aLineBreak, Stops, stop, Accounted, step-accounted}
 
 -- what a chunk prints
@@ -122,6 +122,6 @@ chunks-say (b ∷ s) c zero v =
     let e = drop-less (r .used) b s (step-moves c b s) in
     rw (h .same, e) (more (h .sound) (chunks-say s (r .code) (r .used - 1) (rw e at (h .rest))))
 
-pub split-say : (body : List ℕ) → Valid body → Say (split body) (printing body)
-unfolding split
+pub split-say : (body : List ℕ) → Valid body → Say (chunksOf body) (printing body)
+unfolding chunksOf
 split-say body v = chunks-say body code.No 0 v

@@ -4,8 +4,8 @@ ghost use mathlib.Core.Bool.{false};
 ghost use Prim.Native.Nat.{_+_, _-_, _≤_, _<_};
 ghost use lib.ListN.{length, take, drop};
 ghost use Rattle.splitter.specs.Split.{line, step, stripped, ticked as tickedLine, afterLineEnd};
-ghost use Rattle.splitter.specs.Answers.{cursor, told, firstChunk, textOf, Within};
-ghost use Rattle.splitter.specs.Parts.{Follows, Gives, wordFrom};
+ghost use Rattle.splitter.specs.Answers.{cursor, answer, firstChunk, textOf, Within};
+ghost use Rattle.splitter.specs.Parts.{Follows, wordFrom};
 ghost use Rattle.splitter.specs.declared.Code.the-variants as code;
 ghost use Rattle.splitter.specs.declared.Step.the-variants.{Take};
 
@@ -22,12 +22,13 @@ pub struct Cursor {
     pub code: Code,
 }
 
-// A chunk: a part of the body from a place up to another with its width, one space, a paragraph, a line break.
+// A chunk and where in the body it begins: a part of the body from a place up to another with its width; the space for the line end at a place,
+// a paragraph, a line break.
 pub enum Piece {
     Raw(usize, usize, usize),
-    Space,
-    Paragraph,
-    LineBreak,
+    Space(usize),
+    Paragraph(usize),
+    LineBreak(usize),
 }
 
 // A chunk with the cursor after it, or that there is none.
@@ -97,7 +98,7 @@ fn found(piece: Piece, at: usize, code: Code) -> Step
 // A line in ticks.
 fn ticked(body: &[u8], at: usize, last: bool) -> Step
     requires { ⌜ at < length (now body) ⌝ }
-    ensures { λ r. ⌜ Gives (now (body .entry)) at (tickedLine last (drop at (now (body .entry)))) r ⌝ }
+    ensures { λ r. ⌜ r ≡ answer (now (body .entry)) at (tickedLine last (drop at (now (body .entry)))) ⌝ }
 {
     let to = line_end(body, at);
     let next = to + 1;
@@ -132,7 +133,7 @@ pub fn strip_prefix<'a>(text: &'a [u8], prefix: &[u8]) -> &'a [u8]
 // What the line end at `start` begins; `tail` is what follows it.
 fn after_line_end(body: &[u8], start: usize, tail: &[u8]) -> Step
     requires { ⌜ Follows (now body) start (now tail) ⌝ }
-    ensures { λ r. ⌜ Gives (now (body .entry)) start (afterLineEnd (now (tail .entry))) r ⌝ }
+    ensures { λ r. ⌜ r ≡ answer (now (body .entry)) start (afterLineEnd (now (tail .entry))) ⌝ }
 {
     let at = start + 1;
     let code = strip_prefix(tail, b"    ");
@@ -142,26 +143,26 @@ fn after_line_end(body: &[u8], start: usize, tail: &[u8]) -> Step
         return found(Piece::Raw(from, to, 1_000_000), to, Code::No);
     }
     if base::starts_with(tail, 0, b"\n```") {
-        return found(Piece::Paragraph, at + 1, Code::First);
+        return found(Piece::Paragraph(start), at + 1, Code::First);
     }
     if base::starts_with(tail, 0, b"\n    ") {
-        return found(Piece::Paragraph, at, Code::No);
+        return found(Piece::Paragraph(start), at, Code::No);
     }
     let second = strip_prefix(tail, b"\n");
     if second.len() < tail.len() {
-        return found(Piece::Paragraph, body.len() - second.len(), Code::No);
+        return found(Piece::Paragraph(start), body.len() - second.len(), Code::No);
     }
     let spaced = strip_prefix(tail, b" ");
     if spaced.len() < tail.len() {
-        return found(Piece::LineBreak, body.len() - spaced.len(), Code::No);
+        return found(Piece::LineBreak(start), body.len() - spaced.len(), Code::No);
     }
-    found(Piece::Space, at, Code::No)
+    found(Piece::Space(start), at, Code::No)
 }
 
 // Outside ticks.
 fn plain(body: &[u8], at: usize) -> Step
     requires { ⌜ at < length (now body) ⌝ }
-    ensures { λ r. ⌜ Gives (now (body .entry)) at (step code.No (drop at (now (body .entry)))) r ⌝ }
+    ensures { λ r. ⌜ r ≡ answer (now (body .entry)) at (step code.No (drop at (now (body .entry)))) ⌝ }
 {
     let input = rest(body, at);
     let tail = strip_prefix(input, b"\n");
@@ -170,7 +171,8 @@ fn plain(body: &[u8], at: usize) -> Step
     }
     let spaced = strip_prefix(input, b" ");
     if spaced.len() < input.len() {
-        return found(Piece::Space, body.len() - spaced.len(), Code::No);
+        let to = body.len() - spaced.len();
+        return found(Piece::Raw(at, to, 1), to, Code::No);
     }
     let w = word_end(body, at);
     let to = w.to;
@@ -180,7 +182,7 @@ fn plain(body: &[u8], at: usize) -> Step
 // In ticks, after their first line.
 fn later(body: &[u8], at: usize) -> Step
     requires { ⌜ at < length (now body) ⌝ }
-    ensures { λ r. ⌜ Gives (now (body .entry)) at (step code.Rest (drop at (now (body .entry)))) r ⌝ }
+    ensures { λ r. ⌜ r ≡ answer (now (body .entry)) at (step code.Rest (drop at (now (body .entry)))) ⌝ }
 {
     let last = base::starts_with(body, at, b"```");
     ticked(body, at, last)
@@ -188,7 +190,7 @@ fn later(body: &[u8], at: usize) -> Step
 
 // The first chunk from a cursor on, and the cursor after it.
 pub fn step_at(body: &[u8], c: Cursor) -> Step
-    ensures chunk { λ r. ⌜ told (now (body .entry)) r ≡ firstChunk (now (body .entry)) c ⌝ }
+    ensures chunk { λ r. ⌜ r ≡ firstChunk (now (body .entry)) c ⌝ }
     ensures within { λ r. ⌜ Within (now (body .entry)) c r ⌝ }
 {
     let at = c.at;
@@ -225,8 +227,8 @@ pub fn text_of<'a>(body: &'a [u8], p: Piece) -> &'a [u8]
 {
     match p {
         Piece::Raw(from, to, _) => part(body, from, to),
-        Piece::Space => &body[0..0],
-        Piece::Paragraph => &body[0..0],
-        Piece::LineBreak => &body[0..0],
+        Piece::Space(_) => &body[0..0],
+        Piece::Paragraph(_) => &body[0..0],
+        Piece::LineBreak(_) => &body[0..0],
     }
 }

@@ -1,8 +1,9 @@
+use mathlib.Core.Path.{_∙_}
 use borrow.Author.Needs.{needs}
 use denote.Ref.{now}
 use Rattle.splitter.proofs.plain.Statement.{statement}
 use Rattle.splitter.proofs.plain.Tie as tie
-use Rattle.splitter.proofs.Answers.{gave, input-short, line-follows, after-line, after-one-space, a-word}
+use Rattle.splitter.proofs.Answers.{input-short, line-follows, after-line, a-space, a-word}
 
 after-line-end-requires : tie.Need-after-line-end-requires
 after-line-end-requires c κs =
@@ -17,11 +18,11 @@ returns c =
     let s = t .before .before .before .before .before in
     let i = t .before .before .before .rest in
     let p = t .before .strip-prefix in
-    after-line (now (s .args .body)) (s .args .at) (s .pre) (now (i .result)) (i .ensures) (now (p .result)) (c .after-line-end .result)
-    (p .ensures) (t .if1 .taken) (c .after-line-end .ensures)
+    after-line (now (s .args .body)) (s .args .at) (s .pre) (now (i .result)) (i .ensures) (now (p .result))
+    (p .ensures) (t .if1 .taken) (c .after-line-end .result) (c .after-line-end .ensures)
 
-sub-found : tie.Need-sub-found
-sub-found c =
+sub-to : tie.Need-sub-to
+sub-to c =
     let l = c .before .before .before in
     let s = l .before .before .before .before .before in
     let i = l .before .before .before .rest in
@@ -35,9 +36,9 @@ returns-2 c =
     let i = l .before .before .before .rest in
     let p = l .before .strip-prefix in
     let q = t .before .strip-prefix2 in
-    gave (c .found .ensures)
-    (after-one-space (now (s .args .body)) (s .args .at) (s .pre) (now (i .result)) (i .ensures) (now (p .result)) (p .ensures) (l .if1 .left)
-    (now (q .result)) (q .ensures) (t .if2 .taken))
+    c .found .ensures
+    ∙ a-space (now (s .args .body)) (s .args .at) (s .pre) (now (i .result)) (i .ensures) (now (p .result)) (p .ensures) (l .if1 .left)
+    (now (q .result)) (q .ensures) (t .if2 .taken)
 
 returns-3 : tie.Need-returns-3
 returns-3 c =
@@ -48,9 +49,9 @@ returns-3 c =
     let p = l .before .strip-prefix in
     let q = t .before .strip-prefix2 in
     let w = c .before .word-end in
-    gave (c .found2 .ensures)
-    (a-word (now (s .args .body)) (s .args .at) (s .pre) (now (i .result)) (i .ensures) (now (p .result)) (p .ensures) (l .if1 .left)
-    (now (q .result)) (w .result) (q .ensures) (t .if2 .left) (w .ensures))
+    c .found2 .ensures
+    ∙ a-word (now (s .args .body)) (s .args .at) (s .pre) (now (i .result)) (i .ensures) (now (p .result)) (p .ensures) (l .if1 .left)
+    (now (q .result)) (w .result) (q .ensures) (t .if2 .left) (w .ensures)
 
 pub plain-spec : {M : Type 1} → statement M
 plain-spec =
@@ -63,7 +64,7 @@ plain-spec =
     returns
     (λ c. search needs)
     (λ c κs. search needs)
-    sub-found
+    sub-to
     (λ c κs. search needs)
     returns-2
     (λ c κs. search needs)
