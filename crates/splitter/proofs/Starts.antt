@@ -7,7 +7,6 @@ use lib.Dec.{eqb}
 use lib.ListN.{length, take, drop}
 use lib.Seq.{take-append-seam}
 use borrow.Author.Tests.{eq-eqb, eqb-true}
-use Rattle.base.specs.Choice.{if_then_else_}
 use Rattle.base.specs.Bytes.{startsWith}
 use Rattle.base.proofs.Choice.{pick, and-left, and-both}
 use Rattle.base.proofs.Prefix.{starts-split}

@@ -11,16 +11,15 @@ use native.Mathlib.Omega.{arith}
 use borrow.Author.Tests.{le-leb, lt-leb}
 use Rattle.base.specs.Choice.{if_then_else_}
 use Rattle.base.specs.Bytes.{startsWith}
-use Rattle.base.proofs.Choice.{pick, le-or-lt}
+use Rattle.base.proofs.Choice.{le-or-lt}
 use Rattle.base.proofs.Prefix.{starts-length}
 use Rattle.base.proofs.Parts.{drop-less}
 use Rattle.splitter.specs.Split.{Chunk, raw, paragraph, lineBreak, Step, step, Placed, placed, chunks, split, chunksOf}
-use Rattle.splitter.specs.Answers.{pieceAt, answer, firstChunk, chunkOf, placeOf, placedOf, cursor, start, placedFrom, chunksFrom, PieceWithin, Within}
+use Rattle.splitter.specs.Answers.{pieceAt, answer, firstChunk, chunkOf, placedOf, cursor, start, placedFrom, chunksFrom, PieceWithin, Within}
 use Rattle.splitter.specs.declared.Code.{Code}
 use Rattle.splitter.specs.declared.Cursor.{Cursor}
 use Rattle.splitter.specs.declared.Piece.{Piece}
-use Rattle.splitter.specs.declared.Piece.the-variants.{Raw, Space, Paragraph, LineBreak}
-use Rattle.splitter.specs.declared.Step.{Step as Answer}
+use Rattle.splitter.specs.declared.Piece.the-variants.{Raw, Space}
 use Rattle.splitter.specs.declared.Step.the-variants.{Take, Done}
 use Rattle.splitter.proofs.Starts.{starts-take, line-end-no-space}
 use Rattle.splitter.proofs.Fits.{Moves, moves, step-moves, Stands, textStands, lineEndStands, paragraphStands, breakStands, widthOf, Fits, step-fits}
