@@ -188,9 +188,12 @@ module _ (body : List ℕ) (c : Cursor) where
       placed-next h ∙ ap₂ (λ (x : Placed) (k : Cursor). x ∷ placedFrom body k) (sym (n .0)) (sym (n .1)))
       (le-or-lt (length body) (c .at))
 
+-- what holds of a first chunk with its place holds of it without
+pub leave-out : (body : List ℕ) (c d : Cursor) (p : Placed) → placedFrom body c ≡ p ∷ placedFrom body d → chunksFrom body c ≡ p .chunk ∷ chunksFrom body d
+leave-out body c d p e = sym (from-unplaced body c) ∙ ap unplaced e ∙ ap (λ (cs : List Chunk). p .chunk ∷ cs) (from-unplaced body d)
+
 pub chunks-take : (body : List ℕ) (c : Cursor) (p : Piece) (d : Cursor) → Take p d ≡ firstChunk body c → chunksFrom body c ≡ chunkOf body p ∷ chunksFrom body d
-chunks-take body c p d e =
-    sym (from-unplaced body c) ∙ ap unplaced (placed-take body c p d e) ∙ ap (λ (cs : List Chunk). chunkOf body p ∷ cs) (from-unplaced body d)
+chunks-take body c p d e = leave-out body c d (placedOf body p) (placed-take body c p d e)
 
 -- From the start
 
