@@ -61,9 +61,6 @@ moves code.Rest b s = ticked-moves (startsWith ticks (b ∷ s)) (b ∷ s) (ticks
 pub step-moves : (c : Code) (b : ℕ) (s : List ℕ) → 1 ≤ (step c (b ∷ s)) .used
 step-moves c b s = moves c b s .0
 
-pub step-short : (c : Code) (b : ℕ) (s : List ℕ) → (step c (b ∷ s)) .used ≤ length (b ∷ s) + 1
-step-short c b s = moves c b s .1
-
 -- A step's chunk stands where it begins
 
 -- at most one character a byte
@@ -82,7 +79,7 @@ pub data Stands (s : List ℕ) : ℕ → Chunk → Type 0 where
   paragraphStands : (at : ℕ) → startsWith (0x0A ∷ 0x0A ∷ []) (drop at s) ≡ true → Stands s at paragraph
   breakStands : (at : ℕ) → startsWith (0x0A ∷ 0x20 ∷ []) (drop at s) ≡ true → Stands s at lineBreak
 
--- how many bytes a chunk has to textStands where it begins: those of its text, or one; an empty code line has none
+-- how many bytes a chunk has to itself where it begins: those of its text, or one; an empty code line has none
 abbrev pub extent : Chunk → ℕ
 extent (raw [] width) = if eqb width 1_000_000 then 0 else 1
 extent (raw (b ∷ text) width) = length (b ∷ text)

@@ -25,7 +25,8 @@ pub data Each (P : Placed → Type 0) : List Placed → Type 0 where
   none : Each P []
   also : {p : Placed} {ps : List Placed} → P p → Each P ps → Each P (p ∷ ps)
 
--- Each chunk's text is the body's bytes from its place on; for the space of a line end, a paragraph and a break it is what they stand for
+-- Each chunk's text is the body's bytes from its place on; where the space of a line end, a paragraph or a break begins stand the `\n` and what
+-- follows it (`Stands`)
 
 placed-stand : (body s : List ℕ) (at : ℕ) (c : Code) (pass : ℕ) → s ≡ drop at body
     → Each (λ (p : Placed). Stands body (p .place) (p .chunk)) (placed at c pass s)

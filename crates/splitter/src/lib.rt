@@ -221,7 +221,7 @@ fn part<'a>(body: &'a [u8], from: usize, to: usize) -> &'a [u8]
     &body[from..to]
 }
 
-// The part of a body that a word or a line is; nothing of the other pieces.
+// The part of a body that a word, a space or a line is; nothing of the other pieces.
 pub fn text_of<'a>(body: &'a [u8], p: Piece) -> &'a [u8]
     ensures { λ r. ⌜ now r ≡ textOf (now (body .entry)) p ⌝ }
 {
