@@ -2,26 +2,27 @@
 -- cursor on. Assumes nothing.
 use Prim.Native.Nat.{ℕ, zero, suc, _+_, _-_, _≤_, _<_}
 use mathlib.Core.Path.{_≡_, refl, sym, ap, ap₂, _∙_}
-use mathlib.Core.Bool.{true}
+use mathlib.Core.Bool.{true, false, _&&_, and-false}
 use mathlib.Core.Logic.{⊎-elim}
 use mathlib.Core.List.{List, [], _∷_, map}
+use lib.Dec.{eqb}
 use lib.ListN.{length, take, drop, length-drop, drop-of-length-le}
 use lib.Seq.{drop-drop, drop-cons}
 use native.Mathlib.Omega.{arith}
-use borrow.Author.Tests.{le-leb, lt-leb}
+use borrow.Author.Tests.{eqb-true, le-leb, lt-leb}
 use Rattle.base.specs.Choice.{if_then_else_}
 use Rattle.base.specs.Bytes.{startsWith}
-use Rattle.base.proofs.Choice.{le-or-lt}
+use Rattle.base.proofs.Choice.{pick, and-left, and-right, le-or-lt}
 use Rattle.base.proofs.Prefix.{starts-length}
 use Rattle.base.proofs.Parts.{drop-less}
-use Rattle.splitter.specs.Split.{Chunk, raw, paragraph, lineBreak, Step, step, Placed, placed, chunks, split, chunksOf}
+use Rattle.splitter.specs.Split.{Chunk, raw, paragraph, lineBreak, isSpace, Step, step, Placed, placed, chunks, split, chunksOf}
 use Rattle.splitter.specs.Answers.{pieceAt, answer, firstChunk, chunkOf, placedOf, cursor, start, placedFrom, chunksFrom, PieceWithin, Within}
 use Rattle.splitter.specs.declared.Code.{Code}
 use Rattle.splitter.specs.declared.Cursor.{Cursor}
 use Rattle.splitter.specs.declared.Piece.{Piece}
 use Rattle.splitter.specs.declared.Piece.the-variants.{Raw, Space}
 use Rattle.splitter.specs.declared.Step.the-variants.{Take, Done}
-use Rattle.splitter.proofs.Starts.{starts-take, line-end-no-space}
+use Rattle.splitter.proofs.Starts.{starts-take, isSpace-one}
 use Rattle.splitter.proofs.Fits.{Moves, moves, step-moves, Stands, textStands, lineEndStands, paragraphStands, breakStands, widthOf, Fits, step-fits}
 
 -- Places left out
@@ -67,35 +68,44 @@ placed-step at c b s =
 
 -- Pieces
 
+-- the chunk of one space, a text that is no space, and one of another width
+pub space-piece : (at : ℕ) → pieceAt at (raw (0x20 ∷ []) 1) ≡ Space at
+unfolding pieceAt isSpace if_then_else_
+space-piece at = refl
+
+module _ (at : ℕ) (text : List ℕ) (width to : ℕ) (f : to ≡ at + length text) where
+  pub word-piece : isSpace text ≡ false → pieceAt at (raw text width) ≡ Raw at to width
+  unfolding pieceAt if_then_else_
+  word-piece e = rw e (ap (λ (n : ℕ). Raw at n width) (sym f))
+
+  pub line-piece : eqb width 1 ≡ false → pieceAt at (raw text width) ≡ Raw at to width
+  unfolding pieceAt if_then_else_
+  line-piece e = rw (e, and-false) (ap (λ (n : ℕ). Raw at n width) (sym f))
+
 module _ (body : List ℕ) (at : ℕ) where
-  pub raw-piece : (text : List ℕ) (width to : ℕ) → startsWith text (drop at body) ≡ true → to ≡ at + length text
-      → pieceAt body at (raw text width) ≡ Raw at to width
-  unfolding pieceAt if_then_else_
-  raw-piece text width to e f = rw e (ap (λ (n : ℕ). Raw at n width) (sym f))
-
-  pub line-end-piece : startsWith (0x0A ∷ []) (drop at body) ≡ true → pieceAt body at (raw (0x20 ∷ []) 1) ≡ Space at
-  unfolding pieceAt if_then_else_
-  line-end-piece e = rw (line-end-no-space (drop at body) e)
-
   -- what stands at a place of a body is the chunk of the piece there
-  piece-chunk : (c : Chunk) → Stands body at c → placedOf body (pieceAt body at c) ≡ record { place = at; chunk = c }
+  piece-chunk : (c : Chunk) → Stands body at c → placedOf body (pieceAt at c) ≡ record { place = at; chunk = c }
   unfolding pieceAt
   piece-chunk (raw text width) (textStands at′ text′ width′ e) =
-      let n : at + length text - at ≡ length text = omega arith in
-      ap (placedOf body) (raw-piece text width (at + length text) e refl)
-      ∙ ap (λ (x : List ℕ). record { place = at; chunk = raw x width }) (ap (λ (k : ℕ). take k (drop at body)) n ∙ starts-take text (drop at body) e)
-  piece-chunk (raw text width) (lineEndStands at′ e) = ap (placedOf body) (line-end-piece e)
+      pick (λ (p : Piece). placedOf body p ≡ record { place = at; chunk = raw text width }) (isSpace text && eqb width 1)
+      (λ s. ap₂ (λ (x : List ℕ) (w : ℕ). record { place = at; chunk = raw x w })
+      (sym (isSpace-one text (and-left _ _ s))) (sym (eqb-true width 1 (and-right (isSpace text) _ s))))
+      (λ _. let n : at + length text - at ≡ length text = omega arith in
+      ap (λ (x : List ℕ). record { place = at; chunk = raw x width }) (ap (λ (k : ℕ). take k (drop at body)) n ∙ starts-take text (drop at body) e))
+  piece-chunk (raw text width) (lineEndStands at′ e) = ap (placedOf body) (space-piece at)
   piece-chunk paragraph (paragraphStands at′ e) = refl
   piece-chunk lineBreak (breakStands at′ e) = refl
 
   starts-inside : (w : List ℕ) → startsWith w (drop at body) ≡ true → 1 ≤ length w → at + length w ≤ length body
   starts-inside w e h = omega (arith, starts-length w (drop at body) e, length-drop at body)
 
-  piece-within : (c : Chunk) → Stands body at c → at ≤ length body → widthOf c ≤ length body + 1_000_001 → PieceWithin (length body) (pieceAt body at c)
+  piece-within : (c : Chunk) → Stands body at c → at ≤ length body → widthOf c ≤ length body + 1_000_001 → PieceWithin (length body) (pieceAt at c)
   unfolding pieceAt
   piece-within (raw text width) (textStands at′ text′ width′ e) h w =
-      rw (raw-piece text width (at + length text) e refl) (omega arith, omega (arith, starts-length text (drop at body) e, length-drop at body), w)
-  piece-within (raw text width) (lineEndStands at′ e) h w = rw (line-end-piece e) (omega (arith, starts-inside (0x0A ∷ []) e (omega arith)))
+      pick (PieceWithin (length body)) (isSpace text && eqb width 1)
+      (λ s. omega (arith, ap length (isSpace-one text (and-left _ _ s)), starts-length text (drop at body) e, length-drop at body))
+      (λ _. (omega arith, omega (arith, starts-length text (drop at body) e, length-drop at body), w))
+  piece-within (raw text width) (lineEndStands at′ e) h w = rw (space-piece at) (omega (arith, starts-inside (0x0A ∷ []) e (omega arith)))
   piece-within paragraph (paragraphStands at′ e) h w = omega (arith, starts-inside (0x0A ∷ 0x0A ∷ []) e (omega arith))
   piece-within lineBreak (breakStands at′ e) h w = omega (arith, starts-inside (0x0A ∷ 0x20 ∷ []) e (omega arith))
 
@@ -123,7 +133,7 @@ module _ (body : List ℕ) (c : Cursor) where
   unfolding firstChunk if_then_else_
   first-none h = rw (le-leb _ _ h)
 
-  pub first-some : c .at < length body → firstChunk body c ≡ answer body (c .at) (stepFrom body c)
+  pub first-some : c .at < length body → firstChunk body c ≡ answer (c .at) (stepFrom body c)
   unfolding firstChunk if_then_else_
   first-some h = rw (lt-leb _ _ h)
 
@@ -150,10 +160,10 @@ module _ (body : List ℕ) (c : Cursor) where
     unfolding answer
     next-is p d e =
         let f = e ∙ first-some h in
-        let g : p ≡ pieceAt body (c .at + stepFrom body c .begins) (stepFrom body c .chunk) = cc in
+        let g : p ≡ pieceAt (c .at + stepFrom body c .begins) (stepFrom body c .chunk) = cc in
         (ap (placedOf body) g ∙ piece-chunk body (c .at + stepFrom body c .begins) (stepFrom body c .chunk) from-stands, cc)
 
-    some-within : Within body c (answer body (c .at) (stepFrom body c))
+    some-within : Within body c (answer (c .at) (stepFrom body c))
     unfolding answer
     some-within =
         let l = length-drop (c .at) body in

@@ -1,11 +1,12 @@
 -- What the step over a slice and a cursor answers, as the rules have it.
 use Prim.Native.Nat.{ℕ, _+_, _≤_, _<_}
+use mathlib.Core.Bool.{_&&_}
 use mathlib.Core.List.{List, [], _∷_}
-use lib.Dec.{leb}
+use lib.Dec.{eqb, leb}
 use lib.ListN.{length, drop}
-use Rattle.base.specs.Bytes.{part, startsWith}
+use Rattle.base.specs.Bytes.{part}
 use Rattle.base.specs.Choice.{if_then_else_}
-use Rattle.splitter.specs.Split.{Chunk, raw, paragraph, lineBreak, step, Placed, placed, chunks}
+use Rattle.splitter.specs.Split.{Chunk, raw, paragraph, lineBreak, isSpace, step, Placed, placed, chunks}
 use Rattle.splitter.specs.Split as rules
 use Rattle.splitter.specs.declared.Code.{Code}
 use Rattle.splitter.specs.declared.Code.the-variants as code
@@ -15,12 +16,12 @@ use Rattle.splitter.specs.declared.Piece.the-variants.{Raw, Space, Parag
 use Rattle.splitter.specs.declared.Step.{Step}
 use Rattle.splitter.specs.declared.Step.the-variants.{Take, Done}
 
--- the piece that a chunk is at a place of a body: 'A word or line is handed back as a part of that body'; so is a space. The space for a line
--- end, whose text does not stand there, is a case of its own.
-unfoldable pub pieceAt : List ℕ → ℕ → Chunk → Piece
-pieceAt body at (raw text width) = if startsWith text (drop at body) then Raw at (at + length text) width else Space at
-pieceAt body at paragraph = Paragraph at
-pieceAt body at lineBreak = LineBreak at
+-- the piece that a chunk is at a place of a body: 'A word or line is handed back as a part of that body'; 'the chunk of one space' is a case of
+-- its own, for a space of the body and for a line end, which the byte at its place tells apart.
+unfoldable pub pieceAt : ℕ → Chunk → Piece
+pieceAt at (raw text width) = if isSpace text && eqb width 1 then Space at else Raw at (at + length text) width
+pieceAt at paragraph = Paragraph at
+pieceAt at lineBreak = LineBreak at
 
 abbrev pub cursor : ℕ → Code → Cursor
 cursor n c = record { at = n; code = c }
@@ -30,12 +31,12 @@ abbrev pub start : Cursor
 start = cursor 0 code.No
 
 -- a step of the rules for the bytes from a place of a body on, as an answer
-unfoldable pub answer : List ℕ → ℕ → rules.Step → Step
-answer body at s = Take (pieceAt body (at + s .begins) (s .chunk)) (cursor (at + s .used) (s .code))
+unfoldable pub answer : ℕ → rules.Step → Step
+answer at s = Take (pieceAt (at + s .begins) (s .chunk)) (cursor (at + s .used) (s .code))
 
 -- 'a step giving a chunk and a cursor'; 'a cursor at or past the body's end has no further chunk'
 unfoldable pub firstChunk : List ℕ → Cursor → Step
-firstChunk body c = if leb (length body) (c .at) then Done else answer body (c .at) (step (c .code) (drop (c .at) body))
+firstChunk body c = if leb (length body) (c .at) then Done else answer (c .at) (step (c .code) (drop (c .at) body))
 
 -- the chunk that a piece of a body is
 abbrev pub chunkOf : List ℕ → Piece → Chunk

@@ -35,6 +35,12 @@ line s = before isLineEnd s
 abbrev pub word : List ℕ → List ℕ
 word s = before isLineEndOrSpace s
 
+-- some text is 'just one space'
+unfoldable pub isSpace : List ℕ → Bool
+isSpace [] = false
+isSpace (b ∷ []) = eqb b 0x20
+isSpace (b ∷ c ∷ s) = false
+
 -- 'three backticks', 'four spaces'
 abbrev pub ticks : List ℕ
 ticks = 0x60 ∷ 0x60 ∷ 0x60 ∷ []

@@ -22,8 +22,8 @@ pub struct Cursor {
     pub code: Code,
 }
 
-// A chunk and where in the body it begins: a part of the body from a place up to another with its width; the space for the line end at a place,
-// a paragraph, a line break.
+// A chunk and where in the body it begins: a part of the body from a place up to another with its width; the chunk of one space, for the space or
+// the line end at a place; a paragraph, a line break.
 pub enum Piece {
     Raw(usize, usize, usize),
     Space(usize),
@@ -98,7 +98,7 @@ fn found(piece: Piece, at: usize, code: Code) -> Step
 // A line in ticks.
 fn ticked(body: &[u8], at: usize, last: bool) -> Step
     requires { ⌜ at < length (now body) ⌝ }
-    ensures { λ r. ⌜ r ≡ answer (now (body .entry)) at (tickedLine last (drop at (now (body .entry)))) ⌝ }
+    ensures { λ r. ⌜ r ≡ answer at (tickedLine last (drop at (now (body .entry)))) ⌝ }
 {
     let to = line_end(body, at);
     let next = to + 1;
@@ -133,7 +133,7 @@ pub fn strip_prefix<'a>(text: &'a [u8], prefix: &[u8]) -> &'a [u8]
 // What the line end at `start` begins; `tail` is what follows it.
 fn after_line_end(body: &[u8], start: usize, tail: &[u8]) -> Step
     requires { ⌜ Follows (now body) start (now tail) ⌝ }
-    ensures { λ r. ⌜ r ≡ answer (now (body .entry)) start (afterLineEnd (now (tail .entry))) ⌝ }
+    ensures { λ r. ⌜ r ≡ answer start (afterLineEnd (now (tail .entry))) ⌝ }
 {
     let at = start + 1;
     let code = strip_prefix(tail, b"    ");
@@ -162,7 +162,7 @@ fn after_line_end(body: &[u8], start: usize, tail: &[u8]) -> Step
 // Outside ticks.
 fn plain(body: &[u8], at: usize) -> Step
     requires { ⌜ at < length (now body) ⌝ }
-    ensures { λ r. ⌜ r ≡ answer (now (body .entry)) at (step code.No (drop at (now (body .entry)))) ⌝ }
+    ensures { λ r. ⌜ r ≡ answer at (step code.No (drop at (now (body .entry)))) ⌝ }
 {
     let input = rest(body, at);
     let tail = strip_prefix(input, b"\n");
@@ -171,8 +171,7 @@ fn plain(body: &[u8], at: usize) -> Step
     }
     let spaced = strip_prefix(input, b" ");
     if spaced.len() < input.len() {
-        let to = body.len() - spaced.len();
-        return found(Piece::Raw(at, to, 1), to, Code::No);
+        return found(Piece::Space(at), body.len() - spaced.len(), Code::No);
     }
     let w = word_end(body, at);
     let to = w.to;
@@ -182,7 +181,7 @@ fn plain(body: &[u8], at: usize) -> Step
 // In ticks, after their first line.
 fn later(body: &[u8], at: usize) -> Step
     requires { ⌜ at < length (now body) ⌝ }
-    ensures { λ r. ⌜ r ≡ answer (now (body .entry)) at (step code.Rest (drop at (now (body .entry)))) ⌝ }
+    ensures { λ r. ⌜ r ≡ answer at (step code.Rest (drop at (now (body .entry)))) ⌝ }
 {
     let last = base::starts_with(body, at, b"```");
     ticked(body, at, last)
@@ -221,7 +220,7 @@ fn part<'a>(body: &'a [u8], from: usize, to: usize) -> &'a [u8]
     &body[from..to]
 }
 
-// The part of a body that a word, a space or a line is; nothing of the other pieces.
+// The part of a body that a word or a line is; nothing for the other pieces.
 pub fn text_of<'a>(body: &'a [u8], p: Piece) -> &'a [u8]
     ensures { λ r. ⌜ now r ≡ textOf (now (body .entry)) p ⌝ }
 {

@@ -21,8 +21,8 @@ returns c =
     after-line (now (s .args .body)) (s .args .at) (s .pre) (now (i .result)) (i .ensures) (now (p .result))
     (p .ensures) (t .if1 .taken) (c .after-line-end .result) (c .after-line-end .ensures)
 
-sub-to : tie.Need-sub-to
-sub-to c =
+sub-found : tie.Need-sub-found
+sub-found c =
     let l = c .before .before .before in
     let s = l .before .before .before .before .before in
     let i = l .before .before .before .rest in
@@ -64,7 +64,7 @@ plain-spec =
     returns
     (λ c. search needs)
     (λ c κs. search needs)
-    sub-to
+    sub-found
     (λ c κs. search needs)
     returns-2
     (λ c κs. search needs)
