@@ -4,12 +4,12 @@ use mathlib.Core.Path.{_≡_, refl, sym, ap, ap₂, _∙_}
 use mathlib.Core.Bool.{Bool, true, false, and-true}
 use mathlib.Core.List.{List, [], _∷_}
 use lib.Dec.{eqb}
-use lib.ListN.{length, take, drop, getD, length-drop}
+use lib.ListN.{length, drop, getD, length-drop}
 use lib.Seq.{drop-drop, drop-cons}
 use native.Mathlib.Omega.{arith}
 use borrow.Author.Tests.{eq-eqb, ne-eqb}
 use Rattle.base.specs.Choice.{if_then_else_}
-use Rattle.base.specs.Bytes.{startsWith}
+use Rattle.base.specs.Bytes.{part, startsWith}
 use Rattle.splitter.specs.Split.{Chunk, raw, paragraph, lineBreak, line, word, ticks, four, isLineEnd}
 use Rattle.splitter.specs.Split.{Step, afterLineEnd, ticked, step, stripped}
 use Rattle.splitter.specs.Answers.{pieceAt, answer, firstChunk, chunkOf, placedOf, cursor, placedFrom, chunksFrom, textOf, PieceWithin, Within}
@@ -243,5 +243,5 @@ module _ (body : List ℕ) (c : Cursor) (r : Answer) where
   placed-ended e a = let b : Answered body c Done = rw e at a in placed-done body c (b .0)
 
 -- The text of a piece
-pub text-raw : (body : List ℕ) (from to width : ℕ) (p : Piece) → p ≡ Raw from to width → take (to - from) (drop from body) ≡ textOf body p
+pub text-raw : (body : List ℕ) (from to width : ℕ) (p : Piece) → p ≡ Raw from to width → part body from to ≡ textOf body p
 text-raw body from to width p e = rw e

@@ -1,8 +1,8 @@
 // The chunks of a body, one at a time (src/buffer/splitter.rs).
 ghost use mathlib.Core.Path.{_≡_};
 ghost use mathlib.Core.Bool.{false};
-ghost use Prim.Native.Nat.{_+_, _-_, _≤_, _<_};
-ghost use lib.ListN.{length, take, drop};
+ghost use Prim.Native.Nat.{_+_, _<_};
+ghost use lib.ListN.{length, drop};
 ghost use Rattle.splitter.specs.Split.{line, step, stripped, ticked as tickedLine, afterLineEnd};
 ghost use Rattle.splitter.specs.Answers.{cursor, answer, firstChunk, textOf, Within};
 ghost use Rattle.splitter.specs.Parts.{Follows, wordFrom};
@@ -111,21 +111,13 @@ fn ticked(body: &[u8], at: usize, last: bool) -> Step
     found(Piece::Raw(at, to, 1_000_001), next, Code::Rest)
 }
 
-// The bytes from a place on.
-fn rest<'a>(body: &'a [u8], at: usize) -> &'a [u8]
-    requires { ⌜ at ≤ length (now body) ⌝ }
-    ensures { λ r. ⌜ now r ≡ drop at (now (body .entry)) ⌝ }
-{
-    &body[at..]
-}
-
 // The text after a prefix, all of it if the prefix isn't there. A prefix of some bytes was there if the part is shorter than the text, as the
 // functions below test for the source's `if let Some(tail)`.
 pub fn strip_prefix<'a>(text: &'a [u8], prefix: &[u8]) -> &'a [u8]
     ensures { λ r. ⌜ now r ≡ stripped (now (prefix .entry)) (now (text .entry)) ⌝ }
 {
     if base::starts_with(text, 0, prefix) {
-        return rest(text, prefix.len());
+        return base::get_from(text, prefix.len());
     }
     text
 }
@@ -164,7 +156,7 @@ fn plain(body: &[u8], at: usize) -> Step
     requires { ⌜ at < length (now body) ⌝ }
     ensures { λ r. ⌜ r ≡ answer at (step code.No (drop at (now (body .entry)))) ⌝ }
 {
-    let input = rest(body, at);
+    let input = &body[at..];
     let tail = strip_prefix(input, b"\n");
     if tail.len() < input.len() {
         return after_line_end(body, at, tail);
@@ -204,28 +196,12 @@ pub fn step_at(body: &[u8], c: Cursor) -> Step
     }
 }
 
-// The bytes from a place up to another, as far as there are any.
-fn part<'a>(body: &'a [u8], from: usize, to: usize) -> &'a [u8]
-    ensures { λ r. ⌜ now r ≡ take (to - from) (drop from (now (body .entry))) ⌝ }
-{
-    if to <= from {
-        return &body[0..0];
-    }
-    if body.len() <= from {
-        return &body[0..0];
-    }
-    if body.len() <= to {
-        return rest(body, from);
-    }
-    &body[from..to]
-}
-
 // The part of a body that a word or a line is; nothing for the other pieces.
 pub fn text_of<'a>(body: &'a [u8], p: Piece) -> &'a [u8]
     ensures { λ r. ⌜ now r ≡ textOf (now (body .entry)) p ⌝ }
 {
     match p {
-        Piece::Raw(from, to, _) => part(body, from, to),
+        Piece::Raw(from, to, _) => base::get(body, from, to),
         Piece::Space(_) => &body[0..0],
         Piece::Paragraph(_) => &body[0..0],
         Piece::LineBreak(_) => &body[0..0],
