@@ -12,7 +12,7 @@ use Rattle.base.specs.Choice.{if_then_else_}
 use Rattle.base.specs.Bytes.{part, startsWith}
 use Rattle.splitter.specs.Split.{Chunk, raw, paragraph, lineBreak, line, word, ticks, four, isLineEnd}
 use Rattle.splitter.specs.Split.{Step, afterLineEnd, ticked, step, stripped}
-use Rattle.splitter.specs.Answers.{pieceAt, answer, firstChunk, chunkOf, placedOf, cursor, placedFrom, chunksFrom, textOf, PieceWithin, Within}
+use Rattle.splitter.specs.Answers.{pieceAt, answer, firstChunk, placedOf, cursor, placedFrom, textOf, PieceWithin, Within}
 use Rattle.splitter.specs.Parts.{Follows, wordFrom}
 use Rattle.splitter.specs.declared.Code.{Code}
 use Rattle.splitter.specs.declared.Code.the-variants as code
@@ -26,7 +26,7 @@ use Rattle.splitter.proofs.Before.{before-after}
 use Rattle.splitter.proofs.Starts.{word-no-space}
 use Rattle.splitter.proofs.Stripped.{shorter-starts, shorter-drop, shorter-place, whole-starts-not}
 pub use Rattle.splitter.proofs.Fits.{count-short}
-use Rattle.splitter.proofs.Steps.{space-piece, word-piece, line-piece, first-none, first-some, first-within, placed-take, chunks-take, placed-done, chunks-done}
+use Rattle.splitter.proofs.Steps.{space-piece, word-piece, line-piece, first-none, first-some, first-within, placed-take, placed-done}
 
 -- an answer is that of a step of the rules where its parts are
 module _ (at : ℕ) where
@@ -217,8 +217,7 @@ module _ (body : List ℕ) (c : Cursor) where
 
 -- a chunk: those from here on are it and those from the next cursor on, which lies further on
 pub record Took (body : List ℕ) (c : Cursor) (p : Piece) (d : Cursor) : Type 0 where
-  pub placed : placedFrom body c ≡ placedOf body p ∷ placedFrom body d
-  pub chunks : chunksFrom body c ≡ chunkOf body p ∷ chunksFrom body d
+  pub chunks : placedFrom body c ≡ placedOf body p ∷ placedFrom body d
   pub piece : PieceWithin (length body) p
   pub further : c .at + 1 ≤ d .at
   pub short : d .at ≤ length body + 1
@@ -228,19 +227,15 @@ module _ (body : List ℕ) (c : Cursor) (r : Answer) where
   took p d e a =
       let b : Answered body c (Take p d) = rw e at a in
       record {
-        placed = placed-take body c p d (b .0);
-        chunks = chunks-take body c p d (b .0);
+        chunks = placed-take body c p d (b .0);
         piece = b .1 .0;
         further = b .1 .1;
         short = b .1 .2;
       }
 
   -- none: none is left
-  pub ended : r ≡ Done → Answered body c r → chunksFrom body c ≡ []
-  ended e a = let b : Answered body c Done = rw e at a in chunks-done body c (b .0)
-
-  pub placed-ended : r ≡ Done → Answered body c r → placedFrom body c ≡ []
-  placed-ended e a = let b : Answered body c Done = rw e at a in placed-done body c (b .0)
+  pub ended : r ≡ Done → Answered body c r → placedFrom body c ≡ []
+  ended e a = let b : Answered body c Done = rw e at a in placed-done body c (b .0)
 
 -- The text of a piece
 pub text-raw : (body : List ℕ) (from to width : ℕ) (p : Piece) → p ≡ Raw from to width → part body from to ≡ textOf body p

@@ -2,20 +2,32 @@
 use Prim.Native.Nat.{ℕ, zero, suc, _+_, _-_, _≤_}
 use mathlib.Core.Path.{_≡_, refl, ap, _∙_, subst}
 use mathlib.Core.Bool.{Bool, true, false}
-use mathlib.Core.List.{List, [], _∷_}
+use mathlib.Core.List.{List, [], _∷_, map}
 use lib.Dec.{eqb}
 use lib.ListN.{length, drop}
 use lib.Seq.{drop-drop}
 use native.Mathlib.Omega.{arith}
 use borrow.Author.Tests.{eqb-true}
 use Rattle.base.specs.Choice.{if_then_else_}
-use Rattle.splitter.specs.Split.{Chunk, raw, paragraph, lineBreak, step, Placed, placed, split, chunksOf}
+use Rattle.splitter.specs.Split.{Chunk, raw, paragraph, lineBreak, step, Placed, placed, split, chunks, chunksOf}
 use Rattle.splitter.specs.declared.Code.{Code}
 use Rattle.splitter.specs.declared.Code.the-variants as code
 use Rattle.splitter.proofs.Fits.{step-moves, Stands, extent, step-fits}
-use Rattle.splitter.proofs.Steps.{unplaced, placed-unplaced, stands-from}
+use Rattle.splitter.proofs.Steps.{stands-from}
 
--- leaving the places out gives the chunks as the source hands them out
+-- Leaving the places out gives the chunks as the source hands them out
+
+abbrev pub unplaced : List Placed → List Chunk
+unplaced ps = map (λ (p : Placed). p .chunk) ps
+
+placed-unplaced : (at : ℕ) (c : Code) (pass : ℕ) (s : List ℕ) → unplaced (placed at c pass s) ≡ chunks c pass s
+unfolding placed chunks
+placed-unplaced at c pass [] = refl
+placed-unplaced at c (suc pass) (b ∷ s) = placed-unplaced (at + 1) c pass s
+placed-unplaced at c zero (b ∷ s) =
+    let r = step c (b ∷ s) in
+    ap (λ (cs : List Chunk). r .chunk ∷ cs) (placed-unplaced (at + 1) (r .code) (r .used - 1) s)
+
 pub split-unplaced : (body : List ℕ) → unplaced (split body) ≡ chunksOf body
 unfolding split chunksOf
 split-unplaced body = placed-unplaced 0 code.No 0 body

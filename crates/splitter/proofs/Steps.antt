@@ -1,10 +1,9 @@
--- The chunks of a body one step at a time, with their places and without them: those from a cursor on are the first and those from the next
--- cursor on. Assumes nothing.
+-- The chunks of a body one step at a time: those from a cursor on are the first and those from the next cursor on. Assumes nothing.
 use Prim.Native.Nat.{ℕ, zero, suc, _+_, _-_, _≤_, _<_}
 use mathlib.Core.Path.{_≡_, refl, sym, ap, ap₂, _∙_}
 use mathlib.Core.Bool.{true, false, _&&_, and-false}
 use mathlib.Core.Logic.{⊎-elim}
-use mathlib.Core.List.{List, [], _∷_, map}
+use mathlib.Core.List.{List, [], _∷_}
 use lib.Dec.{eqb}
 use lib.ListN.{length, take, drop, length-drop, drop-of-length-le}
 use lib.Seq.{drop-drop, drop-cons}
@@ -15,8 +14,8 @@ use Rattle.base.specs.Bytes.{startsWith}
 use Rattle.base.proofs.Choice.{pick, and-left, and-right, le-or-lt}
 use Rattle.base.proofs.Prefix.{starts-length}
 use Rattle.base.proofs.Parts.{drop-less}
-use Rattle.splitter.specs.Split.{Chunk, raw, paragraph, lineBreak, isSpace, Step, step, Placed, placed, chunks, split, chunksOf}
-use Rattle.splitter.specs.Answers.{pieceAt, answer, firstChunk, chunkOf, placedOf, cursor, start, placedFrom, chunksFrom, PieceWithin, Within}
+use Rattle.splitter.specs.Split.{Chunk, raw, paragraph, lineBreak, isSpace, Step, step, Placed, placed, split}
+use Rattle.splitter.specs.Answers.{pieceAt, answer, firstChunk, placedOf, cursor, start, placedFrom, PieceWithin, Within}
 use Rattle.splitter.specs.declared.Code.{Code}
 use Rattle.splitter.specs.declared.Cursor.{Cursor}
 use Rattle.splitter.specs.declared.Piece.{Piece}
@@ -24,19 +23,6 @@ use Rattle.splitter.specs.declared.Piece.the-variants.{Raw, Space}
 use Rattle.splitter.specs.declared.Step.the-variants.{Take, Done}
 use Rattle.splitter.proofs.Starts.{starts-take, isSpace-one}
 use Rattle.splitter.proofs.Fits.{Moves, moves, step-moves, Stands, textStands, lineEndStands, paragraphStands, breakStands, widthOf, Fits, step-fits}
-
--- Places left out
-
-abbrev pub unplaced : List Placed → List Chunk
-unplaced ps = map (λ (p : Placed). p .chunk) ps
-
-pub placed-unplaced : (at : ℕ) (c : Code) (pass : ℕ) (s : List ℕ) → unplaced (placed at c pass s) ≡ chunks c pass s
-unfolding placed chunks
-placed-unplaced at c pass [] = refl
-placed-unplaced at c (suc pass) (b ∷ s) = placed-unplaced (at + 1) c pass s
-placed-unplaced at c zero (b ∷ s) =
-    let r = step c (b ∷ s) in
-    ap (λ (cs : List Chunk). r .chunk ∷ cs) (placed-unplaced (at + 1) (r .code) (r .used - 1) s)
 
 -- The chunks after a step
 
@@ -126,9 +112,6 @@ abbrev pub nextFrom : List ℕ → Cursor → Cursor
 nextFrom body c = cursor (c .at + stepFrom body c .used) (stepFrom body c .code)
 
 module _ (body : List ℕ) (c : Cursor) where
-  pub from-unplaced : unplaced (placedFrom body c) ≡ chunksFrom body c
-  from-unplaced = placed-unplaced (c .at) (c .code) 0 (drop (c .at) body)
-
   pub first-none : length body ≤ c .at → firstChunk body c ≡ Done
   unfolding firstChunk if_then_else_
   first-none h = rw (le-leb _ _ h)
@@ -186,9 +169,6 @@ module _ (body : List ℕ) (c : Cursor) where
       ⊎-elim (λ (h : length body ≤ c .at). rw (drop-of-length-le body h))
       (λ (h : c .at < length body). let f = e ∙ first-some h in cc) (le-or-lt (length body) (c .at))
 
-  pub chunks-done : Done ≡ firstChunk body c → chunksFrom body c ≡ []
-  chunks-done e = sym from-unplaced ∙ ap unplaced (placed-done e)
-
   -- a chunk that a step gives, and the chunks from the next cursor on
   pub placed-take : (p : Piece) (d : Cursor) → Take p d ≡ firstChunk body c → placedFrom body c ≡ placedOf body p ∷ placedFrom body d
   placed-take p d e =
@@ -198,19 +178,8 @@ module _ (body : List ℕ) (c : Cursor) where
       placed-next h ∙ ap₂ (λ (x : Placed) (k : Cursor). x ∷ placedFrom body k) (sym (n .0)) (sym (n .1)))
       (le-or-lt (length body) (c .at))
 
--- what holds of a first chunk with its place holds of it without
-pub leave-out : (body : List ℕ) (c d : Cursor) (p : Placed) → placedFrom body c ≡ p ∷ placedFrom body d → chunksFrom body c ≡ p .chunk ∷ chunksFrom body d
-leave-out body c d p e = sym (from-unplaced body c) ∙ ap unplaced e ∙ ap (λ (cs : List Chunk). p .chunk ∷ cs) (from-unplaced body d)
-
-pub chunks-take : (body : List ℕ) (c : Cursor) (p : Piece) (d : Cursor) → Take p d ≡ firstChunk body c → chunksFrom body c ≡ chunkOf body p ∷ chunksFrom body d
-chunks-take body c p d e = leave-out body c d (placedOf body p) (placed-take body c p d e)
-
 -- From the start
 
 pub split-start : (body : List ℕ) → split body ≡ placedFrom body start
 unfolding split
 split-start body = refl
-
-pub chunks-start : (body : List ℕ) → chunksOf body ≡ chunksFrom body start
-unfolding chunksOf
-chunks-start body = refl

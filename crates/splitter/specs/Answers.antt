@@ -6,7 +6,7 @@ use lib.Dec.{eqb, leb}
 use lib.ListN.{length, drop}
 use Rattle.base.specs.Bytes.{part}
 use Rattle.base.specs.Choice.{if_then_else_}
-use Rattle.splitter.specs.Split.{Chunk, raw, paragraph, lineBreak, isSpace, step, Placed, placed, chunks}
+use Rattle.splitter.specs.Split.{Chunk, raw, paragraph, lineBreak, isSpace, step, Placed, placed}
 use Rattle.splitter.specs.Split as rules
 use Rattle.splitter.specs.declared.Code.{Code}
 use Rattle.splitter.specs.declared.Code.the-variants as code
@@ -62,12 +62,9 @@ textOf body (Space at) = []
 textOf body (Paragraph at) = []
 textOf body (LineBreak at) = []
 
--- the chunks of a body from a cursor on, with their places and without them
+-- the chunks of a body from a cursor on
 abbrev pub placedFrom : List ℕ → Cursor → List Placed
 placedFrom body c = placed (c .at) (c .code) 0 (drop (c .at) body)
-
-abbrev pub chunksFrom : List ℕ → Cursor → List Chunk
-chunksFrom body c = chunks (c .code) 0 (drop (c .at) body)
 
 -- Bounds that follow from the rules, for callers to do sums with: a piece lies within the body, and its width is at most the body's length past
 -- 1,000,001
