@@ -10,7 +10,7 @@ use Rattle.records.specs.Records.{Token, adds, order}
 use Rattle.records.specs.declared.Kind.{Kind}
 use Rattle.base.proofs.Results.{All, given, all-bind}
 use Rattle.document.proofs.Walks.{Sane, Sanes, also}
-use Rattle.splitter.specs.Split.{Chunk, raw, paragraph, lineBreak}
+use Rattle.splitter.specs.Split.{Chunk, raw, paragraph, lineBreak, Placed}
 use Rattle.splitter.proofs.Say.{said, Sound, Say, nothing, more}
 use Rattle.renderer.specs.Walk.{Turn, last, walk, body}
 
@@ -37,21 +37,23 @@ goes-on full on paragraph = rw on
 goes-on full on lineBreak = refl
 
 -- the chunks of a body, with a property of what they print
-module _ {S : Type 0} (P : List ℕ → S → Type 0) (full : Bool) (on : full ≡ true) (chunk : Chunk → S → Result S)
-    (keeps : (c : Chunk) (x : List ℕ) (s : S) → Sound c → P x s → All (P (x ++ said c)) (chunk c s)) where
-  pub body-says : (cs : List Chunk) (y x : List ℕ) (s : S) → Say cs y → P x s → All (P (x ++ y)) (body full chunk cs s)
+module _ {S : Type 0} (P : List ℕ → S → Type 0) (full : Bool) (on : full ≡ true) (chunk : Placed → S → Result S)
+    (keeps : (c : Placed) (x : List ℕ) (s : S) → Sound (c .chunk) → P x s → All (P (x ++ said (c .chunk))) (chunk c s)) where
+  pub body-says : (cs : List Placed) (y x : List ℕ) (s : S) → Say cs y → P x s → All (P (x ++ y)) (body full chunk cs s)
   unfolding body
   body-says [] y x s nothing h = given {a = s} (rw (append-nil x) h)
   body-says (c ∷ cs) y x s (more {x = u} v k) h =
-      rw (← append-assoc x (said c) u)
-      (all-bind (P (x ++ said c)) (P (x ++ said c ++ u)) _ _ (keeps c x s v h) λ s₁ h₁.
-      pick (All (P (x ++ said c ++ u))) (last full c) (λ e. absurd (false≢true (sym (goes-on full on c) ∙ e))) (λ _. body-says cs u (x ++ said c) s₁ k h₁))
+      let z = said (c .chunk) in
+      rw (← append-assoc x z u)
+      (all-bind (P (x ++ z)) (P (x ++ z ++ u)) _ _ (keeps c x s v h) λ s₁ h₁.
+      pick (All (P (x ++ z ++ u))) (last full (c .chunk)) (λ e. absurd (false≢true (sym (goes-on full on (c .chunk)) ∙ e)))
+      (λ _. body-says cs u (x ++ z) s₁ k h₁))
 
 -- and of the state alone, whatever `full` is
-module _ {S : Type 0} (P : S → Type 0) (full : Bool) (chunk : Chunk → S → Result S)
-    (keeps : (c : Chunk) (s : S) → Sound c → P s → All P (chunk c s)) where
-  pub body-keeps : (cs : List Chunk) (y : List ℕ) (s : S) → Say cs y → P s → All P (body full chunk cs s)
+module _ {S : Type 0} (P : S → Type 0) (full : Bool) (chunk : Placed → S → Result S)
+    (keeps : (c : Placed) (s : S) → Sound (c .chunk) → P s → All P (chunk c s)) where
+  pub body-keeps : (cs : List Placed) (y : List ℕ) (s : S) → Say cs y → P s → All P (body full chunk cs s)
   unfolding body
   body-keeps [] y s nothing h = given h
   body-keeps (c ∷ cs) y s (more {x = u} v k) h =
-      all-bind P P _ _ (keeps c s v h) λ s₁ h₁. pick (All P) (last full c) (λ _. given h₁) (λ _. body-keeps cs u s₁ k h₁)
+      all-bind P P _ _ (keeps c s v h) λ s₁ h₁. pick (All P) (last full (c .chunk)) (λ _. given h₁) (λ _. body-keeps cs u s₁ k h₁)
