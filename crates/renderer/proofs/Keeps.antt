@@ -16,7 +16,8 @@ use Rattle.renderer.specs.Walk.{Turn, last, walk, body}
 
 -- a property of the state and of what the records so far add to the printing order
 module _ {S : Type 0} (P : List ℕ → S → Type 0) (turn : Turn S)
-    (keeps : (t : Token) (ts : List Token) (x : List ℕ) (s : S) → Sane (t .kind) (t .body) → P x s → All (P (x ++ adds (t .kind) (t .body))) (turn (t .place) (t .kind) (t .body) ts s)) where
+    (keeps : (t : Token) (ts : List Token) (x : List ℕ) (s : S) → Sane (t .kind) (t .body) → P x s
+        → All (P (x ++ adds (t .kind) (t .body))) (turn (t .place) (t .start) (t .kind) (t .body) ts s)) where
   pub walk-adds : (ts : List Token) (x : List ℕ) (s : S) → Sanes ts → P x s → All (P (x ++ order ts)) (walk turn ts s)
   unfolding walk order
   walk-adds [] x s v h = given {a = s} (rw (append-nil x) h)
@@ -26,9 +27,9 @@ module _ {S : Type 0} (P : List ℕ → S → Type 0) (turn : Turn S)
 
 -- a property of the state alone
 pub walk-keeps : {S : Type 0} (P : S → Type 0) (turn : Turn S)
-    → ((p : ℕ) (k : Kind) (y : List ℕ) (ts : List Token) (s : S) → Sane k y → P s → All P (turn p k y ts s))
+    → ((p q : ℕ) (k : Kind) (y : List ℕ) (ts : List Token) (s : S) → Sane k y → P s → All P (turn p q k y ts s))
     → (ts : List Token) (s : S) → Sanes ts → P s → All P (walk turn ts s)
-walk-keeps P turn keeps ts s v h = walk-adds (λ _ s. P s) turn (λ t us x s. keeps (t .place) (t .kind) (t .body) us s) ts [] s v h
+walk-keeps P turn keeps ts s v h = walk-adds (λ _ s. P s) turn (λ t us x s. keeps (t .place) (t .start) (t .kind) (t .body) us s) ts [] s v h
 
 -- with `full` on no chunk ends the walk of its body
 goes-on : (full : Bool) → full ≡ true → (c : Chunk) → last full c ≡ false

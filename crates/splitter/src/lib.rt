@@ -4,7 +4,7 @@ ghost use mathlib.Core.Bool.{false};
 ghost use Prim.Native.Nat.{_+_, _<_};
 ghost use lib.ListN.{length, drop};
 ghost use Rattle.splitter.specs.Split.{line, step, stripped, ticked as tickedLine, afterLineEnd};
-ghost use Rattle.splitter.specs.Answers.{cursor, answer, firstChunk, textOf, Within};
+ghost use Rattle.splitter.specs.Answers.{cursor, answer, firstChunk, placeOf, textOf, Within};
 ghost use Rattle.splitter.specs.Parts.{Follows, wordFrom};
 ghost use Rattle.splitter.specs.declared.Code.the-variants as code;
 ghost use Rattle.splitter.specs.declared.Step.the-variants.{Take};
@@ -205,5 +205,17 @@ pub fn text_of<'a>(body: &'a [u8], p: Piece) -> &'a [u8]
         Piece::Space(_) => &body[0..0],
         Piece::Paragraph(_) => &body[0..0],
         Piece::LineBreak(_) => &body[0..0],
+    }
+}
+
+// The place in its body where a piece begins.
+pub fn place_of(p: Piece) -> usize
+    ensures { λ r. ⌜ r ≡ placeOf p ⌝ }
+{
+    match p {
+        Piece::Raw(from, _, _) => from,
+        Piece::Space(at) => at,
+        Piece::Paragraph(at) => at,
+        Piece::LineBreak(at) => at,
     }
 }
