@@ -17,7 +17,7 @@ use Rattle.renderer.specs.Walk.{Turn, last, walk, body}
 -- a property of the state and of what the records so far add to the printing order
 module _ {S : Type 0} (P : List ℕ → S → Type 0) (turn : Turn S)
     (keeps : (t : Token) (ts : List Token) (x : List ℕ) (s : S) → Sane (t .kind) (t .body) → P x s
-        → All (P (x ++ adds (t .kind) (t .body))) (turn (t .place) (t .start) (t .kind) (t .body) ts s)) where
+    → All (P (x ++ adds (t .kind) (t .body))) (turn (t .place) (t .start) (t .kind) (t .body) ts s)) where
   pub walk-adds : (ts : List Token) (x : List ℕ) (s : S) → Sanes ts → P x s → All (P (x ++ order ts)) (walk turn ts s)
   unfolding walk order
   walk-adds [] x s v h = given {a = s} (rw (append-nil x) h)
