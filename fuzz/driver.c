@@ -127,13 +127,21 @@ static size_t *lend_number(struct fenced *in, size_t value, enum placement place
     return number;
 }
 
-static struct fenced documents, rooms, places, lengths;
+/* A uint32_t alone at the fence. */
+static uint32_t *lend_small_number(struct fenced *in, uint32_t value, enum placement placement)
+{
+    uint32_t *number = (uint32_t *)(void *)(in->lent + offset(in, sizeof *number, placement));
+    *number = value;
+    return number;
+}
+
+static struct fenced documents, rooms, places, lengths, more[3];
 
 /* ---- what was reached -------------------------------------------------------------------------------------------------------- */
 
-enum function { CHECK, CONSOLE, HTML, HTML_STRICT, MARKDOWN, ROFF, WRITE, OPEN, CLOSE, DOC, EM_DOC, FUNCTIONS };
+enum function { CHECK, CONSOLE, HTML, HTML_STRICT, MARKDOWN, ROFF, WRITE, OPEN, CLOSE, DOC, EM_DOC, NEXT_CHUNK, FUNCTIONS };
 static const char *const names[FUNCTIONS] = {"check", "console", "html", "html_strict", "markdown", "roff", "write", "open", "close",
-    "doc", "em_doc"};
+    "doc", "em_doc", "next_chunk"};
 static unsigned long calls[FUNCTIONS], accepts[FUNCTIONS], numbers[14], inputs;
 
 enum { MOST_BLOCKS = 8192, OUTCOMES = 4096 };
@@ -160,7 +168,7 @@ static void outcome(enum function function, uint32_t number, size_t at)
     must(number <= 13, "a number over 13");
     calls[function]++;
     accepts[function] += number == 0;
-    numbers[number]++;
+    numbers[number] += function != NEXT_CHUNK; /* whose number is no refusal */
     while (at > 1 && power < 15) {
         at >>= 1;
         power++;
@@ -362,6 +370,55 @@ static void try_render(struct settings s, const uint8_t *document, size_t n, str
     }
 }
 
+/* ---- the splitter ------------------------------------------------------------------------------------------------------------ */
+
+struct cursor {
+    size_t at;
+    uint32_t ticks;
+};
+
+/* One chunk, in both placements; moves the cursor and says whether there was a chunk. */
+static int run_next_chunk(const uint8_t *body, size_t n, struct cursor *cursor)
+{
+    struct { uint32_t which, ticks; size_t at, start, length, width; } got[2];
+    for (int p = ENDS_AT_FENCE; p <= STARTS_AT_FENCE; p++) {
+        const uint8_t *lent = lend(&documents, body, n, p);
+        size_t *at = lend_number(&places, cursor->at, p), *start = lend_number(&more[0], UNWRITTEN, p);
+        size_t *length = lend_number(&more[1], UNWRITTEN, p), *width = lend_number(&more[2], UNWRITTEN, p);
+        uint32_t *ticks = lend_small_number(&lengths, cursor->ticks, p);
+        uint32_t which = sefgrunn_next_chunk(lent, n, at, ticks, start, length, width);
+        memset(&got[p], 0, sizeof got[p]);
+        got[p].which = which, got[p].ticks = *ticks, got[p].at = *at;
+        got[p].start = *start, got[p].length = *length, got[p].width = *width;
+        outcome(NEXT_CHUNK, which, *start);
+        must(which <= 4 && (which == 0) == (cursor->at >= n), "next_chunk: which chunk");
+        if (which == 0) {
+            must(*at == cursor->at && *ticks == cursor->ticks, "next_chunk: a cursor was moved without a chunk");
+            must(*start == 0 && *length == 0 && *width == 0, "next_chunk: numbers without a chunk");
+            continue;
+        }
+        must(*at > cursor->at && *at <= n && *ticks <= 2, "next_chunk: the cursor after a chunk");
+        must(*start >= cursor->at && *start <= n && *length <= n - *start && *start + *length <= *at, "next_chunk: no part of the body");
+        must(which == 1 || (body[*start] == '\n' && *start == cursor->at), "next_chunk: not at a line end");
+        must(which == 1 || (*length == (which == 4) && *width == (which == 4)), "next_chunk: the numbers of a mark");
+        must(which != 1 || *width <= *length || *width == 1000000 || *width == 1000001, "next_chunk: width");
+        must(which != 1 || memchr(body + *start, '\n', *length) == NULL, "next_chunk: a line end in a chunk");
+    }
+    must(memcmp(&got[0], &got[1], sizeof got[0]) == 0, "next_chunk: two answers");
+    *cursor = (struct cursor){got[0].at, got[0].ticks};
+    return got[0].which != 0;
+}
+
+/* Any bytes as a body: the chunks from a cursor on, up to 64 of them, and one at a cursor of chance. */
+static void try_splitter(uint64_t *state, const uint8_t *data, size_t n)
+{
+    struct cursor cursor = {below(state, 2) == 0 ? 0 : below(state, n + 2), (uint32_t)below(state, 4)};
+    for (int left = 64; left > 0 && run_next_chunk(data, n, &cursor); left--) {
+    }
+    cursor = (struct cursor){below(state, 4) == 0 ? (size_t)next(state) : below(state, n + 1), (uint32_t)next(state)};
+    run_next_chunk(data, n, &cursor);
+}
+
 /* ---- the builder ------------------------------------------------------------------------------------------------------------- */
 
 struct build {
@@ -546,6 +603,7 @@ int LLVMFuzzerTestOneInput(const uint8_t *data, size_t n)
         struct settings s = {f, width(&state), below(&state, 3) != 0, below(&state, 4) == 0};
         try_render(s, data, n, checked, room_size(&state, n));
     }
+    try_splitter(&state, data, n);
     try_builder(&state, data, n, below(&state, 4) == 0 ? n : record_start(&state, data, n));
     return 0;
 }
@@ -574,6 +632,9 @@ static void prepare(void)
     rooms = fenced(MOST_ROOM);
     places = fenced(4096);
     lengths = fenced(4096);
+    for (int i = 0; i < 3; i++) {
+        more[i] = fenced(4096);
+    }
     if (list != NULL) {
         set_blocks(list);
     }

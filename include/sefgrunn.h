@@ -44,7 +44,8 @@ enum sefgrunn_refusal {
     SEFGRUNN_TOO_DEEP = 7,           /* start with 32 blocks open; place of the record */
     SEFGRUNN_LEFT_OPEN = 8,          /* document ends with a block open; the place is the document's length */
     SEFGRUNN_TOO_WIDE = 9,           /* width over 10,000 (console); place 0 */
-    SEFGRUNN_BEYOND_MARGIN = 10,     /* a chunk misses more than 50 columns to its margin (console); place of its text record */
+    SEFGRUNN_BEYOND_MARGIN = 10,     /* a chunk misses more than 50 columns to its margin (console); place of the chunk's
+                                        first byte, or where an empty chunk would stand */
     SEFGRUNN_NO_FORM = 11,           /* Meta in HTML or Markdown, TermRef in roff; place of the record */
     SEFGRUNN_HEADING_NOT_ASCII = 12, /* byte over 127 in a roff heading; place of its text record */
     SEFGRUNN_NO_ROOM = 13            /* no room; place 0 */
@@ -84,6 +85,28 @@ uint32_t sefgrunn_check(const uint8_t *document, size_t n, size_t *place);
  * room_len bytes at room: the text, then zeros; all zeros after a refusal. Writes *at: the text's length, or the refusal's place.
  * Refusals 1 to 10 and 13. */
 uint32_t sefgrunn_console(const uint8_t *document, size_t n, size_t width, bool full, uint8_t *room, size_t room_len, size_t *at);
+
+/* What sefgrunn_next_chunk found. */
+enum sefgrunn_chunk {
+    SEFGRUNN_CHUNK_NONE = 0,       /* no further chunk */
+    SEFGRUNN_CHUNK_PART = 1,       /* a part of the body: a word, a space, a code line, a line in ticks */
+    SEFGRUNN_CHUNK_PARAGRAPH = 2,  /* an empty line */
+    SEFGRUNN_CHUNK_LINE_BREAK = 3, /* a line end before a space */
+    SEFGRUNN_CHUNK_SPACE = 4       /* one space, which stands for a line end and is no part of the body */
+};
+
+/* The width of a code line, which follows a line end and four spaces, and of a line between lines of three backticks. */
+#define SEFGRUNN_WIDTH_CODE 1000000
+#define SEFGRUNN_WIDTH_TICKED 1000001
+
+/* The next chunk of a text record's body, as the renderers take them: one of enum sefgrunn_chunk, no refusal. Any bytes are a body; each
+ * byte outside 0x80 to 0xBF counts as a character. The cursor is *at, a place in the body, and *ticks: 0 outside ticks, 1 before the
+ * first line in ticks, any other number after it; a body starts with 0 and 0. Reads n bytes at body. Writes the cursor after the chunk
+ * (*ticks is then 0, 1 or 2) and *start, where in the body the chunk begins: a part at its first byte or, if it is empty, where it would
+ * stand; the others at their first line end. Writes *length and *width, a part's bytes and columns; 0 for a paragraph and a line break,
+ * 1 for the space of a line end. Without a further chunk, as at or past the body's end, the cursor stays as it was and the other three
+ * are 0. */
+uint32_t sefgrunn_next_chunk(const uint8_t *body, size_t n, size_t *at, uint32_t *ticks, size_t *start, size_t *length, size_t *width);
 
 /* HTML, with or without the style sheet. As sefgrunn_console; refusals 1 to 8, 11 and 13. */
 uint32_t sefgrunn_html(const uint8_t *document, size_t n, bool full, bool css, uint8_t *room, size_t room_len, size_t *at);

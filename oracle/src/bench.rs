@@ -10,7 +10,7 @@ use std::panic::{catch_unwind, AssertUnwindSafe};
 
 use crate::buffer::{Color, Token};
 use crate::cases::Call;
-use crate::port::number;
+use crate::port::{number, Stored};
 use crate::rules::{self, Kind, Operation, Record, Renderer};
 use crate::stored::{decode, put_record, Block, Ending, Style, MOST_BYTES};
 use crate::Doc;
@@ -81,7 +81,7 @@ fn batch(runs: usize, mut run: impl FnMut()) -> u128 {
 
 /// The port's call, where no document so far is needed.
 fn port(call: Call, document: &[u8], room: &mut [u8]) -> u32 {
-    number(call, black_box(document), room, &mut 0, &mut 0)
+    number(call, black_box(document), room, &mut Stored::new(0))
 }
 
 /// UTF-8 validation of the same bodies stands in for the Rust, which has no such check.
@@ -167,10 +167,10 @@ fn write_times(document: &[u8], doc: &Doc) -> Option<Times> {
         medians(
             400,
             || {
-                let mut length = document.len();
+                let mut stored = Stored::new(document.len());
                 let bytes = text.as_bytes();
                 batch(WRITES, || {
-                    assert_eq!(number(call, bytes, black_box(&mut room), &mut length, &mut 0), 0)
+                    assert_eq!(number(call, bytes, black_box(&mut room), &mut stored), 0)
                 })
             },
             || {
@@ -190,12 +190,12 @@ fn building_times(document: &[u8], records: &[Record]) -> Option<Times> {
         40,
         || {
             let start = thread_time();
-            let mut length = 0;
+            let mut stored = Stored::new(0);
             for record in records {
                 let call = Call::Build(operation(record));
-                assert_eq!(number(call, record.body, &mut room, &mut length, &mut 0), 0);
+                assert_eq!(number(call, record.body, &mut room, &mut stored), 0);
             }
-            assert_eq!(length, document.len());
+            assert_eq!(stored.length, document.len());
             thread_time() - start
         },
         || {

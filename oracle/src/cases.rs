@@ -1,7 +1,7 @@
 //! One type for a call of any public function and one for its answer, with the list form that
 //! `oracle record` writes.
 
-use crate::rules::{self, Chunk, Operation, Refusal, Renderer};
+use crate::rules::{self, Chunk, Operation, PlainCursor, Refusal, Renderer};
 
 #[derive(Debug, Clone, Copy, Eq, PartialEq)]
 pub enum Call {
@@ -9,6 +9,11 @@ pub enum Call {
     Render(Renderer),
     Build(Operation),
     Split,
+    /// the chunk at one cursor, of the C interface
+    NextChunk {
+        at: u64,
+        ticks: u32,
+    },
 }
 
 /// A call with all that it reads and all that its room holds before it.
@@ -26,9 +31,10 @@ pub struct Case {
 
 #[derive(Debug, Clone, Eq, PartialEq)]
 pub struct Answer {
-    /// 0 where the call is accepted, else the refusal's number
+    /// 0 where the call is accepted, else the refusal's number; or which chunk there is
     pub number: u32,
-    /// the refusal's place, or the length of an accepted text; 0 for other accepted calls
+    /// the refusal's place, or the length of an accepted text; the cursor after a chunk; 0 for other
+    /// accepted calls
     pub at: u64,
     /// every byte of the room after the call
     pub room: Vec<u8>,
@@ -36,6 +42,8 @@ pub struct Answer {
     pub length: u64,
     /// the chunks of a body
     pub chunks: Vec<Chunk>,
+    /// the other numbers that the call stores, in the order of the header
+    pub numbers: Vec<u64>,
 }
 
 /// What a room holds before a call, from `start` on: no byte is 0.
@@ -51,6 +59,7 @@ pub fn answer(case: &Case) -> Answer {
         room: case.room.clone(),
         length: case.length,
         chunks: Vec::new(),
+        numbers: Vec::new(),
     };
     let outcome: Result<u64, Refusal> = match case.call {
         Call::Check => rules::check(&case.document).map(|_| 0),
@@ -73,6 +82,10 @@ pub fn answer(case: &Case) -> Answer {
             answer.chunks = rules::split(&case.document);
             Ok(answer.chunks.len() as u64)
         }
+        Call::NextChunk { at, ticks } => {
+            put_chunk(&mut answer, (at, ticks), rules::next_chunk(&case.document, (at, ticks)));
+            return answer;
+        }
     };
     match outcome {
         Ok(at) => answer.at = at,
@@ -81,7 +94,21 @@ pub fn answer(case: &Case) -> Answer {
     answer
 }
 
-/// The number of a call in a list, its setting (width, style or block), and its two flags.
+/// A chunk as the C interface hands it out: which it is, and the cursor after it; then its ticks, the
+/// chunk's start, length and width. Without a chunk the cursor is as it was given, the others are 0.
+pub fn put_chunk(answer: &mut Answer, given: PlainCursor, next: Option<(Chunk, PlainCursor)>) {
+    let (number, (at, ticks), start, len, width) = match next {
+        None => (0, given, 0, 0, 0),
+        Some((Chunk::Raw { start, len, width }, after)) => (1, after, start, len, width),
+        Some((Chunk::Paragraph { start }, after)) => (2, after, start, 0, 0),
+        Some((Chunk::LineBreak { start }, after)) => (3, after, start, 0, 0),
+        Some((Chunk::Space { start }, after)) => (4, after, start, 1, 1),
+    };
+    (answer.number, answer.at) = (number, at);
+    answer.numbers = vec![ticks.into(), start as u64, len as u64, width as u64];
+}
+
+/// The number of a call in a list, its setting (width, style, block or cursor), and its two flags.
 fn header(call: Call) -> (u8, u64, bool, bool) {
     match call {
         Call::Check => (0, 0, false, false),
@@ -96,6 +123,7 @@ fn header(call: Call) -> (u8, u64, bool, bool) {
         Call::Build(Operation::Doc) => (9, 0, false, false),
         Call::Build(Operation::EmDoc) => (10, 0, false, false),
         Call::Split => (11, 0, false, false),
+        Call::NextChunk { at, .. } => (12, at, false, false),
     }
 }
 
@@ -121,13 +149,13 @@ fn put(out: &mut Vec<u8>, number: u64) {
 /// ```text
 /// n    bytes of this case after this number
 /// u8   call: 0 check, 1 console, 2 html, 3 html_strict, 4 markdown, 5 roff,
-///      6 write, 7 open, 8 close, 9 doc, 10 em_doc, 11 split
-/// n    width (console), style (write) or block (open, close); else 0
-/// u8   full (console, html, html_strict, markdown); else 0
+///      6 write, 7 open, 8 close, 9 doc, 10 em_doc, 11 split, 12 next_chunk
+/// n    width (console), style (write), block (open, close) or place in the body (next_chunk); else 0
+/// u8   full (console, html, html_strict, markdown), ticks (next_chunk); else 0
 /// u8   css (html, html_strict); else 0
 /// n    room length R
 /// n    document length D
-/// D    the document; write: the text; doc, em_doc: the document added; split: the body
+/// D    the document; write: the text; doc, em_doc: the document added; split, next_chunk: the body
 /// 6 to 10 only:
 ///   n    length so far L (may pass R)
 ///   the first L bytes of the room before the call, or R if that is less; the others are the pattern
@@ -143,13 +171,23 @@ fn put(out: &mut Vec<u8>, number: u64) {
 ///   n    start in the body; 0xFFFFFFFF for the one space that a line end gives; 0 for tags 1, 2
 ///   n    length in bytes; 0 for tags 1 and 2
 ///   n    width; 0 for tags 1 and 2
+/// 12, whose number is 0 no chunk, 1 a part of the body, 2 paragraph, 3 line break, 4 line end's space,
+/// and whose place is that of the cursor after it:
+///   n    ticks of the cursor after it
+///   n    where the chunk begins in the body
+///   n    length in bytes; 0 for 2 and 3
+///   n    width; 0 for 2 and 3
 /// ```
 pub fn list(case: &Case, answer: &Answer, out: &mut Vec<u8>) {
     let mut body = Vec::new();
     let (call, setting, full, css) = header(case.call);
     body.push(call);
     put(&mut body, setting);
-    body.extend_from_slice(&[full.into(), css.into()]);
+    let full = match case.call {
+        Call::NextChunk { ticks, .. } => ticks as u8,
+        _ => full.into(),
+    };
+    body.extend_from_slice(&[full, css.into()]);
     put(&mut body, case.room.len() as u64);
     put(&mut body, case.document.len() as u64);
     body.extend_from_slice(&case.document);
@@ -168,15 +206,15 @@ pub fn list(case: &Case, answer: &Answer, out: &mut Vec<u8>) {
     }
     for chunk in &answer.chunks {
         let (tag, start, len, width) = match *chunk {
-            Chunk::Raw { start, len, width } => {
-                (0, start.map_or(NO_START as u64, |s| s as u64), len, width)
-            }
-            Chunk::Paragraph => (1, 0, 0, 0),
-            Chunk::LineBreak => (2, 0, 0, 0),
+            Chunk::Raw { start, len, width } => (0, start as u64, len, width),
+            Chunk::Space { .. } => (0, NO_START.into(), 1, 1),
+            Chunk::Paragraph { .. } => (1, 0, 0, 0),
+            Chunk::LineBreak { .. } => (2, 0, 0, 0),
         };
         body.push(tag);
         [start, len as u64, width as u64].into_iter().for_each(|n| put(&mut body, n));
     }
+    answer.numbers.iter().for_each(|&n| put(&mut body, n));
     put(out, body.len() as u64);
     out.extend(body);
 }
@@ -238,5 +276,9 @@ mod tests {
         expected.extend(b"a\nb");
         expected.extend([0, 3, 0, 0, 1, 1, 0, 255, 255, 255, 255, 255, 1, 1, 0, 2, 1, 1]);
         assert_eq!(form(case), expected);
+
+        let call = Call::NextChunk { at: 1, ticks: 0 };
+        let case = Case { call, document: b"a\nb".to_vec(), room: vec![], length: 0 };
+        assert_eq!(form(case), [15, 12, 1, 0, 0, 0, 3, b'a', b'\n', b'b', 4, 2, 0, 1, 1, 1]);
     }
 }

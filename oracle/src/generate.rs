@@ -16,10 +16,11 @@ pub enum Subject {
     Roff,
     Builder,
     Split,
+    NextChunk,
 }
 
 impl Subject {
-    pub const ALL: [(Subject, &'static str); 8] = [
+    pub const ALL: [(Subject, &'static str); 9] = [
         (Subject::Check, "check"),
         (Subject::Console, "console"),
         (Subject::Html, "html"),
@@ -28,6 +29,7 @@ impl Subject {
         (Subject::Roff, "roff"),
         (Subject::Builder, "builder"),
         (Subject::Split, "split"),
+        (Subject::NextChunk, "next_chunk"),
     ];
 
     pub fn named(name: &str) -> Option<Subject> {
@@ -266,8 +268,40 @@ impl Maker<'_> {
         }
     }
 
+    /// A line that has reached a margin past 50 columns, and a body that leaves the line after some
+    /// words: refusal 10 falls inside it, at a word, a space, a code line or the first line in ticks.
+    fn past_the_margin(&mut self) {
+        let line = "u".repeat(self.rng.within(0, 70));
+        let words: String =
+            (0..self.rng.below(6)).map(|_| self.rng.pick(&["a ", "é ", "é", "word\n"])).collect();
+        let leaves = [
+            "\n ",
+            "\n\n",
+            "\n    ",
+            "\n\n    ",
+            "\n \n    ",
+            "\n\n```",
+            "\n\n```\n",
+            "\n",
+            " ",
+            "",
+        ];
+        let leave = self.rng.pick(&leaves);
+        let rest = match self.rng.once_in(3) {
+            true => "",
+            false => self.rng.pick(&["x", "é y", " ", "\n", "    ", "\n\n", "```\nx"]),
+        };
+        self.text("\n ");
+        self.text(&line);
+        for _ in 0..self.rng.within(8, 10) {
+            self.start(ITEM_BODY);
+        }
+        self.text(&(words + leave + rest));
+        self.some_text();
+    }
+
     fn act(&mut self) {
-        match self.rng.below(26) {
+        match self.rng.below(28) {
             0..=5 => self.some_text(),
             // bodies that would split or escape otherwise if they were joined
             6 => {
@@ -397,6 +431,7 @@ impl Maker<'_> {
                 self.around(11, |m| m.text("[x]"));
                 self.text("[y]");
             }
+            25..=26 => self.past_the_margin(),
             // an empty block
             _ => {
                 let block = self.rng.below(12);
@@ -404,6 +439,18 @@ impl Maker<'_> {
             }
         }
     }
+}
+
+const FAR_BYTES: usize = 10 * 12 + 400;
+
+/// A valid document with text past its margin, and little else.
+fn far(rng: &mut Rng, palette: Palette) -> Vec<u8> {
+    let mut maker = Maker { rng, palette, bytes: Vec::new(), open: Vec::new(), most: FAR_BYTES };
+    maker.past_the_margin();
+    while !maker.open.is_empty() {
+        maker.end();
+    }
+    maker.bytes
 }
 
 /// A valid document of at most `most` bytes; its blocks are all closed, or some may be open.
@@ -531,6 +578,9 @@ fn document(rng: &mut Rng, subject: Subject, limits: Limits, faulty_once_in: usi
         if let Some(bytes) = boundary(rng, palette, limits.bytes) {
             return bytes;
         }
+    }
+    if subject == Subject::Console && limits.bytes >= FAR_BYTES && rng.once_in(12) {
+        return far(rng, palette);
     }
     if !rng.once_in(faulty_once_in) {
         let most = limits.one(rng);
@@ -727,6 +777,25 @@ fn splitting(rng: &mut Rng, limits: Limits) -> Case {
     Case { call: Call::Split, document: bytes, room: Vec::new(), length: 0 }
 }
 
+/// A cursor anywhere in a body, at its end or past it, in any state.
+fn stepping(rng: &mut Rng, limits: Limits) -> Case {
+    let body = splitting(rng, limits).document;
+    let length = body.len() as u64;
+    let at = match rng.below(12) {
+        0 => length,
+        1 => length + 1,
+        2 if !limits.recorded => rng.pick(&[u64::MAX, u64::MAX - 4, 1 << 32]),
+        3 => 0,
+        4..=7 => body.iter().position(|&b| b == b'\n').unwrap_or(0) as u64,
+        _ => rng.below(body.len() + 1) as u64,
+    };
+    let ticks = match limits.recorded {
+        true => rng.pick(&[0, 0, 1, 2]),
+        false => rng.pick(&[0, 0, 0, 1, 1, 2, 2, 3, 1 << 31, u32::MAX]),
+    };
+    Case { call: Call::NextChunk { at, ticks }, document: body, room: Vec::new(), length: 0 }
+}
+
 /// The case of a subject with this seed and index.
 pub fn case(subject: Subject, seed: u64, index: u64, limits: Limits) -> Case {
     let rng = &mut Rng::new(seed, index);
@@ -737,6 +806,7 @@ pub fn case(subject: Subject, seed: u64, index: u64, limits: Limits) -> Case {
         }
         Subject::Builder => building(rng, limits),
         Subject::Split => splitting(rng, limits),
+        Subject::NextChunk => stepping(rng, limits),
         _ => rendering(rng, subject, limits),
     }
 }
@@ -785,6 +855,8 @@ pub fn owed(subject: Subject) -> &'static [u32] {
         Subject::Roff => &[0, 1, 2, 3, 4, 5, 6, 7, 8, 11, 12, 13],
         Subject::Builder => &[0, 1, 2, 3, 4, 5, 6, 7, 8, 13],
         Subject::Split => &[0],
+        // which chunk it is
+        Subject::NextChunk => &[0, 1, 2, 3, 4],
     }
 }
 
@@ -830,6 +902,40 @@ mod tests {
             for limits in [Limits::COMPARED, Limits::RECORDED] {
                 assert!(told_apart(misread, 11, 2_000, limits).0 > 0, "{misread:?} {limits:?}");
             }
+        }
+    }
+
+    /// Refusal 10 is met at each kind of chunk, also late in a body and at its end, in lists too.
+    #[test]
+    fn refusal_10_falls_inside_bodies() {
+        for limits in [Limits::COMPARED, Limits::RECORDED] {
+            let mut met = std::collections::BTreeSet::new();
+            for index in 0..4_000 {
+                let case = case(Subject::Console, 6, index, limits);
+                let answer = answer(&case);
+                if answer.number != 10 {
+                    continue;
+                }
+                let records = rules::check(&case.document).unwrap();
+                let place = answer.at as usize;
+                let text = records.iter().rfind(|r| r.place + 6 <= place && !r.body.is_empty());
+                let text = text.unwrap();
+                let at = place - text.place - 6;
+                let here = |c: &&rules::Chunk| match **c {
+                    rules::Chunk::Raw { start, .. } | rules::Chunk::Space { start } => start == at,
+                    _ => false,
+                };
+                met.insert(match rules::split(text.body).iter().find(here).unwrap() {
+                    rules::Chunk::Space { .. } => "a line end's space",
+                    rules::Chunk::Raw { len: 0, .. } if at == text.body.len() => "at the end",
+                    rules::Chunk::Raw { len: 0, .. } => "an empty code line",
+                    rules::Chunk::Raw { width: rules::CODE, .. } => "a code line",
+                    rules::Chunk::Raw { width: rules::TICKED, .. } => "a line in ticks",
+                    _ if at == 0 => "the first byte",
+                    _ => "a later word",
+                });
+            }
+            assert_eq!(met.len(), 7, "{limits:?} {met:?}");
         }
     }
 

@@ -93,16 +93,54 @@ fn is_todo_panic(message: &str) -> bool {
     message == "not yet implemented"
 }
 
-/// The place of 10, from the kept Rust alone: with the bodies from the refusing record on emptied
-/// it does not panic, with those after it emptied it does. A term of the right width at the end
-/// keeps the tabstop; where the emptied bodies raise the tabstop nothing can be said.
+/// A text taken apart into texts of one chunk each, by the kept splitter: where in the text that chunk is
+/// written from, if it is, and the text. The console goes by chunks, so it writes the same.
+fn taken_apart(body: &str) -> Vec<(Option<usize>, String)> {
+    let mut parts: Vec<(Option<usize>, String)> = Vec::new();
+    for (chunk, (before, ticks), (after, _)) in plain_chunks(body) {
+        let text = &body[before..after];
+        match chunk {
+            // lines in ticks stay with the paragraph that starts them; the first one tells the margin
+            PlainChunk::Raw(..) if ticks > 0 => {
+                let (start, paragraph) = parts.last_mut().expect("a paragraph starts ticks");
+                *start = start.or(Some(before));
+                paragraph.push_str(text);
+            }
+            PlainChunk::Raw(line, rules::CODE) => {
+                parts.push((Some(after - line.len()), text.to_string()));
+            }
+            PlainChunk::Raw(..) => parts.push((Some(before), text.to_string())),
+            // one before a code line takes a single line end
+            PlainChunk::Paragraph => parts.push((None, "\n\n".to_string())),
+            PlainChunk::LineBreak => parts.push((None, text.to_string())),
+        }
+    }
+    parts
+}
+
+/// The place of 10, from the kept Rust alone: with all text from the refusing chunk on taken away it
+/// does not panic, with all after it taken away it does. A term of the right width at the end keeps the
+/// tabstop; where what is taken away raises the tabstop nothing can be said.
 fn confirm_margin(renderer: Renderer, records: &[Record], place: usize) -> Result<(), String> {
-    let at = records.iter().position(|r| r.place == place).ok_or("10 at no record")?;
+    let is_text = |r: &&Record| matches!(r.kind, Kind::Text(_));
+    let holds = |r: &&Record| (r.place + 6..=r.place + 6 + r.body.len()).contains(&place);
+    let refusing = records.iter().filter(is_text).find(holds).ok_or("10 in no text")?;
+    let at = records.iter().position(|r| r == refusing).expect("it is one of them");
+    let body = std::str::from_utf8(refusing.body).expect("accepted text is UTF-8");
+    let parts = taken_apart(body);
+    let chunk = parts
+        .iter()
+        .position(|(start, _)| start.is_some_and(|start| refusing.place + 6 + start == place))
+        .ok_or(format!("10 at {place}, where no chunk begins"))?;
+
     let tabstop = rules::tabstop(records);
     let term = "x".repeat(tabstop - 4);
-    for (kept, panics) in [(at, false), (at + 1, true)] {
-        let mut shortened = records.to_vec();
-        shortened[kept..].iter_mut().for_each(|record| record.body = b"");
+    for (kept, panics) in [(chunk, false), (chunk + 1, true)] {
+        let mut shortened = records[..at].to_vec();
+        shortened.extend(
+            parts[..kept].iter().map(|(_, text)| Record { body: text.as_bytes(), ..*refusing }),
+        );
+        shortened.extend(records[at + 1..].iter().map(|record| Record { body: b"", ..*record }));
         if rules::tabstop(&shortened) > tabstop {
             continue;
         }
@@ -111,9 +149,7 @@ fn confirm_margin(renderer: Renderer, records: &[Record], place: usize) -> Resul
         }
         let outcome = rendered(renderer, &rebuilt(&shortened, |_, body| body.to_string()));
         if outcome.is_err() != panics {
-            return Err(format!(
-                "10 at {place}: bodies before record {kept} kept gives {outcome:?}"
-            ));
+            return Err(format!("10 at {place}: chunks before {kept} kept gives {outcome:?}"));
         }
     }
     Ok(())
@@ -240,33 +276,88 @@ fn confirm_build(operation: Operation, case: &Case, answer: &Answer) -> Result<(
     Ok(())
 }
 
-/// A body that is UTF-8 goes to the kept splitter as it stands. In any other body each byte over
-/// 127 becomes `x`: such bytes are no line end, space or backtick, so every chunk must have the
-/// same bounds, and the width of a word is less by its bytes from 0x80 to 0xBF.
-fn confirm_split(body: &[u8], chunks: &[Chunk]) -> Result<(), String> {
-    let as_given = std::str::from_utf8(body).ok();
-    let stand_in: String = body.iter().map(|&b| if b < 0x80 { b as char } else { 'x' }).collect();
-    let text = as_given.unwrap_or(&stand_in);
-    let kept = plain_chunks(text);
-    let agrees = |(chunk, kept): (&Chunk, &PlainChunk)| match (*chunk, *kept) {
-        (Chunk::Paragraph, PlainChunk::Paragraph) => true,
-        (Chunk::LineBreak, PlainChunk::LineBreak) => true,
-        (Chunk::Raw { start: None, len: 1, width: 1 }, PlainChunk::Raw(" ", 1)) => true,
-        (Chunk::Raw { start: Some(start), len, width }, PlainChunk::Raw(s, w)) => {
-            // the kept splitter hands out words and lines as parts of the body, spaces as constants
+/// A body for the kept splitter: as it stands where it is UTF-8. In any other one each byte over 127
+/// becomes `x`: such bytes are no line end, space or backtick, so every chunk must have the same bounds,
+/// and the width of a word is less by its bytes from 0x80 to 0xBF.
+fn for_the_splitter(body: &[u8]) -> String {
+    match std::str::from_utf8(body) {
+        Ok(text) => text.to_string(),
+        Err(_) => body.iter().map(|&b| if b < 0x80 { b as char } else { 'x' }).collect(),
+    }
+}
+
+/// Whether a chunk of a body is what the kept splitter gave, having stood `stood` bytes into `text`,
+/// which is `before` and then the body made for it.
+fn is_chunk(
+    body: &[u8],
+    chunk: Chunk,
+    text: &str,
+    before: &str,
+    kept: PlainChunk,
+    stood: usize,
+) -> bool {
+    let Some(stood) = stood.checked_sub(before.len()) else { return false };
+    match (chunk, kept) {
+        (Chunk::Paragraph { start }, PlainChunk::Paragraph) => start == stood,
+        (Chunk::LineBreak { start }, PlainChunk::LineBreak) => start == stood,
+        (Chunk::Space { start }, PlainChunk::Raw(" ", 1)) => start == stood && body[start] == b'\n',
+        (Chunk::Raw { start, len, width }, PlainChunk::Raw(s, w)) => {
+            // the kept splitter hands out words and lines as parts of the text, spaces as constants
             let offset = (s.as_ptr() as usize).wrapping_sub(text.as_ptr() as usize);
-            let part = text.as_bytes().get(start..start + len) == Some(s.as_bytes());
-            let place = offset == start || s == " ";
-            let uncounted = match as_given {
-                None if w < rules::CODE => len - rules::characters(&body[start..start + len]),
+            let own = before.len() + start;
+            let part = text.as_bytes().get(own..own + len) == Some(s.as_bytes());
+            let place = offset == own || (s == " " && start == stood);
+            let uncounted = match std::str::from_utf8(body) {
+                Err(_) if w < rules::CODE => len - rules::characters(&body[start..start + len]),
                 _ => 0,
             };
             part && place && width + uncounted == w
         }
         _ => false,
-    };
-    if chunks.len() != kept.len() || !chunks.iter().zip(&kept).all(agrees) {
+    }
+}
+
+fn confirm_split(body: &[u8], chunks: &[Chunk]) -> Result<(), String> {
+    let text = for_the_splitter(body);
+    let kept = plain_chunks(&text);
+    let mut pairs = chunks.iter().zip(&kept);
+    let agrees =
+        pairs.all(|(&chunk, &(k, (stood, _), _))| is_chunk(body, chunk, &text, "", k, stood));
+    if chunks.len() != kept.len() || !agrees {
         return Err(format!("rules {chunks:?}, kept Rust {kept:?}"));
+    }
+    Ok(())
+}
+
+/// One chunk at any cursor. Ticks are started for the kept splitter by what is put before the rest of
+/// the body; before the first line this needs backticks, and without them both states are alike.
+fn confirm_next(case: &Case, at: u64, ticks: u32) -> Result<(), String> {
+    let next = rules::next_chunk(&case.document, (at, ticks));
+    let rest = usize::try_from(at).ok().and_then(|at| case.document.get(at..)).unwrap_or(&[]);
+    let (before, index) = match ticks {
+        0 => ("", 0),
+        1 if rest.starts_with(b"```") => ("\n\n", 1),
+        _ => ("\n\n```\n", 2),
+    };
+    let text = before.to_string() + &for_the_splitter(rest);
+    let kept = plain_chunks(&text);
+    let agrees = match (next, kept.get(index)) {
+        (None, None) => true,
+        (Some((chunk, after)), Some(&(kept, (stood, _), (taken, ticks)))) => {
+            let at = at as usize;
+            let from_rest = match chunk {
+                Chunk::Raw { start, len, width } => Chunk::Raw { start: start - at, len, width },
+                Chunk::Space { start } => Chunk::Space { start: start - at },
+                Chunk::Paragraph { start } => Chunk::Paragraph { start: start - at },
+                Chunk::LineBreak { start } => Chunk::LineBreak { start: start - at },
+            };
+            is_chunk(rest, from_rest, &text, before, kept, stood)
+                && after == ((taken - before.len() + at) as u64, ticks)
+        }
+        _ => false,
+    };
+    if !agrees {
+        return Err(format!("rules {next:?}, kept Rust {:?}", kept.get(index)));
     }
     Ok(())
 }
@@ -287,5 +378,6 @@ pub fn confirm(case: &Case, answer: &Answer) -> Result<(), String> {
         Call::Render(renderer) => confirm_rendering(renderer, case, answer),
         Call::Build(operation) => confirm_build(operation, case, answer),
         Call::Split => confirm_split(&case.document, &answer.chunks),
+        Call::NextChunk { at, ticks } => confirm_next(case, at, ticks),
     }
 }

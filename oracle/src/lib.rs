@@ -10,8 +10,8 @@
 //! - [`port`]: the C interface of the port, where it is linked.
 //! - [`worthless`]: the worthless versions that 01 lists, each as a port.
 //!
-//! "01" in comments is the paper that ruled the port. It is not in the repository; `docs/FORMAT.md`
-//! says in other words what it says.
+//! "01" in comments is the paper that ruled the port, "02" the paper with the requests that followed.
+//! Neither is in the repository; `docs/FORMAT.md` says in other words what they say.
 
 // Not reformatted: its files stand as published.
 #[rustfmt::skip]

@@ -17,7 +17,7 @@ const NOT_LINKED: &str =
 const USAGE: &str = "\
 usage: oracle answer console|html|html_strict|markdown|roff
               [--width N] [--full 0|1] [--css 0|1] [--room N] < document
-       oracle record check|console|html|html_strict|markdown|roff|builder|split
+       oracle record check|console|html|html_strict|markdown|roff|builder|split|next_chunk
               --seed S --cases N [--max-bytes B] > list
        oracle compare --seed S --cases N [--only SUBJECT,..]
        oracle selfcheck --seed S --cases N [--only SUBJECT,..]
@@ -254,10 +254,12 @@ fn show(case: &Case) -> String {
 
 fn show_answer(name: &str, answer: &Answer) -> String {
     format!(
-        "  {name} number {} at {} length {} room {}\n",
+        "  {name} number {} at {} length {} numbers {:?} chunks {:?} room {}\n",
         answer.number,
         answer.at,
         answer.length,
+        answer.numbers,
+        answer.chunks,
         hex(&answer.room)
     )
 }
@@ -289,14 +291,7 @@ fn run_cases(
 /// The port beside the oracle, through the C interface.
 fn run_compare(arguments: &Arguments) -> Parsed<ExitCode> {
     arguments.no_operand()?;
-    let mut subjects = arguments.subjects()?;
-    if arguments.value("only").is_none() {
-        subjects.retain(|&subject| subject != Subject::Split);
-    }
-    if subjects.contains(&Subject::Split) {
-        return Err("--only split: the C interface has no split".into());
-    }
-    run_cases(&subjects, arguments, "mismatches", |case, expected| {
+    run_cases(&arguments.subjects()?, arguments, "mismatches", |case, expected| {
         if let Err(message) = confirm(case, expected) {
             return Some(format!("  the oracle disagrees with itself: {message}\n"));
         }

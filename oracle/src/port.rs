@@ -1,6 +1,7 @@
 //! The C interface of the port, where the feature `linked` links it.
 
 use crate::cases::{Answer, Call, Case};
+use crate::rules::Chunk;
 #[cfg(feature = "linked")]
 use crate::rules::{Operation, Renderer};
 
@@ -36,21 +37,51 @@ impl Guarded {
     }
 }
 
+/// No call stores this number, so one that stores nothing is seen.
+const UNWRITTEN: usize = usize::MAX / 3;
+
+/// What a call stores besides its room: a length or place, the builder's length, and other numbers.
+pub(crate) struct Stored {
+    pub at: usize,
+    pub length: usize,
+    pub numbers: [usize; 4],
+}
+
+impl Stored {
+    pub(crate) fn new(length: usize) -> Self {
+        Stored { at: UNWRITTEN, length, numbers: [UNWRITTEN; 4] }
+    }
+
+    /// The other numbers that a call stores.
+    fn numbers(&self, call: Call) -> Vec<u64> {
+        let count = match call {
+            Call::NextChunk { .. } => 4,
+            _ => 0,
+        };
+        self.numbers[..count].iter().map(|&n| n as u64).collect()
+    }
+}
+
 /// Makes a case's call. `Err` where a byte outside the room was changed.
 pub fn call(case: &Case) -> Result<Answer, String> {
     let mut document = Guarded::new(&case.document);
     let mut room = Guarded::new(&case.room);
-    // no call gives this place or length, so one that gives none is seen
-    let mut at = usize::MAX / 3;
-    let mut length = case.length as usize;
-    let number = number(case.call, document.inner(), room.inner(), &mut length, &mut at);
+    let mut stored = Stored::new(case.length as usize);
+    let (mut number_given, mut chunks_given) = (0, Vec::new());
+    if case.call == Call::Split {
+        chunks_given = chunks(document.inner())?;
+        stored.at = chunks_given.len();
+    } else {
+        number_given = number(case.call, document.inner(), room.inner(), &mut stored);
+    }
 
     let answer = Answer {
-        number,
-        at: at as u64,
+        number: number_given,
+        at: stored.at as u64,
         room: room.inner().to_vec(),
-        length: length as u64,
-        chunks: Vec::new(),
+        length: stored.length as u64,
+        chunks: chunks_given,
+        numbers: stored.numbers(case.call),
     };
     if !document.holds(&case.document) {
         return Err("the document or a byte beside it was changed".into());
@@ -61,17 +92,36 @@ pub fn call(case: &Case) -> Result<Answer, String> {
     Ok(answer)
 }
 
+/// All chunks of a body, each from the cursor that the one before gave back.
+fn chunks(body: &[u8]) -> Result<Vec<Chunk>, String> {
+    let mut chunks = Vec::new();
+    let (mut at, mut ticks) = (0, 0);
+    loop {
+        let mut stored = Stored::new(0);
+        let call = Call::NextChunk { at, ticks };
+        let which = number(call, body, &mut [], &mut stored);
+        let [after, start, len, width] = stored.numbers;
+        chunks.push(match (which, len, width) {
+            (0, 0, 0) => return Ok(chunks),
+            (1, ..) => Chunk::Raw { start, len, width },
+            (2, 0, 0) => Chunk::Paragraph { start },
+            (3, 0, 0) => Chunk::LineBreak { start },
+            (4, 1, 1) => Chunk::Space { start },
+            _ => return Err(format!("chunk {which} of length {len} and width {width}")),
+        });
+        (at, ticks) = (stored.at as u64, after as u32);
+        if chunks.len() > body.len() {
+            return Err(format!("more chunks than bytes: {chunks:?}"));
+        }
+    }
+}
+
 /// One call of the C interface, which has no split: the number that it returns.
 #[cfg(feature = "linked")]
-pub(crate) fn number(
-    call: Call,
-    document: &[u8],
-    room: &mut [u8],
-    length: &mut usize,
-    at: &mut usize,
-) -> u32 {
+pub(crate) fn number(call: Call, document: &[u8], room: &mut [u8], stored: &mut Stored) -> u32 {
     let (d, n) = (document.as_ptr(), document.len());
     let (r, r_len) = (room.as_mut_ptr(), room.len());
+    let Stored { at, length, numbers: [first, second, third, fourth] } = stored;
     // SAFETY: every pointer is of a live buffer with the length passed beside it, and no two
     // buffers overlap.
     unsafe {
@@ -98,11 +148,17 @@ pub(crate) fn number(
                 Operation::EmDoc => c::sefgrunn_em_doc(r, r_len, length, d, n, at),
             },
             Call::Split => unreachable!("the C interface has no split"),
+            Call::NextChunk { at: from, mut ticks } => {
+                *at = from as usize;
+                let number = c::sefgrunn_next_chunk(d, n, at, &mut ticks, second, third, fourth);
+                *first = ticks as usize;
+                number
+            }
         }
     }
 }
 
 #[cfg(not(feature = "linked"))]
-pub(crate) fn number(_: Call, _: &[u8], _: &mut [u8], _: &mut usize, _: &mut usize) -> u32 {
+pub(crate) fn number(_: Call, _: &[u8], _: &mut [u8], _: &mut Stored) -> u32 {
     unreachable!("asked only where the C interface is linked")
 }

@@ -1,5 +1,5 @@
-//! 01 read again: refusals with their numbers, places and order, the text of each renderer in a
-//! room, and the builder. Nothing here calls the kept Rust, so that `kept` can hold one beside the
+//! 01 read again, with 02's requests: refusals with their numbers, places and order, the text of each
+//! renderer in a room, and the builder. Nothing here calls the kept Rust, so that `kept` can hold one beside the
 //! other. Everything is read from bytes.
 
 /// A refusal: 01's number, and the place.
@@ -182,16 +182,25 @@ pub fn printing_order(records: &[Record]) -> String {
 pub const CODE: usize = 1_000_000;
 pub const TICKED: usize = 1_000_001;
 
+/// `start` is where in its body a chunk begins (02, point 2): at its first byte, or where an empty one
+/// would stand; a paragraph, a break and a line end's space at their first line end.
 #[derive(Debug, Clone, Copy, Eq, PartialEq)]
 pub enum Chunk {
-    /// `start` is `None` for the one space that a line end gives: it is no part of the body.
     Raw {
-        start: Option<usize>,
+        start: usize,
         len: usize,
         width: usize,
     },
-    Paragraph,
-    LineBreak,
+    /// The one space that a line end gives: it is no part of the body.
+    Space {
+        start: usize,
+    },
+    Paragraph {
+        start: usize,
+    },
+    LineBreak {
+        start: usize,
+    },
 }
 
 #[derive(Debug, Clone, Copy, Eq, PartialEq)]
@@ -212,8 +221,24 @@ impl Cursor {
     pub const START: Cursor = Cursor { at: 0, ticks: Ticks::Outside };
 }
 
+/// A cursor as the C interface has it: 0 outside ticks, 1 before the first line in ticks, any other
+/// number after it. A chunk's cursor is handed back with 0, 1 or 2.
+pub type PlainCursor = (u64, u32);
+
+/// The chunk at any cursor, and the cursor after it.
+pub fn next_chunk(body: &[u8], (at, ticks): PlainCursor) -> Option<(Chunk, PlainCursor)> {
+    let at = usize::try_from(at).ok()?;
+    let ticks = match ticks {
+        0 => Ticks::Outside,
+        1 => Ticks::FirstLine,
+        _ => Ticks::LaterLine,
+    };
+    let (chunk, after) = step(body, Cursor { at, ticks })?;
+    Some((chunk, (after.at as u64, after.ticks as u32)))
+}
+
 fn part(start: usize, end: usize, width: usize) -> Chunk {
-    Chunk::Raw { start: Some(start), len: end - start, width }
+    Chunk::Raw { start, len: end - start, width }
 }
 
 /// The chunk at a cursor and the cursor after it; `None` at or past the body's end.
@@ -239,15 +264,15 @@ pub fn step(body: &[u8], cursor: Cursor) -> Option<(Chunk, Cursor)> {
         let end = line_end(at + 5);
         (part(at + 5, end, CODE), outside(end))
     } else if rest.starts_with(b"\n\n```") {
-        (Chunk::Paragraph, Cursor { at: at + 2, ticks: Ticks::FirstLine })
+        (Chunk::Paragraph { start: at }, Cursor { at: at + 2, ticks: Ticks::FirstLine })
     } else if rest.starts_with(b"\n\n    ") {
-        (Chunk::Paragraph, outside(at + 1))
+        (Chunk::Paragraph { start: at }, outside(at + 1))
     } else if rest.starts_with(b"\n\n") {
-        (Chunk::Paragraph, outside(at + 2))
+        (Chunk::Paragraph { start: at }, outside(at + 2))
     } else if rest.starts_with(b"\n ") {
-        (Chunk::LineBreak, outside(at + 2))
+        (Chunk::LineBreak { start: at }, outside(at + 2))
     } else if rest[0] == b'\n' {
-        (Chunk::Raw { start: None, len: 1, width: 1 }, outside(at + 1))
+        (Chunk::Space { start: at }, outside(at + 1))
     } else if rest[0] == b' ' {
         (part(at, at + 1, 1), outside(at + 1))
     } else {
@@ -269,9 +294,13 @@ pub fn split(body: &[u8]) -> Vec<Chunk> {
     chunks
 }
 
-/// The bytes of a raw chunk.
-fn chunk_bytes(body: &[u8], start: Option<usize>, len: usize) -> &[u8] {
-    start.map_or(b" ", |start| &body[start..start + len])
+/// What a chunk writes and its width; `None` for a paragraph and a break.
+fn written(body: &[u8], chunk: Chunk) -> Option<(&[u8], usize)> {
+    match chunk {
+        Chunk::Raw { start, len, width } => Some((&body[start..start + len], width)),
+        Chunk::Space { .. } => Some((b" ", 1)),
+        Chunk::Paragraph { .. } | Chunk::LineBreak { .. } => None,
+    }
 }
 
 // ---------------------------------------------------------------------------------------------
@@ -433,9 +462,7 @@ fn misread_step(misread: Misreading, body: &[u8], cursor: Cursor) -> Option<(Chu
         Misreading::WholeBodyFirst => match cursor.at {
             _ if body.is_empty() => None,
             at if at == start => Some((part(start, end, characters(body)), outside(end))),
-            at if at == end => {
-                Some((Chunk::Raw { start: None, len: 1, width: 1 }, outside(end + 1)))
-            }
+            at if at == end => Some((Chunk::Space { start: end }, outside(end + 1))),
             _ => None,
         },
         _ => step(body, cursor),
@@ -454,7 +481,7 @@ struct Page<'t> {
 }
 
 impl Page<'_> {
-    /// One raw chunk of `width` columns from the record at `place`.
+    /// One chunk of `width` columns that begins at `place` of the document.
     fn chunk(&mut self, chunk: &[u8], width: usize, margin: usize, place: usize) -> Ruled<()> {
         if !self.text.bytes.is_empty() {
             if (self.line_due || self.blank_line_due) && !self.text.ends_with("\n") {
@@ -561,11 +588,12 @@ fn console(
                 while let Some((chunk, next)) = misread_step(misread, body, cursor) {
                     cursor = next;
                     match chunk {
-                        Chunk::Raw { start, len, width } => {
-                            page.chunk(chunk_bytes(body, start, len), width, margin, record.place)?;
+                        Chunk::Raw { start, .. } | Chunk::Space { start } => {
+                            let (bytes, width) = written(body, chunk).expect("it is written");
+                            page.chunk(bytes, width, margin, record.place + 6 + start)?;
                         }
-                        Chunk::LineBreak => page.line_end()?,
-                        Chunk::Paragraph => {
+                        Chunk::LineBreak { .. } => page.line_end()?,
+                        Chunk::Paragraph { .. } => {
                             page.line_end()?;
                             if !full {
                                 skip.0 = 1;
@@ -690,15 +718,13 @@ fn html(records: &[Record], full: bool, css: bool, strict: bool, text: &mut Text
                 let mut cursor = Cursor::START;
                 while let Some((chunk, next)) = step(record.body, cursor) {
                     cursor = next;
-                    match chunk {
-                        Chunk::Raw { start, len, .. } => {
-                            text.put(html_chunk(chunk_bytes(record.body, start, len), strict))?;
-                        }
-                        Chunk::Paragraph if !full => {
+                    match (written(record.body, chunk), chunk) {
+                        (Some((bytes, _)), _) => text.put(html_chunk(bytes, strict))?,
+                        (None, Chunk::Paragraph { .. }) if !full => {
                             skip.0 = 1;
                             break;
                         }
-                        Chunk::Paragraph | Chunk::LineBreak => text.put("<br>\n")?,
+                        (None, _) => text.put("<br>\n")?,
                     }
                 }
             }
@@ -785,36 +811,33 @@ fn markdown(records: &[Record], full: bool, text: &mut Text) -> Ruled<()> {
                 let mut cursor = Cursor::START;
                 while let Some((chunk, next)) = step(record.body, cursor) {
                     cursor = next;
-                    match chunk {
-                        Chunk::Raw { start, len, width } => {
-                            let bytes = chunk_bytes(record.body, start, len);
-                            match width {
-                                TICKED => {
-                                    new_line(text)?;
-                                    text.put([b"  ", bytes, b"\n"].concat())?;
-                                }
-                                CODE => {
-                                    text.put(if code { "" } else { "\n\n  ```text\n" })?;
-                                    text.put([b"  ", bytes, b"\n"].concat())?;
-                                    code = true;
-                                }
-                                _ => {
-                                    text.put(if code { "\n  ```\n" } else { "" })?;
-                                    code = false;
-                                    if mono > 0 {
-                                        text.put(bracketed(bytes))?;
-                                    } else {
-                                        text.put(bytes)?;
-                                    }
-                                }
+                    match (written(record.body, chunk), chunk) {
+                        (Some((bytes, TICKED)), _) => {
+                            new_line(text)?;
+                            text.put([b"  ", bytes, b"\n"].concat())?;
+                        }
+                        (Some((bytes, CODE)), _) => {
+                            text.put(if code { "" } else { "\n\n  ```text\n" })?;
+                            text.put([b"  ", bytes, b"\n"].concat())?;
+                            code = true;
+                        }
+                        (Some((bytes, _)), _) => {
+                            text.put(if code { "\n  ```\n" } else { "" })?;
+                            code = false;
+                            if mono > 0 {
+                                text.put(bracketed(bytes))?;
+                            } else {
+                                text.put(bytes)?;
                             }
                         }
-                        Chunk::Paragraph if !full => {
+                        (None, Chunk::Paragraph { .. }) if !full => {
                             skip.0 = 1;
                             break;
                         }
-                        Chunk::Paragraph => text.put(if in_list { "\n\n  " } else { "\n\n" })?,
-                        Chunk::LineBreak => text.put("\n")?,
+                        (None, Chunk::Paragraph { .. }) => {
+                            text.put(if in_list { "\n\n  " } else { "\n\n" })?
+                        }
+                        (None, _) => text.put("\n")?,
                     }
                 }
                 text.put(if code { "  ```\n" } else { "" })?;

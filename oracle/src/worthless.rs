@@ -4,7 +4,7 @@
 //! Each is as hard to tell as it can be: all but the first refuse exactly what 01 refuses, and are
 //! worthless only where a call is accepted.
 
-use crate::cases::{answer, Answer, Call, Case};
+use crate::cases::{answer, put_chunk, Answer, Call, Case};
 use crate::generate::{case, owed, Limits, Subject};
 use crate::rules::{characters, render_misread, Chunk, Misreading, Refusal, Renderer};
 
@@ -41,11 +41,11 @@ impl Worthless {
         use Subject::*;
         let renders = matches!(subject, Console | Html | HtmlStrict | Markdown | Roff);
         match self {
-            Worthless::RefusesAll => subject != Split,
+            Worthless::RefusesAll => !matches!(subject, Split | NextChunk),
             Worthless::OneStoredPage | Worthless::ClearedRoomLengthZero => renders,
             Worthless::BuilderChangesNothing => subject == Builder,
             Worthless::SplitterWholeBodyThenBlanks | Worthless::SplitterNoChunk => {
-                matches!(subject, Console | Split)
+                matches!(subject, Console | Split | NextChunk)
             }
             Worthless::UnrelatedLength => renders || subject == Builder,
         }
@@ -73,7 +73,7 @@ impl Worthless {
         let mut got = right.clone();
         match self {
             Worthless::RefusesAll => refuse(&mut got, case, Refusal { number, place: 0 }),
-            _ if right.number != 0 => {}
+            _ if right.number != 0 && !matches!(case.call, Call::NextChunk { .. }) => {}
             Worthless::OneStoredPage => show(&mut got, PAGE),
             Worthless::ClearedRoomLengthZero => show(&mut got, b""),
             Worthless::BuilderChangesNothing => {
@@ -129,11 +129,21 @@ fn split(got: &mut Answer, case: &Case, misread: Misreading) {
                 }
             }
         }
+        (Call::NextChunk { at, ticks }, _) => {
+            let chunk = match misread {
+                Misreading::WholeBodyFirst if at == 0 => {
+                    let whole = Chunk::Raw { start: 0, len: body.len(), width: characters(body) };
+                    Some((whole, (body.len() as u64, 0)))
+                }
+                _ => None,
+            };
+            put_chunk(got, (at, ticks), chunk);
+        }
         (_, Misreading::NoChunk) => (got.chunks, got.at) = (Vec::new(), 0),
         // as many chunks as there should be
         _ => {
-            let blank = Chunk::Raw { start: None, len: 1, width: 1 };
-            let whole = Chunk::Raw { start: Some(0), len: body.len(), width: characters(body) };
+            let blank = Chunk::Space { start: body.len() };
+            let whole = Chunk::Raw { start: 0, len: body.len(), width: characters(body) };
             got.chunks.fill(blank);
             got.chunks.first_mut().into_iter().for_each(|first| *first = whole);
         }
@@ -182,8 +192,8 @@ mod tests {
 
         let body = Case { call: Call::Split, document: b"a b".to_vec(), room: vec![], length: 0 };
         let got = Worthless::SplitterWholeBodyThenBlanks.answer(&body, &answer(&body), 0);
-        let blank = Chunk::Raw { start: None, len: 1, width: 1 };
-        let whole = Chunk::Raw { start: Some(0), len: 3, width: 3 };
+        let blank = Chunk::Space { start: 3 };
+        let whole = Chunk::Raw { start: 0, len: 3, width: 3 };
         assert_eq!((got.chunks, got.at), (vec![whole, blank, blank], 3));
     }
 }

@@ -3,6 +3,8 @@
 use std::io::Write;
 use std::process::{Command, Output, Stdio};
 
+use oracle::generate::Subject;
+
 fn oracle(arguments: &[&str], input: &[u8]) -> Output {
     let mut child = Command::new(env!("CARGO_BIN_EXE_oracle"))
         .args(arguments)
@@ -54,8 +56,7 @@ fn bad_arguments_print_usage() {
 /// A list is the same every time, and its case lengths lead from the first to the last byte.
 #[test]
 fn records_lists() {
-    for kind in ["check", "console", "html", "html_strict", "markdown", "roff", "builder", "split"]
-    {
+    for (_, kind) in Subject::ALL {
         let arguments = ["record", kind, "--seed", "5", "--cases", "50"];
         let list = oracle(&arguments, b"").stdout;
         assert_eq!(list, oracle(&arguments, b"").stdout);

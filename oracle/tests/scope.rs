@@ -130,7 +130,7 @@ fn sample_margin_of_fifty() {
     assert_eq!(shown(console(100), &document), " ".repeat(50) + "x");
     blocks.insert(0, Block::Section3);
     let document = made(|d| nested(d, &blocks, "x"));
-    assert_eq!(refusal(console(100), &document, ROOM), (10, 60));
+    assert_eq!(refusal(console(100), &document, ROOM), (10, 66));
 }
 
 #[test]
@@ -167,24 +167,23 @@ fn sample_tabstop() {
 // The chunk lists of splitter.rs, by `rules`; the kept splitter has them as its own tests
 
 fn raw(start: usize, len: usize, width: usize) -> Chunk {
-    Chunk::Raw { start: Some(start), len, width }
+    Chunk::Raw { start, len, width }
 }
 
 #[test]
 fn chunks_of_spaced_code() {
     let body = "a\n\n    a\n    b\n\ndf\n\n    c\n    d\n";
-    let line_end = Chunk::Raw { start: None, len: 1, width: 1 };
     let expected = [
         raw(0, 1, 1),
-        Chunk::Paragraph,
+        Chunk::Paragraph { start: 1 },
         raw(7, 1, rules::CODE),
         raw(13, 1, rules::CODE),
-        Chunk::Paragraph,
+        Chunk::Paragraph { start: 14 },
         raw(16, 2, 2),
-        Chunk::Paragraph,
+        Chunk::Paragraph { start: 18 },
         raw(24, 1, rules::CODE),
         raw(30, 1, rules::CODE),
-        line_end,
+        Chunk::Space { start: 31 },
     ];
     assert_eq!(run(Call::Split, body.as_bytes(), vec![], 0).chunks, expected);
 }
@@ -194,14 +193,14 @@ fn chunks_of_ticked_code() {
     let body = "a\n\n```text\na\nb\n```\n\ndf\n\n```\nc\nd\n```\n";
     let expected = [
         raw(0, 1, 1),
-        Chunk::Paragraph,
+        Chunk::Paragraph { start: 1 },
         raw(3, 7, rules::TICKED),
         raw(11, 1, rules::TICKED),
         raw(13, 1, rules::TICKED),
         raw(15, 3, rules::TICKED),
-        Chunk::Paragraph,
+        Chunk::Paragraph { start: 18 },
         raw(20, 2, 2),
-        Chunk::Paragraph,
+        Chunk::Paragraph { start: 22 },
         raw(24, 3, rules::TICKED),
         raw(28, 1, rules::TICKED),
         raw(30, 1, rules::TICKED),
@@ -213,7 +212,106 @@ fn chunks_of_ticked_code() {
 #[test]
 fn chunks_of_a_body_that_is_not_utf8() {
     let chunks = run(Call::Split, b"\xC3\x80\x80\xFF \xBF\n\n\x80", vec![], 0).chunks;
-    assert_eq!(chunks, [raw(0, 4, 2), raw(4, 1, 1), raw(5, 1, 0), Chunk::Paragraph, raw(8, 1, 0)]);
+    let paragraph = Chunk::Paragraph { start: 6 };
+    assert_eq!(chunks, [raw(0, 4, 2), raw(4, 1, 1), raw(5, 1, 0), paragraph, raw(8, 1, 0)]);
+}
+
+// 02, point 2: where a chunk begins
+
+/// Where the chunks of a body begin.
+fn starts(body: &str) -> Vec<usize> {
+    let start = |chunk: &Chunk| match *chunk {
+        Chunk::Raw { start, .. } | Chunk::Space { start } => start,
+        Chunk::Paragraph { start } | Chunk::LineBreak { start } => start,
+    };
+    run(Call::Split, body.as_bytes(), vec![], 0).chunks.iter().map(start).collect()
+}
+
+#[test]
+fn chunks_say_where_they_begin() {
+    assert_eq!(starts("é b"), [0, 2, 3]);
+    // a code line after its line end and four spaces; an empty one where it would stand
+    assert_eq!(starts("a\n    b"), [0, 6]);
+    assert_eq!(starts("a\n    \nb"), [0, 6, 6, 7]);
+    assert_eq!(starts("a\n    "), [0, 6]);
+    // a paragraph, a break and a line end's space at their first line end
+    assert_eq!(starts("a\n\nb"), [0, 1, 3]);
+    assert_eq!(starts("a\n b"), [0, 1, 3]);
+    assert_eq!(starts("a\nb"), [0, 1, 2]);
+    assert_eq!(starts("a\n\n    b"), [0, 1, 7]);
+    // lines in ticks at their start, empty ones too
+    assert_eq!(starts("\n\n```\n\nb\n```"), [0, 2, 6, 7, 9]);
+}
+
+/// One chunk at a cursor: which it is, the cursor after it, its start, length and width.
+fn next(body: &[u8], at: u64, ticks: u32) -> (u32, u64, Vec<u64>) {
+    let answer = run(Call::NextChunk { at, ticks }, body, vec![], 0);
+    (answer.number, answer.at, answer.numbers)
+}
+
+#[test]
+fn next_chunk_takes_any_cursor() {
+    assert_eq!(next(b"a\nb", 1, 0), (4, 2, vec![0, 1, 1, 1]));
+    assert_eq!(next(b"a\n\n```", 1, 0), (2, 3, vec![1, 1, 0, 0]));
+    assert_eq!(next(b"\n b", 0, 0), (3, 2, vec![0, 0, 0, 0]));
+    // the first line in ticks does not end them, a later one does, whatever number says so
+    assert_eq!(next(b"```\nb", 0, 1), (1, 4, vec![2, 0, 3, 1_000_001]));
+    assert_eq!(next(b"```\nb", 0, 2), (1, 4, vec![0, 0, 3, 1_000_001]));
+    assert_eq!(next(b"```\nb", 0, u32::MAX), (1, 4, vec![0, 0, 3, 1_000_001]));
+    // inside a character: its second byte counts none
+    assert_eq!(next("é".as_bytes(), 1, 0), (1, 2, vec![0, 1, 1, 0]));
+    // no further chunk: the cursor as given, all else 0
+    assert_eq!(next(b"a", 1, 7), (0, 1, vec![7, 0, 0, 0]));
+    assert_eq!(next(b"a", u64::MAX, 0), (0, u64::MAX, vec![0, 0, 0, 0]));
+    assert_eq!(next(b"", 0, 1), (0, 0, vec![1, 0, 0, 0]));
+}
+
+/// 10 is at the byte of the chunk that is too far from its margin. Nine bodies in, the margin is 54.
+#[test]
+fn refusal_10_is_at_the_chunk() {
+    // what `line` leaves of a body in nine ItemBody, from its first byte on
+    let at = |line: &str, body: &str, width: u64| {
+        let document = made(|d| nested(d.text(line), &[Block::ItemBody; 9], body));
+        let (number, place) = refusal(console(width), &document, ROOM);
+        assert_eq!(number, 10);
+        place as usize - (6 + line.len()) - 9 * 6 - 6
+    };
+    let far = "u".repeat(60);
+    // a word late in a body, after non-ASCII text; its last byte; its first
+    let pages = "é ".repeat(2_000);
+    assert_eq!(at(&far, &(pages.clone() + "\n x"), 10_000), pages.len() + 2);
+    assert_eq!(at(&far, "a b c\n x", 100), 7);
+    assert_eq!(at("", "x", 100), 0);
+    // a fold leaves the line
+    assert_eq!(at(&far, " a b", 64), 3);
+    // a code line, an empty one, an empty one at the body's end: there the next record starts
+    assert_eq!(at(&far, "a\n    b", 61), 6);
+    assert_eq!(at(&far, "a\n \n    \nb", 100), 8);
+    assert_eq!(at(&far, "a\n \n    ", 100), 8);
+    assert_eq!(at("", "\n    ", 100), 5);
+    // a line end's space at its line end; a space at itself
+    assert_eq!(at("", "\nx", 100), 0);
+    assert_eq!(at(&far, "a\n\n\nx", 100), 3);
+    assert_eq!(at(&far, "a\n  x", 100), 3);
+    // the first line in ticks
+    assert_eq!(at(&far, "a\n\n```\nb", 100), 3);
+}
+
+/// Places count in the record that is refused, not in the text joined.
+#[test]
+fn refusal_10_in_the_second_of_three_texts() {
+    let mut document = records(&[(1, &"u".repeat(60))]);
+    for _ in 0..9 {
+        put_record(&mut document, 0x0105, b"");
+    }
+    let from = document.len();
+    put_record(&mut document, 1, b"a ");
+    put_record(&mut document, 3, b"b\n c");
+    put_record(&mut document, 1, b"d");
+    for _ in 0..9 {
+        put_record(&mut document, 0x0205, b"");
+    }
+    assert_eq!(refusal(console(100), &document, ROOM), (10, (from + 8 + 6 + 3) as u64));
 }
 
 /// Every row of up to five of these pieces.
@@ -270,7 +368,7 @@ fn refusal_9_comes_after_1() {
 #[test]
 fn refusals_10_to_13() {
     let document = made(|d| nested(d, &[Block::ItemBody; 9], "x"));
-    assert_eq!(refusal(console(100), &document, ROOM), (10, 54));
+    assert_eq!(refusal(console(100), &document, ROOM), (10, 60));
     let meta = [0, 0, 0, 0, 0x0A, 1, 0, 0, 0, 0, 0x0A, 2];
     assert_eq!(refusal(HTML, &meta, ROOM), (11, 0));
     assert_eq!(refusal(STRICT, &meta, ROOM), (11, 0));
@@ -340,22 +438,22 @@ fn reading_1_line_ends_then_10_then_padding() {
     blocks.extend([Block::ItemBody; 9]);
     let document = made(|d| nested(d.text("a"), &blocks, "x"));
     assert_eq!(refusal(console(100), &document, 1), (13, 0));
-    assert_eq!(refusal(console(100), &document, 2), (10, 67));
+    assert_eq!(refusal(console(100), &document, 2), (10, 73));
     let document =
         made(|d| nested(d.text("a").within(Block::Block, |d| d), &[Block::ItemBody; 9], "x"));
     assert_eq!(refusal(console(0), &document, 2), (13, 0));
-    assert_eq!(refusal(console(0), &document, 3), (10, 73));
+    assert_eq!(refusal(console(0), &document, 3), (10, 79));
 }
 
 #[test]
 fn reading_2_which_chunks_give_10() {
     let deep = |body: &str| made(|d| nested(d, &[Block::Section3; 26], body));
-    assert_eq!(refusal(console(100), &deep("\n    "), ROOM), (10, 156));
+    assert_eq!(refusal(console(100), &deep("\n    "), ROOM), (10, 156 + 6 + 5));
     assert_eq!(shown(console(100), &deep("\n \n\n")), "\n\n\n");
     // the space is dropped by the fold, so its margin is not asked for
     let document = made(|d| nested(d.text("a"), &[Block::Section3; 26], " "));
     assert_eq!(shown(console(0), &document), "a\n\n");
-    assert_eq!(refusal(console(1), &document, ROOM), (10, 163));
+    assert_eq!(refusal(console(1), &document, ROOM), (10, 169));
 }
 
 #[test]

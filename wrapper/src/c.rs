@@ -11,6 +11,15 @@ extern "C" {
         room_len: usize,
         at: *mut usize,
     ) -> u32;
+    pub fn sefgrunn_next_chunk(
+        body: *const u8,
+        n: usize,
+        at: *mut usize,
+        ticks: *mut u32,
+        start: *mut usize,
+        length: *mut usize,
+        width: *mut usize,
+    ) -> u32;
     pub fn sefgrunn_html(
         document: *const u8,
         n: usize,

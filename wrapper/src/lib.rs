@@ -4,8 +4,9 @@
 //! makes one; [`check`] says whether bytes are one; [`console`], [`html`], [`html_strict`],
 //! [`markdown`] and [`roff`] write its text into a room that the caller lends, and the functions
 //! whose names end in `_string` do so into a `String`. Whatever the bytes, the width and the room
-//! are, the answer is a text or one [`Refusal`]. The library keeps nothing between calls, so any
-//! thread may call it. `docs/FORMAT.md` describes stored documents and what each renderer writes.
+//! are, the answer is a text or one [`Refusal`]. [`chunks`] takes a text apart as the renderers do.
+//! The library keeps nothing between calls, so any thread may call it. `docs/FORMAT.md` describes
+//! stored documents and what each renderer writes.
 //!
 //! ```
 //! use sefgrunn::{Block, Builder, Settings, Style};
@@ -63,7 +64,8 @@ pub enum Number {
     LeftOpen = 8,
     /// The width is over 10,000. Place 0.
     TooWide = 9,
-    /// A chunk misses more than 50 columns to its margin. Place of its text record.
+    /// A chunk misses more than 50 columns to its margin. Place of the chunk's first byte, or where an
+    /// empty chunk would stand.
     BeyondMargin = 10,
     /// Meta in HTML or Markdown, TermRef in roff. Place of the record.
     NoForm = 11,
@@ -292,6 +294,86 @@ pub fn markdown_string(document: &[u8], full: bool) -> Result<String, Refusal> {
 pub fn roff_string(document: &[u8]) -> Result<String, Refusal> {
     grown(|room| roff(document, room).map(str::len))
 }
+
+// ---------------------------------------------------------------------------------------------
+// The splitter
+
+/// The width of a code line, which follows a line end and four spaces.
+pub const WIDTH_CODE: usize = 1_000_000;
+/// The width of a line between lines of three backticks, these included.
+pub const WIDTH_TICKED: usize = 1_000_001;
+
+/// What a chunk of a text is.
+#[derive(Debug, Clone, Copy, PartialEq, Eq)]
+pub enum Piece<'t> {
+    /// A part of the text: a word, a space, a code line, a line in ticks.
+    Part {
+        /// Its bytes.
+        bytes: &'t [u8],
+        /// Its columns: characters of a word, or [`WIDTH_CODE`], or [`WIDTH_TICKED`].
+        width: usize,
+    },
+    /// An empty line.
+    Paragraph,
+    /// A line end before a space.
+    LineBreak,
+    /// One space, which stands for a line end and is no part of the text.
+    Space,
+}
+
+/// A chunk of a text.
+#[derive(Debug, Clone, Copy, PartialEq, Eq)]
+pub struct Chunk<'t> {
+    /// Where in the text it begins: a part at its first byte or, if it is empty, where it would
+    /// stand; the others at their first line end.
+    pub start: usize,
+    /// What it is.
+    pub piece: Piece<'t>,
+}
+
+/// The chunks of a text; see [`chunks`].
+#[derive(Debug, Clone)]
+pub struct Chunks<'t> {
+    text: &'t [u8],
+    at: usize,
+    ticks: u32,
+}
+
+/// Takes a text record's body apart as the renderers do. Any bytes are a body: where they are not
+/// UTF-8, each byte outside 0x80 to 0xBF counts as a character.
+///
+/// ```
+/// use sefgrunn::{chunks, Chunk, Piece};
+///
+/// let word = |start, text: &'static str, width| {
+///     Chunk { start, piece: Piece::Part { bytes: text.as_bytes(), width } }
+/// };
+/// let paragraph = Chunk { start: 2, piece: Piece::Paragraph };
+/// assert!(chunks("é\n\nport".as_bytes()).eq([word(0, "é", 1), paragraph, word(4, "port", 4)]));
+/// ```
+pub fn chunks(text: &[u8]) -> Chunks<'_> {
+    Chunks { text, at: 0, ticks: 0 }
+}
+
+impl<'t> Iterator for Chunks<'t> {
+    type Item = Chunk<'t>;
+
+    fn next(&mut self) -> Option<Chunk<'t>> {
+        let (which, start, length, width) =
+            linked::next_chunk(self.text, &mut self.at, &mut self.ticks);
+        let piece = match which {
+            0 => return None,
+            1 => Piece::Part { bytes: &self.text[start..start + length], width },
+            2 => Piece::Paragraph,
+            3 => Piece::LineBreak,
+            4 => Piece::Space,
+            _ => panic!("libsefgrunn.a answered {which}, which is no chunk"),
+        };
+        Some(Chunk { start, piece })
+    }
+}
+
+impl std::iter::FusedIterator for Chunks<'_> {}
 
 // ---------------------------------------------------------------------------------------------
 // The builder

@@ -1,4 +1,5 @@
-//! The functions of `include/sefgrunn.h`, each behind a safe one: number, and length or place.
+//! The functions of `include/sefgrunn.h`, each behind a safe one: number, and length or place, or what
+//! else it stores.
 //!
 //! Every call below meets what the header asks: each pointer is of a live slice (never null, also of
 //! an empty one) or of a local number, with the slice's own length beside it, and no two overlap,
@@ -81,6 +82,16 @@ pub fn em_doc(room: &mut [u8], length: &mut usize, added: &[u8]) -> (u32, usize)
     // SAFETY: see above.
     let number = unsafe { c::sefgrunn_em_doc(r, len, length, a, n, &mut place) };
     (number, place)
+}
+
+/// Which chunk there is, its start, length and width; the cursor is moved behind it.
+pub fn next_chunk(body: &[u8], at: &mut usize, ticks: &mut u32) -> (u32, usize, usize, usize) {
+    let (mut start, mut length, mut width) = (0, 0, 0);
+    let (b, n) = (body.as_ptr(), body.len());
+    // SAFETY: see above.
+    let which =
+        unsafe { c::sefgrunn_next_chunk(b, n, at, ticks, &mut start, &mut length, &mut width) };
+    (which, start, length, width)
 }
 
 /// Pointers and lengths of what is read and what is written, and a number for the answer.

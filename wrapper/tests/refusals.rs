@@ -55,7 +55,7 @@ fn of_renderers() {
     let far = nested(&[Block::ItemBody; 9], "x");
     assert_eq!(
         sefgrunn::console_string(&far, Settings::default()),
-        refusal(Number::BeyondMargin, 54)
+        refusal(Number::BeyondMargin, 60)
     );
     let meta = nested(&[Block::Meta], "x");
     let html = Html::default();

@@ -1,6 +1,9 @@
 //! The samples of document 01 ("01"), through the library, and what a room holds after a call.
 
-use sefgrunn::{Block, Builder, Html, Number, Refusal, Settings, Style, MOST_ROOM};
+use sefgrunn::{
+    Block, Builder, Chunk, Html, Number, Piece, Refusal, Settings, Style, MOST_ROOM, WIDTH_CODE,
+    WIDTH_TICKED,
+};
 
 const PREAMBLE: &str = ".ie \\n(.g .ds Aq \\(aq\n.el .ds Aq '\n";
 
@@ -117,6 +120,60 @@ fn man_pages() {
         b.open(Block::Block)?.close(Block::Block)
     });
     assert_eq!(sefgrunn::roff_string(&document).unwrap(), format!("{PREAMBLE}.SH A\\ .PP\n"));
+}
+
+/// The chunk lists of bpaf's splitter, with their places, and bodies that are not UTF-8.
+#[test]
+fn chunks_and_their_places() {
+    fn shown(body: &[u8]) -> Vec<(usize, &str, usize)> {
+        let shown = |chunk: Chunk<'_>| match chunk.piece {
+            Piece::Part { bytes, width } => {
+                let text = &body[chunk.start..chunk.start + bytes.len()];
+                assert_eq!(text.as_ptr(), bytes.as_ptr());
+                (chunk.start, if text.is_ascii() { "part" } else { "part beyond ASCII" }, width)
+            }
+            Piece::Paragraph => (chunk.start, "paragraph", 0),
+            Piece::LineBreak => (chunk.start, "break", 0),
+            Piece::Space => (chunk.start, "space", 1),
+        };
+        sefgrunn::chunks(body).map(shown).collect()
+    }
+    let paragraph = |start| (start, "paragraph", 0);
+    let part = |start, width| (start, "part", width);
+    assert_eq!(
+        shown(b"a\n\n    a\n    b\n\ndf\n c\n"),
+        [
+            part(0, 1),
+            paragraph(1),
+            part(7, WIDTH_CODE),
+            part(13, WIDTH_CODE),
+            paragraph(14),
+            part(16, 2),
+            (18, "break", 0),
+            part(20, 1),
+            (21, "space", 1),
+        ]
+    );
+    assert_eq!(
+        shown(b"\n\n```\n\n```\n\nb"),
+        [
+            paragraph(0),
+            part(2, WIDTH_TICKED),
+            part(6, WIDTH_TICKED),
+            part(7, WIDTH_TICKED),
+            paragraph(10),
+            part(12, 1),
+        ]
+    );
+    let beyond = |start, width| (start, "part beyond ASCII", width);
+    assert_eq!(
+        shown(b"\xC3\x80\x80\xFF \xBF\n\n\x80"),
+        [beyond(0, 2), part(4, 1), beyond(5, 0), paragraph(6), beyond(8, 0)]
+    );
+    let mut ended = sefgrunn::chunks(b"a\n    ");
+    assert_eq!(ended.by_ref().count(), 2);
+    assert_eq!(ended.next(), None);
+    assert_eq!(sefgrunn::chunks(b"").next(), None);
 }
 
 /// The text, then zeros; in a room that is too small only zeros.

@@ -23,8 +23,8 @@ use Rattle.records.specs.declared.Block.{Block}
 use Rattle.records.specs.declared.Style.{Style}
 use Rattle.records.specs.declared.Kind.the-variants as kind
 use Rattle.document.proofs.Walks.{Deep-at, deep-bound, deep-from, deep-less, deep-text, deep-start, deep-end, accepted-at-0, open-known, open-whole}
-use Rattle.splitter.specs.Split.{Chunk}
-use Rattle.splitter.specs.Answers.{chunkOf, chunksFrom, cursor, start}
+use Rattle.splitter.specs.Split as split
+use Rattle.splitter.specs.Answers.{chunkOf, placedOf, placedFrom, cursor, start as first}
 use Rattle.splitter.specs.declared.Cursor.{Cursor}
 use Rattle.splitter.specs.declared.Piece.{Piece}
 use Rattle.splitter.proofs.Steps.{split-start}
@@ -34,7 +34,7 @@ use Rattle.renderer.specs.declared.Rendered.{Rendered}
 use Rattle.renderer.specs.declared.Rendered.the-variants as rendered
 use Rattle.renderer.proofs.Shown.{shown-in, shown-out}
 use Rattle.renderer.proofs.Leads.{Leads, leads-start, leads-on, leads-out, leads-refused, leads-shown, records, turned, walk-record, walk-end, chunksThen, body-chunk, body-last, body-end}
-use Rattle.console_rules.specs.Console.{State, initial, blankLay, gapAhead, started, ended, measureOf, chunk, turn, finish, textBy}
+use Rattle.console_rules.specs.Console.{State, initial, blankLay, gapAhead, started, ended, measureOf, bodyChunk, turn, finish, textBy}
 use Rattle.console_rules.specs.declared.Settings.{Settings}
 use Rattle.console_rules.specs.declared.Lay.{Lay}
 use Rattle.console_chunks.specs.Shown.{held, told, Fits, Near, Nearby}
@@ -58,8 +58,8 @@ module _ (document : List ℕ) (set : Settings) (tab limit : ℕ) where
   whole = rest 0 initial
 
   -- what is left to do from a chunk of a body on, where the next record is at `next`
-  abbrev pub chunksRest : ℕ → ℕ → ℕ → List Chunk → State → Result (List ℕ)
-  chunksRest margin place next = chunksThen (set .full) (chunk (measureOf set) set limit margin place) (rest next)
+  abbrev pub chunksRest : ℕ → ℕ → ℕ → List split.Placed → State → Result (List ℕ)
+  chunksRest margin start next = chunksThen (set .full) (bodyChunk (measureOf set) set limit margin start) (rest next)
 
   rest-record : (at : ℕ) (h : Head) → Read document at h → at < length document → (s : State) → rest at s ≡ (turned (turn (measureOf set) set limit tab) document at h s >>= rest (h .next))
   rest-record at h r l s =
@@ -165,42 +165,42 @@ module _ (document : List ℕ) (set : Settings) (tab limit : ℕ) where
 
       -- text that is not: its chunks are left, and then the next record
       pub stand-text : (st : Style) (margin : ℕ) → h .kind ≡ kind.Text st → m .lay .skip ≤ 0 → margin ≡ top (take count margins)
-          → Leads whole (chunksRest margin at (h .next) (chunksFrom (part document (h .start) (h .stop)) start)) (held room (take count margins) m)
+          → Leads whole (chunksRest margin (h .start) (h .next) (placedFrom (part document (h .start) (h .stop)) first)) (held room (take count margins) m)
       unfolding turn
       stand-text st margin e k g =
-          leads-shown room (m .len .0) (take count margins) (m .lay) whole (rest at) (chunksRest margin at (h .next) (chunksFrom (part document (h .start) (h .stop)) start))
+          leads-shown room (m .len .0) (take count margins) (m .lay) whole (rest at) (chunksRest margin (h .start) (h .next) (placedFrom (part document (h .start) (h .stop)) first))
           (λ x. rest-record at h r l (page (take count margins) (m .lay) x)
           ∙ rw (e, g) (ap (λ (z : Result State). z >>= rest (h .next)) (if-false _ _ (le-ltb 0 (m .lay .skip) k)
-          ∙ ap (λ (cs : List Chunk). body (set .full) (chunk (measureOf set) set limit (top (take count margins)) at) cs (page (take count margins) (m .lay) x)) (split-start (part document (h .start) (h .stop)))))) (w .leads)
+          ∙ ap (λ (cs : List split.Placed). body (set .full) (bodyChunk (measureOf set) set limit (top (take count margins)) (h .start)) cs (page (take count margins) (m .lay) x)) (split-start (part document (h .start) (h .stop)))))) (w .leads)
 
-  -- Before a chunk of a body that starts at `start` and ends at `next`.
-  pub record Writing (x : List ℕ) (margin place next : ℕ) (kept room : List ℕ) (m : Mark) (c : Cursor) : Type 0 where
+  -- Before a chunk of a body that starts at `start` and ends at `next`. The six bytes before a body pay for the column of its last step.
+  pub record Writing (x : List ℕ) (margin start next : ℕ) (kept room : List ℕ) (m : Mark) (c : Cursor) : Type 0 where
     pub size : length room ≡ limit
-    pub leads : Leads whole (chunksRest margin place next (chunksFrom x c)) (held room kept m)
-    pub column : m .lay .column .0 ≤ 2_033_000 * (place + c .at)
+    pub leads : Leads whole (chunksRest margin start next (placedFrom x c)) (held room kept m)
+    pub column : m .lay .column .0 + 6 * 2_033_000 ≤ 2_033_000 * (start + c .at)
     pub skip : m .lay .skip ≤ 1
     pub short : c .at ≤ length x + 1
 
-  module _ (x : List ℕ) (margin place next : ℕ) (kept room : List ℕ) (m : Mark) (c : Cursor) (w : Writing x margin place next kept room m c) where
+  module _ (x : List ℕ) (margin start next : ℕ) (kept room : List ℕ) (m : Mark) (c : Cursor) (w : Writing x margin start next kept room m c) where
     -- no chunk is left
-    pub write-end : chunksFrom x c ≡ [] → Leads whole (rest next) (held room kept m)
+    pub write-end : placedFrom x c ≡ [] → Leads whole (rest next) (held room kept m)
     unfolding _>>=_
     write-end e =
-        leads-on whole (chunksRest margin place next (chunksFrom x c)) (held room kept m) (w .leads) gives (rest next) (held room kept m)
-        (λ s. body-end (set .full) (chunk (measureOf set) set limit margin place) (rest next) (chunksFrom x c) e s) (sym (bind-end (held room kept m)))
+        leads-on whole (chunksRest margin start next (placedFrom x c)) (held room kept m) (w .leads) gives (rest next) (held room kept m)
+        (λ s. body-end (set .full) (bodyChunk (measureOf set) set limit margin start) (rest next) (placedFrom x c) e s) (sym (bind-end (held room kept m)))
 
     -- words followed on their line
     pub write-words : (room′ : List ℕ) (m′ : Mark) (at′ : ℕ) → length room′ ≡ length room → Moves set margin x (c .code) room m (c .at) room′ m′ at′
-        → Writing x margin place next kept room′ m′ (cursor at′ (c .code))
+        → Writing x margin start next kept room′ m′ (cursor at′ (c .code))
     write-words room′ m′ at′ f v =
-        let some = body (set .full) (chunk (measureOf set) set limit margin place) in
-        let same : (held room′ kept m′ >>= some (chunksFrom x (cursor at′ (c .code)))) ≡ (held room kept m >>= some (chunksFrom x c)) =
-        subst (λ (n : ℕ). (held room′ kept m′ >>= onward set n margin place x at′ (c .code)) ≡ (held room kept m >>= onward set n margin place x (c .at) (c .code))) (w .size) (v .same place kept) in
+        let some = body (set .full) (bodyChunk (measureOf set) set limit margin start) in
+        let same : (held room′ kept m′ >>= some (placedFrom x (cursor at′ (c .code)))) ≡ (held room kept m >>= some (placedFrom x c)) =
+        subst (λ (n : ℕ). (held room′ kept m′ >>= onward set n margin start x at′ (c .code)) ≡ (held room kept m >>= onward set n margin start x (c .at) (c .code))) (w .size) (v .same start kept) in
         record {
           size = f ∙ w .size;
-          leads = bind-assoc (held room′ kept m′) (some (chunksFrom x (cursor at′ (c .code)))) (rest next)
+          leads = bind-assoc (held room′ kept m′) (some (placedFrom x (cursor at′ (c .code)))) (rest next)
               ∙ ap (λ (r : Result State). r >>= rest next) same
-              ∙ sym (bind-assoc (held room kept m) (some (chunksFrom x c)) (rest next))
+              ∙ sym (bind-assoc (held room kept m) (some (placedFrom x c)) (rest next))
               ∙ w .leads;
           column = omega (arith, v .near, v .order, w .column);
           skip = omega (arith, v .skip, w .skip);
@@ -209,28 +209,28 @@ module _ (document : List ℕ) (set : Settings) (tab limit : ℕ) where
 
     module _ (p : Piece) (d : Cursor) (t : Took x c p d) where
       -- a chunk was refused by 10
-      pub write-deep : (q : ℕ) → refused 10 q ≡ (held room kept m >>= chunk (measureOf set) set limit margin place (chunkOf x p)) → (b : Bool) → b ≡ last (set .full) (chunkOf x p) → whole ≡ refused 10 q
+      pub write-deep : (q : ℕ) → refused 10 q ≡ (held room kept m >>= bodyChunk (measureOf set) set limit margin start (placedOf x p)) → (b : Bool) → b ≡ last (set .full) (chunkOf x p) → whole ≡ refused 10 q
       write-deep q e true f =
-          leads-refused whole (chunksRest margin place next (chunksFrom x c)) (held room kept m) (w .leads) (chunk (measureOf set) set limit margin place (chunkOf x p)) (rest next) 10 q
-          (body-last (set .full) (chunk (measureOf set) set limit margin place) (rest next) (chunkOf x p) (chunksFrom x c) (chunksFrom x d) (t .chunks) (sym f)) (sym e)
+          leads-refused whole (chunksRest margin start next (placedFrom x c)) (held room kept m) (w .leads) (bodyChunk (measureOf set) set limit margin start (placedOf x p)) (rest next) 10 q
+          (body-last (set .full) (bodyChunk (measureOf set) set limit margin start) (rest next) (placedOf x p) (placedFrom x c) (placedFrom x d) (t .chunks) (sym f)) (sym e)
       write-deep q e false f =
-          leads-refused whole (chunksRest margin place next (chunksFrom x c)) (held room kept m) (w .leads) (chunk (measureOf set) set limit margin place (chunkOf x p)) (chunksRest margin place next (chunksFrom x d)) 10 q
-          (body-chunk (set .full) (chunk (measureOf set) set limit margin place) (rest next) (chunkOf x p) (chunksFrom x c) (chunksFrom x d) (t .chunks) (sym f)) (sym e)
+          leads-refused whole (chunksRest margin start next (placedFrom x c)) (held room kept m) (w .leads) (bodyChunk (measureOf set) set limit margin start (placedOf x p)) (chunksRest margin start next (placedFrom x d)) 10 q
+          (body-chunk (set .full) (bodyChunk (measureOf set) set limit margin start) (rest next) (placedOf x p) (placedFrom x c) (placedFrom x d) (t .chunks) (sym f)) (sym e)
 
-      module _ (room′ : List ℕ) (m′ : Mark) (f : length room′ ≡ length room) (e : held room′ kept m′ ≡ (held room kept m >>= chunk (measureOf set) set limit margin place (chunkOf x p)))
+      module _ (room′ : List ℕ) (m′ : Mark) (f : length room′ ≡ length room) (e : held room′ kept m′ ≡ (held room kept m >>= bodyChunk (measureOf set) set limit margin start (placedOf x p)))
           (near : Near (margin + 1_032_771) (m .lay) (m′ .lay)) where
         -- a chunk that ends the walk of its body
         pub write-last : last (set .full) (chunkOf x p) ≡ true → Leads whole (rest next) (held room′ kept m′)
         write-last g =
-            leads-on whole (chunksRest margin place next (chunksFrom x c)) (held room kept m) (w .leads) (chunk (measureOf set) set limit margin place (chunkOf x p)) (rest next) (held room′ kept m′)
-            (body-last (set .full) (chunk (measureOf set) set limit margin place) (rest next) (chunkOf x p) (chunksFrom x c) (chunksFrom x d) (t .chunks) g) e
+            leads-on whole (chunksRest margin start next (placedFrom x c)) (held room kept m) (w .leads) (bodyChunk (measureOf set) set limit margin start (placedOf x p)) (rest next) (held room′ kept m′)
+            (body-last (set .full) (bodyChunk (measureOf set) set limit margin start) (rest next) (placedOf x p) (placedFrom x c) (placedFrom x d) (t .chunks) g) e
 
         -- a chunk after which others may follow
-        pub write-on : last (set .full) (chunkOf x p) ≡ false → margin ≤ 1_000_000 → Writing x margin place next kept room′ m′ d
+        pub write-on : last (set .full) (chunkOf x p) ≡ false → margin ≤ 1_000_000 → Writing x margin start next kept room′ m′ d
         write-on g low = record {
           size = f ∙ w .size;
-          leads = leads-on whole (chunksRest margin place next (chunksFrom x c)) (held room kept m) (w .leads) (chunk (measureOf set) set limit margin place (chunkOf x p)) (chunksRest margin place next (chunksFrom x d)) (held room′ kept m′)
-              (body-chunk (set .full) (chunk (measureOf set) set limit margin place) (rest next) (chunkOf x p) (chunksFrom x c) (chunksFrom x d) (t .chunks) g) e;
+          leads = leads-on whole (chunksRest margin start next (placedFrom x c)) (held room kept m) (w .leads) (bodyChunk (measureOf set) set limit margin start (placedOf x p)) (chunksRest margin start next (placedFrom x d)) (held room′ kept m′)
+              (body-chunk (set .full) (bodyChunk (measureOf set) set limit margin start) (rest next) (placedOf x p) (placedFrom x c) (placedFrom x d) (t .chunks) g) e;
           column = omega (arith, near .0, w .column, t .further);
           skip = omega (arith, near .1, w .skip);
           short = t .short;
@@ -289,10 +289,10 @@ module _ (document : List ℕ) (set : Settings) (tab limit : ℕ) (room margins 
   body-few = omega (arith, part-short document (h .start) (h .stop), r .high, r .ends)
 
   -- before the first chunk
-  pub body-first : m .lay .skip ≤ 0 → Writing document set tab (length room) Body margin at (h .next) (take count margins) room m start
+  pub body-first : m .lay .skip ≤ 0 → Writing document set tab (length room) Body margin (h .start) (h .next) (take count margins) room m first
   body-first k =
-      subst (λ (n : ℕ). Writing document set tab n Body margin at (h .next) (take count margins) room m start) (sym (w .size))
-      (record { size = w .size; leads = stand-text document set tab limit room margins count m at w h r l st margin e k g; column = omega (arith, w .column); skip = omega arith; short = omega arith })
+      subst (λ (n : ℕ). Writing document set tab n Body margin (h .start) (h .next) (take count margins) room m first) (sym (w .size))
+      (record { size = w .size; leads = stand-text document set tab limit room margins count m at w h r l st margin e k g; column = omega (arith, w .column, open-whole (w .deep .here) r l .0); skip = omega arith; short = omega arith })
 
   -- the walk of the body is over; in the code the room's length stands for the limit
   stand-after : (room′ : List ℕ) (m′ : Mark) → length room′ ≡ length room
@@ -309,44 +309,44 @@ module _ (document : List ℕ) (set : Settings) (tab limit : ℕ) (room margins 
     shallow = record { each = λ i. omega (arith, w .shallow .each i, next-far document set tab limit room margins count m at w h r l) };
   }
 
-  module _ (room′ : List ℕ) (m′ : Mark) (c : Cursor) (v : Writing document set tab (length room) Body margin at (h .next) (take count margins) room′ m′ c) where
+  module _ (room′ : List ℕ) (m′ : Mark) (c : Cursor) (v : Writing document set tab (length room) Body margin (h .start) (h .next) (take count margins) room′ m′ c) where
     -- the column is far below what a number holds
     pub column-low : m′ .lay .column .0 ≤ 2 ^ 50
     column-low = omega (arith, v .column, v .short, body-few)
 
-    far : at + (length Body + 2) ≤ h .next
-    far = let o = open-whole (w .deep .here) r l in omega (arith, part-short document (h .start) (h .stop), o .0, r .order, r .ends)
+    far : h .start + length Body ≤ h .next
+    far = omega (arith, part-short document (h .start) (h .stop), r .order, r .ends)
 
     -- after the last chunk
-    pub body-done : chunksFrom Body c ≡ [] → Standing document set tab limit room′ margins count m′ (h .next)
+    pub body-done : placedFrom Body c ≡ [] → Standing document set tab limit room′ margins count m′ (h .next)
     body-done n =
         stand-after room′ m′ (v .size)
-        (write-end document set tab (length room) Body margin at (h .next) (take count margins) room′ m′ c v n) (omega (arith, v .column, v .short, far)) (v .skip)
+        (write-end document set tab (length room) Body margin (h .start) (h .next) (take count margins) room′ m′ c v n) (omega (arith, v .column, v .short, far)) (v .skip)
 
     module _ (p : Piece) (d : Cursor) (t : Took Body c p d) (room″ : List ℕ) (m″ : Mark) (f : length room″ ≡ length room′)
-        (q : held room″ (take count margins) m″ ≡ (held room′ (take count margins) m′ >>= chunk (measureOf set) set (length room′) margin at (chunkOf Body p)))
+        (q : held room″ (take count margins) m″ ≡ (held room′ (take count margins) m′ >>= bodyChunk (measureOf set) set (length room′) margin (h .start) (placedOf Body p)))
         (near : Near (margin + 1_032_771) (m′ .lay) (m″ .lay)) where
-      here : held room″ (take count margins) m″ ≡ (held room′ (take count margins) m′ >>= chunk (measureOf set) set (length room) margin at (chunkOf Body p))
-      here = q ∙ ap (λ (n : ℕ). held room′ (take count margins) m′ >>= chunk (measureOf set) set n margin at (chunkOf Body p)) (v .size)
+      here : held room″ (take count margins) m″ ≡ (held room′ (take count margins) m′ >>= bodyChunk (measureOf set) set (length room) margin (h .start) (placedOf Body p))
+      here = q ∙ ap (λ (n : ℕ). held room′ (take count margins) m′ >>= bodyChunk (measureOf set) set n margin (h .start) (placedOf Body p)) (v .size)
 
       -- a paragraph with `full` off ends the walk of its body
       pub body-stop : last (set .full) (chunkOf Body p) ≡ true → Standing document set tab limit room″ margins count m″ (h .next)
       body-stop b =
           stand-after room″ m″ (f ∙ v .size)
-          (write-last document set tab (length room) Body margin at (h .next) (take count margins) room′ m′ c v p d t room″ m″ f here near b)
+          (write-last document set tab (length room) Body margin (h .start) (h .next) (take count margins) room′ m′ c v p d t room″ m″ f here near b)
           (omega (arith, near .0, v .column, v .short, far, margin-low)) (omega (arith, near .1, v .skip))
 
       -- and other chunks may follow any other
-      pub body-on : last (set .full) (chunkOf Body p) ≡ false → Writing document set tab (length room) Body margin at (h .next) (take count margins) room″ m″ d
-      body-on b = write-on document set tab (length room) Body margin at (h .next) (take count margins) room′ m′ c v p d t room″ m″ f here near b margin-low
+      pub body-on : last (set .full) (chunkOf Body p) ≡ false → Writing document set tab (length room) Body margin (h .start) (h .next) (take count margins) room″ m″ d
+      body-on b = write-on document set tab (length room) Body margin (h .start) (h .next) (take count margins) room′ m′ c v p d t room″ m″ f here near b margin-low
 
     -- a chunk was refused by 10
-    pub body-deep : (p : Piece) (d : Cursor) → Took Body c p d → (q : ℕ) → refused 10 q ≡ (held room′ (take count margins) m′ >>= chunk (measureOf set) set (length room′) margin at (chunkOf Body p))
+    pub body-deep : (p : Piece) (d : Cursor) → Took Body c p d → (q : ℕ) → refused 10 q ≡ (held room′ (take count margins) m′ >>= bodyChunk (measureOf set) set (length room′) margin (h .start) (placedOf Body p))
         → whole document set tab limit ≡ refused 10 q
     body-deep p d t q f =
         ap (whole document set tab) (sym (w .size))
-        ∙ write-deep document set tab (length room) Body margin at (h .next) (take count margins) room′ m′ c v p d t q
-        (f ∙ ap (λ (n : ℕ). held room′ (take count margins) m′ >>= chunk (measureOf set) set n margin at (chunkOf Body p)) (v .size)) (last (set .full) (chunkOf Body p)) refl
+        ∙ write-deep document set tab (length room) Body margin (h .start) (h .next) (take count margins) room′ m′ c v p d t q
+        (f ∙ ap (λ (n : ℕ). held room′ (take count margins) m′ >>= bodyChunk (measureOf set) set n margin (h .start) (placedOf Body p)) (v .size)) (last (set .full) (chunkOf Body p)) refl
 
 -- The last line end: what stands then, and the answer
 module _ (room room′ kept : List ℕ) (m m′ : Mark) (e : held room′ kept m′ ≡ (held room kept m >>= finish (length room))) (f : length room′ ≡ length room) where

@@ -4,11 +4,11 @@ ghost use mathlib.Core.List.{List, []};
 ghost use Prim.Native.Nat.{ℕ, _+_, _≤_, _^_};
 ghost use lib.ListN.{length};
 ghost use Rattle.base.specs.Result.{gives, measured, _>>=_ as bind};
-ghost use Rattle.splitter.specs.Answers.{chunkOf, PieceWithin};
+ghost use Rattle.splitter.specs.Answers.{placedOf, PieceWithin};
 ghost use Rattle.records.specs.Records.{tokens};
 ghost use Rattle.document.specs.Document.{check};
 ghost use Rattle.renderer.specs.Rendered.{answered, filled};
-ghost use Rattle.console_rules.specs.Console.{blankLay, measureOf, chunk, textBy, console};
+ghost use Rattle.console_rules.specs.Console.{blankLay, measureOf, bodyChunk, textBy, console};
 ghost use Rattle.console_chunks.specs.Shown.{held, told, Nearby};
 ghost use Rattle.console_chunks.specs.Pieces.{textOr};
 ghost use Rattle.console.specs.Answers.{textAfter, Stands, Demand3, wide};
@@ -104,24 +104,24 @@ fn text_or<'a>(body: &'a [u8], space: &'a [u8], piece: Piece) -> &'a [u8]
 {
     match piece {
         Piece::Raw(from, to, _) => &body[from..to],
-        Piece::Space => space,
-        Piece::Paragraph => space,
-        Piece::LineBreak => space,
+        Piece::Space(_) => space,
+        Piece::Paragraph(_) => space,
+        Piece::LineBreak(_) => space,
     }
 }
 
-// A chunk of the body of the text record at `at`, at a margin: a piece as the splitter gives it.
+// A chunk of a body that starts at a place of the document, at a margin: a piece as the splitter gives it.
 fn put_piece(
     room: &mut [u8],
     m: Mark,
     margin: Columns,
-    at: usize,
+    start: usize,
     body: &[u8],
     piece: Piece,
     set: Settings,
 ) -> Placed
-    requires { ⌜ (m .lay .column .0 ≤ 2 ^ 50) × (margin .0 ≤ 2 ^ 50) × (length (now body) ≤ 32_768) × PieceWithin (length (now body)) piece ⌝ }
-    ensures { λ r. ⌜ ((kept : List ℕ) → told (now (room .exit)) kept r ≡ bind (held (now (room .entry)) kept m) (chunk (measureOf set) set (length (now (room .entry))) (margin .0) at (chunkOf (now (body .entry)) piece))) ⌝ }
+    requires { ⌜ (m .lay .column .0 ≤ 2 ^ 50) × (margin .0 ≤ 2 ^ 50) × (length (now body) ≤ 32_768) × (start ≤ 32_768) × PieceWithin (length (now body)) piece ⌝ }
+    ensures { λ r. ⌜ ((kept : List ℕ) → told (now (room .exit)) kept r ≡ bind (held (now (room .entry)) kept m) (bodyChunk (measureOf set) set (length (now (room .entry))) (margin .0) start (placedOf (now (body .entry)) piece))) ⌝ }
     ensures near { λ r. ⌜ Nearby (margin .0 + 1_032_771) (m .lay) r ⌝ }
 {
     if console_chunks::is_text(piece) {
@@ -129,7 +129,7 @@ fn put_piece(
             room,
             m,
             margin,
-            at,
+            start + splitter::place_of(piece),
             text_or(body, b" ", piece),
             console_chunks::width_of(piece),
             set,
@@ -152,7 +152,6 @@ fn walk(document: &[u8], set: Settings, tab: Columns, room: &mut [u8]) -> Render
             return Rendered::Refused(Refusal::NoRoom);
         }
         let h = records::record_at(document, at);
-        let place = at;
         let start = h.start;
         let stop = h.stop;
         let next = h.next;
@@ -198,7 +197,7 @@ fn walk(document: &[u8], set: Settings, tab: Columns, room: &mut [u8]) -> Render
                     ) else {
                         break 'chunks;
                     };
-                    let placed = put_piece(room, m, margin, place, body, piece, set);
+                    let placed = put_piece(room, m, margin, start, body, piece, set);
                     match placed {
                         Placed::Deep(p) => {
                             return Rendered::Refused(Refusal::BeyondMargin(p));

@@ -11,7 +11,7 @@ use Rattle.renderer.specs.Walk.{withLay, write}
 use Rattle.base.proofs.Results.{bind-end, bind-same}
 use Rattle.renderer.proofs.Shown.{shown-then, shown-changed}
 use Rattle.splitter.specs.Split.{Chunk, raw, paragraph, lineBreak}
-use Rattle.splitter.specs.Answers.{chunkOf, PieceWithin}
+use Rattle.splitter.specs.Answers.{chunkOf, placeOf, PieceWithin}
 use Rattle.splitter.specs.declared.Piece.{Piece}
 use Rattle.splitter.specs.declared.Piece.the-variants.{Raw, Space, Paragraph, LineBreak}
 use Rattle.console_rules.specs.Console.{State, skip, lineEnd, rawChunk, chunk, finish}
@@ -54,16 +54,23 @@ module _ (measure : List ℕ → ℕ) (set : Settings) (limit margin at : ℕ) (
 module _ (body : List ℕ) where
   pub piece-raw : (p : Piece) → isText p ≡ true → chunkOf body p ≡ raw (textOr body (0x20 ∷ []) p) (widthOf p)
   piece-raw (Raw from to width) e = refl
-  piece-raw Space e = refl
-  piece-raw Paragraph e = absurd (false≢true e)
-  piece-raw LineBreak e = absurd (false≢true e)
+  piece-raw (Space at) e = refl
+  piece-raw (Paragraph at) e = absurd (false≢true e)
+  piece-raw (LineBreak at) e = absurd (false≢true e)
 
   -- its width is small
   pub piece-narrow : (p : Piece) → PieceWithin (length body) p → widthOf p ≤ length body + 1_000_001
   piece-narrow (Raw from to width) w = w .2
-  piece-narrow Space w = omega arith
-  piece-narrow Paragraph w = omega arith
-  piece-narrow LineBreak w = omega arith
+  piece-narrow (Space at) w = omega arith
+  piece-narrow (Paragraph at) w = omega arith
+  piece-narrow (LineBreak at) w = omega arith
+
+  -- and it begins within its body, or at its end
+  pub piece-inside : (p : Piece) → PieceWithin (length body) p → placeOf p ≤ length body
+  piece-inside (Raw from to width) w = omega (arith, w .0, w .1)
+  piece-inside (Space at) w = omega (arith, w)
+  piece-inside (Paragraph at) w = omega (arith, w)
+  piece-inside (LineBreak at) w = omega (arith, w)
 
 -- the last line end
 module _ (room kept : List ℕ) (m : Mark) where

@@ -17,7 +17,8 @@ use Rattle.room.specs.Room.{seen}
 use Rattle.renderer.specs.Walk.{page, withOut, withLay, write, empty, shown}
 use Rattle.base.proofs.Results.{bind-end}
 use Rattle.renderer.proofs.Shown.{shown-in, shown-trim}
-use Rattle.console_rules.specs.Console.{State, column, isSpace, folds, lineEnd, dueLine, dueBlank, reach, pad, gap2, place, put, fold, rawChunk}
+use Rattle.splitter.specs.Split.{isSpace}
+use Rattle.console_rules.specs.Console.{State, column, folds, lineEnd, dueLine, dueBlank, reach, pad, gap2, place, put, fold, rawChunk}
 use Rattle.console_rules.specs.declared.Lay.{Lay}
 use Rattle.console_rules.specs.declared.Settings.{Settings}
 use Rattle.console_chunks.specs.declared.Mark.{Mark}

@@ -8,18 +8,18 @@ use Rattle.splitter.specs.declared.Piece.the-variants.{Raw, Space, Paragraph, L
 
 abbrev pub isText : Piece → Bool
 isText (Raw from to width) = true
-isText Space = true
-isText Paragraph = false
-isText LineBreak = false
+isText (Space at) = true
+isText (Paragraph at) = false
+isText (LineBreak at) = false
 
 abbrev pub textOr : List ℕ → List ℕ → Piece → List ℕ
 textOr body space (Raw from to width) = textOf body (Raw from to width)
-textOr body space Space = space
-textOr body space Paragraph = space
-textOr body space LineBreak = space
+textOr body space (Space at) = space
+textOr body space (Paragraph at) = space
+textOr body space (LineBreak at) = space
 
 abbrev pub widthOf : Piece → ℕ
 widthOf (Raw from to width) = width
-widthOf Space = 1
-widthOf Paragraph = 1
-widthOf LineBreak = 1
+widthOf (Space at) = 1
+widthOf (Paragraph at) = 1
+widthOf (LineBreak at) = 1

@@ -9,7 +9,8 @@ ghost use Rattle.white.specs.White.{trim};
 ghost use Rattle.splitter.specs.Split.{paragraph};
 ghost use Rattle.splitter.specs.Answers.{chunkOf, PieceWithin};
 ghost use Rattle.renderer.specs.Walk.{withOut};
-ghost use Rattle.console_rules.specs.Console.{isSpace, measureOf, folds, column, skip, lineEnd, dueLine, dueBlank, reach, gap2, place, put, rawChunk, chunk, finish};
+ghost use Rattle.splitter.specs.Split.{isSpace};
+ghost use Rattle.console_rules.specs.Console.{measureOf, folds, column, skip, lineEnd, dueLine, dueBlank, reach, gap2, place, put, rawChunk, chunk, finish};
 ghost use Rattle.console_chunks.specs.Shown.{held, told, Fits, Near, Nearby};
 ghost use Rattle.console_chunks.specs.Pieces.{isText, textOr, widthOf};
 use console_rules::Bytes;
@@ -229,7 +230,7 @@ pub fn folds_at(width: usize, column: Columns, bytes: Bytes) -> bool
     width - used < bytes.0
 }
 
-// A chunk of the text record at a place, at a margin. The rules' numbers have no bound: the promise is theirs where the column after the
+// A chunk at a place, at a margin. The rules' numbers have no bound: the promise is theirs where the column after the
 // chunk is one that the code can hold.
 pub fn place_chunk(
     room: &mut [u8],
@@ -287,9 +288,9 @@ pub fn is_text(piece: Piece) -> bool
 {
     match piece {
         Piece::Raw(_, _, _) => true,
-        Piece::Space => true,
-        Piece::Paragraph => false,
-        Piece::LineBreak => false,
+        Piece::Space(_) => true,
+        Piece::Paragraph(_) => false,
+        Piece::LineBreak(_) => false,
     }
 }
 
@@ -299,9 +300,9 @@ pub fn width_of(piece: Piece) -> Columns
 {
     match piece {
         Piece::Raw(_, _, width) => Columns(width),
-        Piece::Space => Columns(1),
-        Piece::Paragraph => Columns(1),
-        Piece::LineBreak => Columns(1),
+        Piece::Space(_) => Columns(1),
+        Piece::Paragraph(_) => Columns(1),
+        Piece::LineBreak(_) => Columns(1),
     }
 }
 
@@ -312,9 +313,9 @@ pub fn put_break(room: &mut [u8], m: Mark, piece: Piece, set: Settings) -> Place
 {
     match piece {
         Piece::Raw(_, _, _) => Placed::At(m),
-        Piece::Space => Placed::At(m),
-        Piece::Paragraph => Placed::At(put_paragraph(room, m, set)),
-        Piece::LineBreak => Placed::At(line_end(room, m)),
+        Piece::Space(_) => Placed::At(m),
+        Piece::Paragraph(_) => Placed::At(put_paragraph(room, m, set)),
+        Piece::LineBreak(_) => Placed::At(line_end(room, m)),
     }
 }
 

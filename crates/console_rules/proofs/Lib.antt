@@ -1,3 +1,4 @@
 pub mod PassedOver
 pub mod Misread
 pub mod Printed
+pub mod RecordPlaces

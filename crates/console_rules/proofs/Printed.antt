@@ -23,13 +23,13 @@ use Rattle.records.specs.declared.Block.the-variants as block
 use Rattle.records.specs.declared.Kind.{Kind}
 use Rattle.records.specs.declared.Kind.the-variants as kind
 use Rattle.document.proofs.Walks.{Sane, Sanes, check-sane}
-use Rattle.splitter.specs.Split.{Chunk, raw, paragraph, lineBreak, split}
+use Rattle.splitter.specs.Split.{Chunk, raw, paragraph, lineBreak, isSpace, Placed, split}
 use Rattle.splitter.proofs.Say.{said, Sound, split-say}
 use Rattle.room.specs.Room.{extended}
 use Rattle.renderer.specs.Walk.{withOut, withLay, write}
 use Rattle.skip.specs.Counter.{skipStart, skipEnd}
 use Rattle.renderer.proofs.Keeps.{walk-adds, body-says}
-use Rattle.console_rules.specs.Console.{State, column, initial, isSpace, lineEnd, dueLine, dueBlank, gap2, place, missing, reach, pad, put, fold, tick, outdent, started, ended, gapAhead, tabstop, rawChunk, chunk, turn, finish, narrow, measureOf, consoleBy, console}
+use Rattle.console_rules.specs.Console.{State, column, initial, lineEnd, dueLine, dueBlank, gap2, place, missing, reach, pad, put, fold, tick, outdent, started, ended, gapAhead, tabstop, rawChunk, chunk, bodyChunk, turn, finish, narrow, measureOf, consoleBy, console}
 use Rattle.console_rules.specs.declared.Settings.{Settings}
 
 -- a text fits the room, is UTF-8 and prints some characters, and nothing is skipped
@@ -185,15 +185,20 @@ module _ (measure : List ℕ → ℕ) (set : Settings) (room : ℕ) where
     chunk-shows margin p lineBreak x s v h = rw (append-nil x) (lineEnd-shows room x s h)
     chunk-shows margin p paragraph x s v h = all-bind (Shows room x) _ _ _ (lineEnd-shows room x s h) λ s₁ h₁. rw full (same room x s₁ h₁)
 
-    turn-shows : (tab p : ℕ) (k : Kind) (y : List ℕ) (ts : List Token) (x : List ℕ) (s : State) → Sane k y → Shows room x s
-        → All (Shows room (x ++ adds k y)) (turn measure set room tab p k y ts s)
+    bodyChunk-shows : (margin start : ℕ) (c : Placed) (x : List ℕ) (s : State) → Sound (c .chunk) → Shows room x s
+        → All (Shows room (x ++ said (c .chunk))) (bodyChunk measure set room margin start c s)
+    bodyChunk-shows margin start c x s v h = chunk-shows margin (start + c .place) (c .chunk) x s v h
+
+    turn-shows : (tab p q : ℕ) (k : Kind) (y : List ℕ) (ts : List Token) (x : List ℕ) (s : State) → Sane k y → Shows room x s
+        → All (Shows room (x ++ adds k y)) (turn measure set room tab p q k y ts s)
     unfolding turn adds
-    turn-shows tab p (kind.Text st) y ts x s v h =
+    turn-shows tab p q (kind.Text st) y ts x s v h =
         pick (All (Shows room (x ++ printing y))) _ (λ e. absurd (false≢true (rw (h .kept) at e)))
-        (λ _. body-says (Shows room) (set .full) full (chunk measure set room (top (s .kept)) p) (chunk-shows (top (s .kept)) p) (split y) (printing y) x s (split-say y v) h)
-    turn-shows tab p (kind.Start b) y ts x s v h = started-shows room tab b (gapAhead ts) p y x s h
-    turn-shows tab p (kind.End b) y ts x s v h = ended-shows room b p y x s h
-    turn-shows tab p kind.Unknown y ts x s v h = same room x s h
+        (λ _. body-says (Shows room) (set .full) full (bodyChunk measure set room (top (s .kept)) q) (bodyChunk-shows (top (s .kept)) q)
+        (split y) (printing y) x s (split-say y v) h)
+    turn-shows tab p q (kind.Start b) y ts x s v h = started-shows room tab b (gapAhead ts) p y x s h
+    turn-shows tab p q (kind.End b) y ts x s v h = ended-shows room b p y x s h
+    turn-shows tab p q kind.Unknown y ts x s v h = same room x s h
 
     finish-shows : (x : List ℕ) (s : State) → Shows room x s → All (Shows room x) (finish room s)
     unfolding finish
@@ -216,7 +221,10 @@ consoleBy-prints measure set room s t full e =
     all-bind (λ _. Sanes (tokens 0 0 s)) P _ _ (check-sane s) λ _ v.
     let Q : State → Type 0 = Shows room (order (tokens 0 0 s)) in
     all-bind Q P _ _
-    (all-bind Q Q _ _ (walk-adds (Shows room) (turn measure set room (tabstop (tokens 0 0 s))) (λ t. turn-shows measure set room full _ (t .place) (t .kind) (t .body)) (tokens 0 0 s) [] initial v (initial-shows room)) (finish-shows measure set room full _)) λ st k.
+    (all-bind Q Q _ _
+    (walk-adds (Shows room) (turn measure set room (tabstop (tokens 0 0 s)))
+    (λ t. turn-shows measure set room full _ (t .place) (t .start) (t .kind) (t .body)) (tokens 0 0 s) [] initial v (initial-shows room))
+    (finish-shows measure set room full _)) λ st k.
     given (k .fit, k .valid, k .shown) in
     is-given (rw e at h)
 

@@ -16,7 +16,7 @@ use Rattle.records.specs.declared.Block.{Block}
 use Rattle.records.specs.declared.Block.the-variants as block
 use Rattle.records.specs.declared.Kind.{Kind}
 use Rattle.records.specs.declared.Kind.the-variants as kind
-use Rattle.splitter.specs.Split.{Chunk, raw, paragraph, lineBreak, split}
+use Rattle.splitter.specs.Split.{Chunk, raw, paragraph, lineBreak, isSpace, Placed, split}
 use Rattle.renderer.specs.Walk.{Page, withOut, withKept, withLay, write, empty, Turn, walk, body}
 use Rattle.skip.specs.Counter.{hides, skipParagraph, skipStart, skipEnd}
 use Rattle.console_rules.specs.declared.Settings.{Settings}
@@ -105,12 +105,6 @@ gap x y l = record { column = l .column; newline = l .newline; blank = l .blank;
 
 -- Tests.
 
--- 'a chunk that is just one space'
-unfoldable pub isSpace : List ℕ → Bool
-isSpace [] = false
-isSpace (b ∷ []) = eqb b 0x20
-isSpace (b ∷ c ∷ s) = false
-
 -- What a chunk counts for in the fold test, by the settings: 'the chunk's bytes'. It is said here alone: the rules below leave it open.
 abbrev pub measureOf : Settings → List ℕ → ℕ
 measureOf set x = length x
@@ -156,7 +150,7 @@ module _ (room : ℕ) where
     unfoldable pub reach : State → Result State
     reach s = write room (replicate (missing s) 0x20) (withLay (λ l. column (max (l .column .0) margin) l) s)
 
-    -- refusal 10: 'a chunk to be printed misses more than 50 columns to its margin'; p is the place of its record
+    -- refusal 10: 'a chunk to be printed misses more than 50 columns to its margin'; p is the place of the chunk
     unfoldable pub pad : ℕ → State → Result State
     pad p s = if ltb 50 (missing s) then refused 10 p else reach s
 
@@ -225,7 +219,7 @@ narrow width = if ltb 10_000 width then refused 9 0 else gives width
 -- Records. What a chunk counts for in the fold test is left open.
 
 module _ (measure : List ℕ → ℕ) (set : Settings) (room : ℕ) where
-  -- a text chunk, of the text record at place p; 'The fold test, made only once something has been written'
+  -- a text chunk at place p; 'The fold test, made only once something has been written'
   unfoldable pub rawChunk : ℕ → ℕ → List ℕ → ℕ → State → Result State
   rawChunk margin p x w s =
       if empty (s .out) then put room margin p x w s else
@@ -233,18 +227,23 @@ module _ (measure : List ℕ → ℕ) (set : Settings) (room : ℕ) where
       dueBlank room s₁ >>= λ s₂.
       if folds (set .width) (s₂ .lay .column) (record { 0 = measure x }) then fold room margin p x w s₂ else put room margin p x w s₂)
 
-  -- a chunk of the text record at place p; 'a paragraph with `full` off sets it to 1'
+  -- a chunk at place p; 'a paragraph with `full` off sets it to 1'
   unfoldable pub chunk : ℕ → ℕ → Chunk → State → Result State
   chunk margin p (raw x w) s = rawChunk margin p x w s
   chunk margin p lineBreak s = lineEnd room s
   chunk margin p paragraph s = lineEnd room s >>= λ s₁. gives (if set .full then s₁ else withLay (λ l. skip (skipParagraph (l .skip)) l) s₁)
 
+  -- a chunk of a body that starts at a place: '10's place becomes the document offset of that chunk's first byte, or, for an empty chunk, the
+  -- offset where it would stand'
+  abbrev pub bodyChunk : ℕ → ℕ → Placed → State → Result State
+  bodyChunk margin start c = chunk margin (start + c .place) (c .chunk)
+
   -- a record, with the tabstop; text is passed over while the skip counter is over 0
   unfoldable pub turn : ℕ → Turn State
-  turn tab p (kind.Text st) x ts s = if hides (s .lay .skip) then gives s else body (set .full) (chunk (top (s .kept)) p) (split x) s
-  turn tab p (kind.Start b) x ts s = started room tab b (gapAhead ts) s
-  turn tab p (kind.End b) x ts s = ended room b s
-  turn tab p kind.Unknown x ts s = gives s
+  turn tab p q (kind.Text st) x ts s = if hides (s .lay .skip) then gives s else body (set .full) (bodyChunk (top (s .kept)) q) (split x) s
+  turn tab p q (kind.Start b) x ts s = started room tab b (gapAhead ts) s
+  turn tab p q (kind.End b) x ts s = ended room b s
+  turn tab p q kind.Unknown x ts s = gives s
 
   -- the text of some records, with a tabstop
   abbrev pub textBy : ℕ → List Token → Result (List ℕ)

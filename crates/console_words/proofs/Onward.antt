@@ -104,11 +104,12 @@ module _ (set : Settings) (x old : List ℕ) (len col at : ℕ) (new : List ℕ)
     quiet-on margin lay q d = record { newline = q .newline; blank = q .blank; gutter = q .gutter; reached = omega (arith, q .reached, o .grows) }
 
     word-there : (t : Task) (kept : List ℕ) (lay : Lay) → Plain col t lay
-        → ruleOf set t (length new) (raw text (w .width)) (page kept (column col′ lay) (take len′ new)) ≡ gives (page kept (column (col′ + w .width) lay) (take len′ new ++ text))
+        → ruleOf set t (length new) (record { place = at′; chunk = raw text (w .width) }) (page kept (column col′ lay) (take len′ new))
+        ≡ gives (page kept (column (col′ + w .width) lay) (take len′ new ++ text))
     unfolding chunk
     word-there t kept lay p =
         let k : length (take len′ new) ≡ len′ = length-take-le len′ new (omega (arith, c .fits h)) in
-        raw-there (length new) (t .margin) (t .place) text (w .width) kept (column col′ lay) (take len′ new) (quiet-on (t .margin) lay (p .quiet) (p .here))
+        raw-there (length new) (t .margin) (t .start + at′) text (w .width) kept (column col′ lay) (take len′ new) (quiet-on (t .margin) lay (p .quiet) (p .here))
         (omega (arith, c .fits h, long)) (measureOf set) set
         (empty-some new len′ (λ z. omega (arith, o .some)) (omega (arith, c .fits h))) (omega (arith, counts text long))
 
@@ -151,5 +152,5 @@ module _ (set : Settings) (margin : ℕ) (x : List ℕ) (c : Code) (old : List �
     skip = refl;
     same = λ p kept.
         rw (r .outside)
-        (o .words .same (record { margin = margin; place = p }) kept (m .lay) (record { quiet = r .quiet; here = refl }));
+        (o .words .same (record { margin = margin; start = p }) kept (m .lay) (record { quiet = r .quiet; here = refl }));
   }

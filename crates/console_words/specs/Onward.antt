@@ -5,21 +5,21 @@ use mathlib.Core.Bool.{Bool, true, false}
 use mathlib.Core.List.{List}
 use lib.ListN.{length}
 use Rattle.base.specs.Result.{Result, _>>=_}
-use Rattle.splitter.specs.Split.{Chunk}
-use Rattle.splitter.specs.Answers.{chunksFrom, cursor}
+use Rattle.splitter.specs.Split.{Placed}
+use Rattle.splitter.specs.Answers.{placedFrom, cursor}
 use Rattle.splitter.specs.declared.Code.{Code}
 use Rattle.splitter.specs.declared.Code.the-variants as code
 use Rattle.renderer.specs.Walk.{body}
 use Rattle.words.specs.Onward as words
-use Rattle.console_rules.specs.Console.{State, column, measureOf, chunk}
+use Rattle.console_rules.specs.Console.{State, column, measureOf, bodyChunk}
 use Rattle.console_rules.specs.declared.Settings.{Settings}
 use Rattle.console_rules.specs.declared.Lay.{Lay}
 use Rattle.console_chunks.specs.Shown.{held}
 use Rattle.console_chunks.specs.declared.Mark.{Mark}
 
--- the chunks of a body from a cursor on, as the console writes them
+-- the chunks of a body that starts at a place, from a cursor on, as the console writes them
 abbrev pub onward : Settings → ℕ → ℕ → ℕ → List ℕ → ℕ → Code → State → Result State
-onward set limit margin place x at c = body (set .full) (chunk (measureOf set) set limit margin place) (chunksFrom x (cursor at c))
+onward set limit margin start x at c = body (set .full) (bodyChunk (measureOf set) set limit margin start) (placedFrom x (cursor at c))
 
 -- nothing is due, and no column is missing to the margin
 pub record Quiet (margin : ℕ) (l : Lay) : Type 0 where
@@ -28,16 +28,16 @@ pub record Quiet (margin : ℕ) (l : Lay) : Type 0 where
   pub gutter : l .gutter ≡ false
   pub reached : margin ≤ l .column .0
 
--- what a chunk is written by, beside the settings: the margin, and the place of the text record
+-- what a chunk is written by, beside the settings: the margin, and where its body starts
 pub record Task : Type 0 where
   pub margin : ℕ
-  pub place : ℕ
+  pub start : ℕ
 
 abbrev pub fullOf : Settings → Task → Bool
 fullOf set t = set .full
 
-abbrev pub ruleOf : Settings → Task → ℕ → Chunk → State → Result State
-ruleOf set t limit = chunk (measureOf set) set limit (t .margin) (t .place)
+abbrev pub ruleOf : Settings → Task → ℕ → Placed → State → Result State
+ruleOf set t limit = bodyChunk (measureOf set) set limit (t .margin) (t .start)
 
 -- nothing is due, and this is the column
 pub record Plain (col : ℕ) (t : Task) (l : Lay) : Type 0 where
@@ -69,5 +69,5 @@ pub record Moves (set : Settings) (margin : ℕ) (x : List ℕ) (c : Code) (old 
   pub within : at ≤ length x + 1 → at′ ≤ length x + 1
   pub near : m′ .lay .column .0 ≤ m .lay .column .0 + (at′ - at)
   pub skip : m′ .lay .skip ≡ m .lay .skip
-  pub same : (place : ℕ) (kept : List ℕ)
-      → (held new kept m′ >>= onward set (length old) margin place x at′ c) ≡ (held old kept m >>= onward set (length old) margin place x at c)
+  pub same : (start : ℕ) (kept : List ℕ)
+      → (held new kept m′ >>= onward set (length old) margin start x at′ c) ≡ (held old kept m >>= onward set (length old) margin start x at c)

@@ -17,7 +17,7 @@ use Rattle.records.specs.declared.Style.the-variants as style
 use Rattle.records.specs.declared.Block.{Block}
 use Rattle.records.specs.declared.Kind.the-variants as kind
 use Rattle.splitter.specs.Split.{Chunk, raw, paragraph, lineBreak, split}
-use Rattle.renderer.specs.Walk.{withOut, withLay, page, write, last, body}
+use Rattle.renderer.specs.Walk.{withOut, withLay, page, write, last, anywhere, body}
 use Rattle.skip.specs.Counter.{hides, skipStart, skipEnd}
 use Rattle.html_rules.specs.Marks.{separated}
 use Rattle.html_rules.specs.Html.{State, styled, skip, inList, startTag, endTag, br, change, blankLine, tagged, enter, leave, chunk, turn, finish}
@@ -48,7 +48,7 @@ module _ (limit p : ℕ) (b : Block) (tag : List ℕ) where
         bind-same (lift (closed limit st) s) (tagged limit p b tag) (λ _. refused 11 p) (λ t. if-true _ _ (eq-eqb (index b) 10 e))
         ∙ sym (bind-assoc (closed limit st (s .out)) (λ y. gives (withOut y s)) (λ _. refused 11 p))
 
-module _ (limit : ℕ) (strict full : Bool) (p : ℕ) (y : List ℕ) (ts : List Token) (kept : List ℕ) (lay : Html) (x : List ℕ) where
+module _ (limit : ℕ) (strict full : Bool) (p q : ℕ) (y : List ℕ) (ts : List Token) (kept : List ℕ) (lay : Html) (x : List ℕ) where
   abbrev here : State
   here = page kept lay x
 
@@ -61,7 +61,7 @@ module _ (limit : ℕ) (strict full : Bool) (p : ℕ) (y : List ℕ) (ts : List 
     left z = page (popped kept) (record { style = style.Text; skip = skipEnd b (lay .skip) }) z
 
     pub start-is : (index b ≡ 10 → ⊥)
-        → turn limit strict full p (kind.Start b) y ts here ≡ (blockText limit (lay .style) b (startTag (inList kept) b) x >>= λ z. gives (entered z))
+        → turn limit strict full p q (kind.Start b) y ts here ≡ (blockText limit (lay .style) b (startTag (inList kept) b) x >>= λ z. gives (entered z))
     unfolding turn change write enter _>>=_
     start-is n =
         ap (λ (r : Result State). r >>= λ s₁. gives (enter limit b s₁)) (block-is limit p b (startTag (inList kept) b) (lay .style)
@@ -70,29 +70,29 @@ module _ (limit : ℕ) (strict full : Bool) (p : ℕ) (y : List ℕ) (ts : List 
         (λ s₁. gives (enter limit b s₁)))
 
     pub end-is : (index b ≡ 10 → ⊥)
-        → turn limit strict full p (kind.End b) y ts here ≡ (blockText limit (lay .style) b (endTag (inList (popped kept)) b) x >>= λ z. gives (left z))
+        → turn limit strict full p q (kind.End b) y ts here ≡ (blockText limit (lay .style) b (endTag (inList (popped kept)) b) x >>= λ z. gives (left z))
     unfolding turn change write leave
     end-is n = block-is limit p b (endTag (inList (popped kept)) b) (lay .style) (withLay (styled style.Text) (leave limit b here)) n
 
-    pub start-meta : index b ≡ 10 → turn limit strict full p (kind.Start b) y ts here ≡ (closed limit (lay .style) x >>= λ _. refused 11 p)
+    pub start-meta : index b ≡ 10 → turn limit strict full p q (kind.Start b) y ts here ≡ (closed limit (lay .style) x >>= λ _. refused 11 p)
     unfolding turn change write
     start-meta e =
         ap (λ (r : Result State). r >>= λ s₁. gives (enter limit b s₁)) (meta-is limit p b (startTag (inList kept) b) (lay .style)
         (withLay (styled style.Text) here) e)
         ∙ refuses (closed limit (lay .style) x) 11 p (λ s₁. gives (enter limit b s₁))
 
-    pub end-meta : index b ≡ 10 → turn limit strict full p (kind.End b) y ts here ≡ (closed limit (lay .style) x >>= λ _. refused 11 p)
+    pub end-meta : index b ≡ 10 → turn limit strict full p q (kind.End b) y ts here ≡ (closed limit (lay .style) x >>= λ _. refused 11 p)
     unfolding turn change write leave
     end-meta e = meta-is limit p b (endTag (inList (popped kept)) b) (lay .style) (withLay (styled style.Text) (leave limit b here)) e
 
   module _ (st : Style) where
     -- text that is hidden, and text that is not
-    pub hidden-is : hides (lay .skip) ≡ true → turn limit strict full p (kind.Text st) y ts here ≡ gives here
+    pub hidden-is : hides (lay .skip) ≡ true → turn limit strict full p q (kind.Text st) y ts here ≡ gives here
     unfolding turn
     hidden-is h = if-true _ _ h
 
-    pub text-is : hides (lay .skip) ≡ false → turn limit strict full p (kind.Text st) y ts here
-        ≡ (change limit st here >>= body full (chunk limit strict full) (split y))
+    pub text-is : hides (lay .skip) ≡ false → turn limit strict full p q (kind.Text st) y ts here
+        ≡ (change limit st here >>= body full (anywhere (chunk limit strict full)) (split y))
     unfolding turn
     text-is h = if-false _ _ h
 

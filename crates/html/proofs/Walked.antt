@@ -23,11 +23,11 @@ use Rattle.records.specs.declared.Kind.the-variants as kind
 use Rattle.records.specs.declared.Head.{Head}
 use Rattle.document.proofs.Walks.{Accepted-at, accepted-at-0, check-gives, open-known, text-next, array-start, array-end}
 use Rattle.splitter.specs.Split.{split}
-use Rattle.splitter.specs.Answers.{chunkOf, chunksFrom, start}
+use Rattle.splitter.specs.Answers.{chunkOf, placedFrom, start}
 use Rattle.splitter.specs.declared.Cursor.{Cursor}
 use Rattle.splitter.specs.declared.Piece.{Piece}
 use Rattle.splitter.proofs.Answers.{Took}
-use Rattle.renderer.specs.Walk.{page, withLay, write, shown, last, walk, body}
+use Rattle.renderer.specs.Walk.{page, withLay, write, shown, last, anywhere, walk, body}
 use Rattle.skip.specs.Counter.{hides, skipParagraph, skipStart, skipEnd}
 use Rattle.skip.specs.Answers.{held}
 use Rattle.skip.proofs.Counter.{held-fits, skip-start-most, skip-end-most}
@@ -75,7 +75,7 @@ module _ (limit : ℕ) (strict full : Bool) (sheet tags document : List ℕ) whe
   -- the chunks of a body from a cursor on are left, and then the records from a place on
   pub record InBody (room : List ℕ) (at len : ℕ) (lay : Html) (kept y : List ℕ) (c : Cursor) : Type 0 where
     pub few : lay .skip ≤ at
-    pub leads : Leads whole (chunksThen full (chunk limit strict full) (rest at) (chunksFrom y c)) (shown room len kept lay)
+    pub leads : Leads whole (chunksThen full (anywhere (chunk limit strict full)) (rest at) (placedFrom y c)) (shown room len kept lay)
 
   -- a chunk that goes on
   pub body-on : {room : List ℕ} {at len : ℕ} {lay : Html} {kept y : List ℕ} {c : Cursor} → InBody room at len lay kept y c
@@ -102,7 +102,7 @@ module _ (limit : ℕ) (strict full : Bool) (sheet tags document : List ℕ) whe
         → (tags ≡ allTags → told ≡ (seen room len >>= λ x. closed (length room) (lay .style) x >>= extended (length room) sheet)) → told ≡ whole
     on-end told h w =
         walking.rest-end (turn limit strict full) (finish limit sheet) document whole at room len kept lay (o .leads) told
-        (λ x. closed limit (lay .style) x >>= extended limit sheet) h (λ x. finish-is limit strict full at [] [] kept lay x sheet)
+        (λ x. closed limit (lay .style) x >>= extended limit sheet) h (λ x. finish-is limit strict full at at [] [] kept lay x sheet)
         (w (o .table) ∙ ap (λ (m : ℕ). seen room len >>= λ x. closed m (lay .style) x >>= extended m sheet) (o .same))
 
     -- a record was read here
@@ -113,7 +113,7 @@ module _ (limit : ℕ) (strict full : Bool) (sheet tags document : List ℕ) whe
       further : at + 1 ≤ h .next
       further = walking.further (turn limit strict full) (finish limit sheet) document whole at room len kept lay (o .leads) r l
 
-      by-kind : (k : Kind) → h .kind ≡ k → (s : State) → Turned s ≡ turn limit strict full at k (part document (h .start) (h .stop))
+      by-kind : (k : Kind) → h .kind ≡ k → (s : State) → Turned s ≡ turn limit strict full at (h .start) k (part document (h .start) (h .stop))
           (tokensFrom document (h .next)) s
       by-kind = walking.by-kind (turn limit strict full) (finish limit sheet) document whole at room len kept lay (o .leads) r l
 
@@ -145,9 +145,9 @@ module _ (limit : ℕ) (strict full : Bool) (sheet tags document : List ℕ) whe
           go : (k : Kind) → h .kind ≡ k → isMeta k ≡ true → told ≡ whole
           go (kind.Text s) e t = cc
           go (kind.Start b) e t =
-              meta told (λ x. by-kind (kind.Start b) e (page kept lay x) ∙ start-meta limit strict full at _ _ kept lay x b (eqb-true (index b) 10 t)) w
+              meta told (λ x. by-kind (kind.Start b) e (page kept lay x) ∙ start-meta limit strict full at _ _ _ kept lay x b (eqb-true (index b) 10 t)) w
           go (kind.End b) e t =
-              meta told (λ x. by-kind (kind.End b) e (page kept lay x) ∙ end-meta limit strict full at _ _ kept lay x b (eqb-true (index b) 10 t)) w
+              meta told (λ x. by-kind (kind.End b) e (page kept lay x) ∙ end-meta limit strict full at _ _ _ kept lay x b (eqb-true (index b) 10 t)) w
           go kind.Unknown e t = cc
 
       module _ {b : Block} where
@@ -177,7 +177,7 @@ module _ (limit : ℕ) (strict full : Bool) (sheet tags document : List ℕ) whe
                   (walking.turn-leads (turn limit strict full) (finish limit sheet) document whole at room len kept lay (o .leads) r l
                   (blockText limit (lay .style) b (startTag (inList kept) b)) new n _ _
                   (λ x. by-kind (kind.Start b) e (page kept lay x)
-                  ∙ start-is limit strict full at _ _ kept lay x b (eqb-false (index b) 10 (ap isMeta (sym e) ∙ m)))
+                  ∙ start-is limit strict full at _ _ _ kept lay x b (eqb-false (index b) 10 (ap isMeta (sym e) ∙ m)))
                   (tagged b new _ n _ refl w));
             }
 
@@ -204,7 +204,7 @@ module _ (limit : ℕ) (strict full : Bool) (sheet tags document : List ℕ) whe
                   (walking.turn-leads (turn limit strict full) (finish limit sheet) document whole at room len kept lay (o .leads) r l
                   (blockText limit (lay .style) b (endTag (inList (popped kept)) b)) new n _ _
                   (λ x. by-kind (kind.End b) e (page kept lay x)
-                  ∙ end-is limit strict full at _ _ kept lay x b (eqb-false (index b) 10 (ap isMeta (sym e) ∙ m)))
+                  ∙ end-is limit strict full at _ _ _ kept lay x b (eqb-false (index b) 10 (ap isMeta (sym e) ∙ m)))
                   (tagged b new _ n _ (ap (λ (y : List ℕ). endTag (inList y) b) t) w));
             }
 
@@ -229,7 +229,7 @@ module _ (limit : ℕ) (strict full : Bool) (sheet tags document : List ℕ) whe
             on-text room len lay (o .same) (omega (arith, o .few, further))
             (walking.turn-leads (turn limit strict full) (finish limit sheet) document whole at room len kept lay (o .leads) r l gives room len kept lay
             (λ x. by-kind (kind.Text st) e (page kept lay x)
-            ∙ hidden-is limit strict full at _ _ kept lay x st z)
+            ∙ hidden-is limit strict full at _ _ _ kept lay x st z)
             (sym (bind-end (seen room len))))
 
         -- the style has changed, and the chunks of the body are left
@@ -243,12 +243,12 @@ module _ (limit : ℕ) (strict full : Bool) (sheet tags document : List ℕ) whe
               few = omega (arith, o .few, further);
               leads = rw u
                   (walking.turn-begins (turn limit strict full) (finish limit sheet) document whole at room len kept lay (o .leads) r l
-                  (change limit st) (chunksThen full (chunk limit strict full) (rest (h .next)) (split y)) (shown new n kept (styled st lay))
+                  (change limit st) (chunksThen full (anywhere (chunk limit strict full)) (rest (h .next)) (split y)) (shown new n kept (styled st lay))
                   (λ x.
                   ap (λ (q : Result State). q >>= rest (h .next))
                   (by-kind (kind.Text st) e (page kept lay x)
-                  ∙ text-is limit strict full at _ _ kept lay x st z
-                  ∙ ap (λ (b : List ℕ). change limit st (page kept lay x) >>= body full (chunk limit strict full) (split b)) (sym g))
+                  ∙ text-is limit strict full at _ _ _ kept lay x st z
+                  ∙ ap (λ (b : List ℕ). change limit st (page kept lay x) >>= body full (anywhere (chunk limit strict full)) (split b)) (sym g))
                   ∙ sym (bind-assoc (change limit st (page kept lay x)) _ (rest (h .next))))
                   (shown-write (withLay (styled st)) kept kept lay (styled st lay) (λ x. refl) limit room new len n (closing (lay .style) ++ opening st)
                   (w (o .table) ∙ ap (λ (c : ℕ). seen room len >>= extended c (closing (lay .style) ++ opening st)) (o .same))
@@ -258,7 +258,7 @@ module _ (limit : ℕ) (strict full : Bool) (sheet tags document : List ℕ) whe
 
         -- the chunks are done, or one ended the walk of the body
         module _ {y new : List ℕ} {n : ℕ} {l₁ : Html} {c : Cursor} (s : length new ≡ limit) (i : InBody new (h .next) n l₁ kept y c) where
-          pub on-done : chunksFrom y c ≡ [] → On new (h .next) n l₁ stack depth
+          pub on-done : placedFrom y c ≡ [] → On new (h .next) n l₁ stack depth
           on-done f =
               on-text new n l₁ s (i .few) (chunks-done full (chunk limit strict full) (rest (h .next)) whole y c (shown new n kept l₁) (i .leads) f)
 

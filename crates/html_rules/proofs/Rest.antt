@@ -15,11 +15,11 @@ use Rattle.records.specs.Answers.{Read}
 use Rattle.records.specs.declared.Kind.{Kind}
 use Rattle.records.specs.declared.Head.{Head}
 use Rattle.splitter.specs.Split.{Chunk}
-use Rattle.splitter.specs.Answers.{chunkOf, chunksFrom}
+use Rattle.splitter.specs.Answers.{chunkOf, placedOf, placedFrom}
 use Rattle.splitter.specs.declared.Cursor.{Cursor}
 use Rattle.splitter.specs.declared.Piece.{Piece}
 use Rattle.splitter.proofs.Answers.{Took}
-use Rattle.renderer.specs.Walk.{Page, page, shown, Turn, last}
+use Rattle.renderer.specs.Walk.{Page, page, shown, Turn, last, anywhere}
 use Rattle.renderer.proofs.Shown.{shown-out, shown-bind, shown-then, shown-by}
 use Rattle.renderer.proofs.Leads.{Leads, leads-on, leads-out, leads-same, leads-shown, records, turned, walk-record, walk-end, chunksThen, body-chunk, body-last, body-end}
 use Rattle.html_rules.proofs.Lifts.{refuses}
@@ -57,8 +57,9 @@ module _ {L : Type 0} (turn : Turn (Page L)) (finish : Page L → Result (List �
         further = omega (arith, r .low l, r .order)
 
         -- its turn, by the kind that the code found
-        pub by-kind : (k : Kind) → h .kind ≡ k → (s : Page L) → Turned s ≡ turn at k (part document (h .start) (h .stop)) (tokensFrom document (h .next)) s
-        by-kind k e s = ap (λ (k : Kind). turn at k (part document (h .start) (h .stop)) (tokensFrom document (h .next)) s) e
+        pub by-kind : (k : Kind) → h .kind ≡ k → (s : Page L)
+            → Turned s ≡ turn at (h .start) k (part document (h .start) (h .stop)) (tokensFrom document (h .next)) s
+        by-kind k e s = ap (λ (k : Kind). turn at (h .start) k (part document (h .start) (h .stop)) (tokensFrom document (h .next)) s) e
 
         -- a turn that is a rule on the text beside a change
         pub turn-leads : (rule : List ℕ → Result (List ℕ)) (new : List ℕ) (n : ℕ) (kept′ : List ℕ) (lay′ : L)
@@ -90,20 +91,20 @@ module _ {L : Type 0} (turn : Turn (Page L)) (finish : Page L → Result (List �
 
 -- the chunks of a body from a cursor on are left, and then what follows the body
 module _ {L : Type 0} (full : Bool) (chunk : Chunk → Page L → Result (Page L)) (after : Page L → Result (List ℕ)) (whole : Result (List ℕ))
-    (y : List ℕ) (c : Cursor) (shown : Result (Page L)) (leads : Leads whole (chunksThen full chunk after (chunksFrom y c)) shown) where
+    (y : List ℕ) (c : Cursor) (shown : Result (Page L)) (leads : Leads whole (chunksThen full (anywhere chunk) after (placedFrom y c)) shown) where
   module _ {p : Piece} {d : Cursor} (t : Took y c p d) (shown′ : Result (Page L)) (e : shown′ ≡ (shown >>= chunk (chunkOf y p))) where
     -- a chunk that goes on
-    pub chunks-on : last full (chunkOf y p) ≡ false → Leads whole (chunksThen full chunk after (chunksFrom y d)) shown′
+    pub chunks-on : last full (chunkOf y p) ≡ false → Leads whole (chunksThen full (anywhere chunk) after (placedFrom y d)) shown′
     chunks-on f =
         leads-on whole _ shown leads (chunk (chunkOf y p)) _ shown′
-        (body-chunk full chunk after (chunkOf y p) (chunksFrom y c) (chunksFrom y d) (t .chunks) f) e
+        (body-chunk full (anywhere chunk) after (placedOf y p) (placedFrom y c) (placedFrom y d) (t .chunks) f) e
 
     -- one that ends the walk of its body
     pub chunks-stop : last full (chunkOf y p) ≡ true → Leads whole after shown′
     chunks-stop f =
         leads-on whole _ shown leads (chunk (chunkOf y p)) after shown′
-        (body-last full chunk after (chunkOf y p) (chunksFrom y c) (chunksFrom y d) (t .chunks) f) e
+        (body-last full (anywhere chunk) after (placedOf y p) (placedFrom y c) (placedFrom y d) (t .chunks) f) e
 
   -- no chunk is left
-  pub chunks-done : chunksFrom y c ≡ [] → Leads whole after shown
-  chunks-done e = leads-same whole _ shown leads after (body-end full chunk after (chunksFrom y c) e)
+  pub chunks-done : placedFrom y c ≡ [] → Leads whole after shown
+  chunks-done e = leads-same whole _ shown leads after (body-end full (anywhere chunk) after (placedFrom y c) e)

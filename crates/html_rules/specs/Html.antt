@@ -16,7 +16,7 @@ use Rattle.records.specs.declared.Block.{Block}
 use Rattle.records.specs.declared.Block.the-variants as block
 use Rattle.records.specs.declared.Kind.the-variants as kind
 use Rattle.splitter.specs.Split.{Chunk, raw, paragraph, lineBreak, split}
-use Rattle.renderer.specs.Walk.{Page, withOut, withKept, withLay, write, Turn, walk, body}
+use Rattle.renderer.specs.Walk.{Page, withOut, withKept, withLay, write, Turn, anywhere, walk, body}
 use Rattle.skip.specs.Counter.{hides, skipParagraph, skipStart, skipEnd}
 use Rattle.html_rules.specs.Marks.{separated, escapedBy}
 use Rattle.html_rules.specs.declared.Html.{Html}
@@ -149,10 +149,10 @@ module _ (room : ℕ) where
 
     -- a record: 'It hides text only'
     unfoldable pub turn : Turn State
-    turn p (kind.Text st) x ts s = if hides (s .lay .skip) then gives s else (change st s >>= body full chunk (split x))
-    turn p (kind.Start b) x ts s = change style.Text s >>= tagged p b (startTag (inList (s .kept)) b) >>= λ s₁. gives (enter b s₁)
-    turn p (kind.End b) x ts s = change style.Text (leave b s) >>= tagged p b (endTag (inList (popped (s .kept))) b)
-    turn p kind.Unknown x ts s = gives s
+    turn p q (kind.Text st) x ts s = if hides (s .lay .skip) then gives s else (change st s >>= body full (anywhere chunk) (split x))
+    turn p q (kind.Start b) x ts s = change style.Text s >>= tagged p b (startTag (inList (s .kept)) b) >>= λ s₁. gives (enter b s₁)
+    turn p q (kind.End b) x ts s = change style.Text (leave b s) >>= tagged p b (endTag (inList (popped (s .kept))) b)
+    turn p q kind.Unknown x ts s = gives s
 
     -- the text of some records with or without the style sheet, whatever form they are stored in
     abbrev pub htmlOn : Bool → List Token → Result (List ℕ)

@@ -14,7 +14,7 @@ use Rattle.records.specs.declared.Block.{Block}
 use Rattle.records.specs.declared.Block.the-variants as block
 use Rattle.records.specs.declared.Kind.the-variants as kind
 use Rattle.splitter.specs.Split.{Chunk, raw, paragraph, lineBreak, split}
-use Rattle.renderer.specs.Walk.{Page, withOut, withLay, write, Turn, walk, body}
+use Rattle.renderer.specs.Walk.{Page, withOut, withLay, write, Turn, anywhere, walk, body}
 use Rattle.skip.specs.Counter.{hides, skipParagraph, skipStart, skipEnd}
 use Rattle.html_rules.specs.Marks.{separated, escapedBy}
 use Rattle.html_rules.specs.declared.Markdown.{Markdown}
@@ -243,10 +243,10 @@ module _ (room : ℕ) where
 
     -- a record: 'It hides text only'
     unfoldable pub turn : Turn State
-    turn p (kind.Text st) x ts s = if hides (s .lay .skip) then gives s else (change st s >>= body full chunk (split x) >>= bodyEnds)
-    turn p (kind.Start b) x ts s = change style.Text s >>= started p b ts
-    turn p (kind.End b) x ts s = change style.Text s >>= ended p b
-    turn p kind.Unknown x ts s = gives s
+    turn p q (kind.Text st) x ts s = if hides (s .lay .skip) then gives s else (change st s >>= body full (anywhere chunk) (split x) >>= bodyEnds)
+    turn p q (kind.Start b) x ts s = change style.Text s >>= started p b ts
+    turn p q (kind.End b) x ts s = change style.Text s >>= ended p b
+    turn p q kind.Unknown x ts s = gives s
 
     -- the text of some records, whatever form they are stored in
     abbrev pub markdownOn : List Token → Result (List ℕ)

@@ -63,13 +63,13 @@ module _ (strict : Bool) where
     pub chunk-raw : {from to width : ℕ} → p ≡ Raw from to width → (y : List ℕ) → y ≡ textOf body p → escaped strict y ≡ chunkText strict (chunkOf body p)
     chunk-raw e y f = rw (f, e)
 
-    pub chunk-space : p ≡ Space → 0x20 ∷ [] ≡ chunkText strict (chunkOf body p)
+    pub chunk-space : {at : ℕ} → p ≡ Space at → 0x20 ∷ [] ≡ chunkText strict (chunkOf body p)
     chunk-space e = rw e (space-kept strict)
 
-    pub chunk-paragraph : p ≡ Paragraph → 0x3C ∷ 0x62 ∷ 0x72 ∷ 0x3E ∷ 0x0A ∷ [] ≡ chunkText strict (chunkOf body p)
+    pub chunk-paragraph : {at : ℕ} → p ≡ Paragraph at → 0x3C ∷ 0x62 ∷ 0x72 ∷ 0x3E ∷ 0x0A ∷ [] ≡ chunkText strict (chunkOf body p)
     chunk-paragraph e = rw e br-is
 
-    pub chunk-break : p ≡ LineBreak → 0x3C ∷ 0x62 ∷ 0x72 ∷ 0x3E ∷ 0x0A ∷ [] ≡ chunkText strict (chunkOf body p)
+    pub chunk-break : {at : ℕ} → p ≡ LineBreak at → 0x3C ∷ 0x62 ∷ 0x72 ∷ 0x3E ∷ 0x0A ∷ [] ≡ chunkText strict (chunkOf body p)
     chunk-break e = rw e br-is
 
 -- the same tag, said otherwise

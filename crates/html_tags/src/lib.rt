@@ -178,8 +178,8 @@ pub fn put_chunk(room: &mut [u8], len: usize, body: &[u8], piece: Piece, strict:
 {
     match piece {
         Piece::Raw(_, _, _) => put_text(room, len, splitter::text_of(body, piece), strict),
-        Piece::Space => room::put(room, len, b' '),
-        Piece::Paragraph => room::put_all(room, len, b"<br>\n"),
-        Piece::LineBreak => room::put_all(room, len, b"<br>\n"),
+        Piece::Space(_) => room::put(room, len, b' '),
+        Piece::Paragraph(_) => room::put_all(room, len, b"<br>\n"),
+        Piece::LineBreak(_) => room::put_all(room, len, b"<br>\n"),
     }
 }

@@ -116,8 +116,8 @@ seen-then room len f g h =
     (le-or-lt len (length room))
 
 -- a token's pieces were pushed: its turn
-module _ (limit p : ℕ) (k : Kind) (x : List ℕ) (ts : List Token) (l : Locals) (o : Outcome) (gave : token p k x l ≡ gives o) where
-  turn-writes : (w : Written) → length (w .out) ≤ limit → turn limit p k x ts (state l w)
+module _ (limit p q : ℕ) (k : Kind) (x : List ℕ) (ts : List Token) (l : Locals) (o : Outcome) (gave : token p k x l ≡ gives o) where
+  turn-writes : (w : Written) → length (w .out) ≤ limit → turn limit p q k x ts (state l w)
       ≡ (extended limit (escapeAll (w .fresh) (o .pushed)) (w .out) >>= λ y. gives (state (o .after) (record { out = y; fresh = lineAfter (w .fresh) (o .pushed) })))
   unfolding turn writes _>>=_
   turn-writes w h =
@@ -126,7 +126,7 @@ module _ (limit p : ℕ) (k : Kind) (x : List ℕ) (ts : List Token) (l : Locals
       ∙ sym (bind-assoc (extended limit (escapeAll (w .fresh) (o .pushed)) (w .out)) _ _)
 
   turn-made : (old new : List ℕ) (m r : Mark) → length old ≡ limit → Followed (o .pushed) (o .after .strip) old m new r
-      → marked new r (o .after) ≡ (marked old m l >>= turn limit p k x ts)
+      → marked new r (o .after) ≡ (marked old m l >>= turn limit p q k x ts)
   unfolding marked _>>=_
   turn-made old new m r size f =
       let rest : Bool → List ℕ → Result State = λ b y. gives (state (o .after) (record { out = y; fresh = b })) in
@@ -135,7 +135,7 @@ module _ (limit p : ℕ) (k : Kind) (x : List ℕ) (ts : List Token) (l : Locals
       ap₂ (λ (t : Result (List ℕ)) (b : Bool). t >>= rest b) (f .text ∙ ap (λ (n : ℕ). seen old (m .len) >>= extended n bytes) size) (f .line)
       ∙ sym (bind-assoc (seen old (m .len)) (extended limit bytes) (rest after))
       ∙ sym (seen-then old (m .len) _ _ (λ y h. turn-writes (record { out = y; fresh = m .fresh }) (omega (arith, size))))
-      ∙ bind-assoc (seen old (m .len)) _ (turn limit p k x ts)
+      ∙ bind-assoc (seen old (m .len)) _ (turn limit p q k x ts)
 
 -- The whole
 
@@ -224,7 +224,7 @@ module _ {limit : ℕ} {document room : List ℕ} {m : Mark} {on : Bool} {f at :
     leads = leads-on (whole limit document) (records (turn limit) document at) (marked room m here) (t .leads)
         (turned (turn limit) document at h) (records (turn limit) document (h .next)) (marked room′ m′ _) (walk-record (turn limit) document at h (t .reads) (t .inside))
         (ap (marked room′ m′) (λ i. record { strip = w .strip i; kept = sym kept i; capture = sym c i })
-        ∙ turn-made limit at (h .kind) body (tokensFrom document (h .next)) here q e room room′ m m′ (t .same) w);
+        ∙ turn-made limit at (h .start) (h .kind) body (tokensFrom document (h .next)) here q e room room′ m m′ (t .same) w);
   }
 
   -- by its kind

@@ -138,7 +138,7 @@ state l w = record { written = w; locals = l }
 module _ (room : ℕ) where
   -- a token, whose pieces are 'written as they arise'
   unfoldable pub turn : Turn State
-  turn p k x ts s = token p k x (s .locals) >>= λ o. pushes room (o .pushed) (s .written) >>= λ w. gives (state (o .after) w)
+  turn p q k x ts s = token p k x (s .locals) >>= λ o. pushes room (o .pushed) (s .written) >>= λ w. gives (state (o .after) w)
 
   -- `Doc::render_roff` given `Roff::new()` of some records, whatever form they are stored in: the preamble, then the walk
   abbrev pub roffOn : List Token → Result (List ℕ)

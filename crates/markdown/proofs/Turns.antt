@@ -17,7 +17,7 @@ use Rattle.records.specs.declared.Style.the-variants as style
 use Rattle.records.specs.declared.Block.{Block}
 use Rattle.records.specs.declared.Kind.the-variants as kind
 use Rattle.splitter.specs.Split.{Chunk, raw, paragraph, lineBreak, split}
-use Rattle.renderer.specs.Walk.{withOut, withLay, page, write, last, body}
+use Rattle.renderer.specs.Walk.{withOut, withLay, page, write, last, anywhere, body}
 use Rattle.skip.specs.Counter.{hides}
 use Rattle.html_rules.specs.Marks.{separated}
 use Rattle.html_rules.specs.Markdown.{State, styled, skip, fenced, startLead, startLine, startText, metTerm, startLay, endText, endLay, codeBegins, codeStops, lineText, wordText, change, separate, begun, started, ended, rawChunk, bodyEnds, finish, chunk, turn}
@@ -61,7 +61,7 @@ module _ (limit p : ℕ) (b : Block) where
         bind-same (lift (closed limit st) s) f (λ _. refused 11 p) e
         ∙ sym (bind-assoc (closed limit st (s .out)) (λ y. gives (withOut y s)) (λ _. refused 11 p))
 
-module _ (limit : ℕ) (full : Bool) (p : ℕ) (y : List ℕ) (ts : List Token) (kept : List ℕ) (lay : Markdown) (x : List ℕ) where
+module _ (limit : ℕ) (full : Bool) (p q : ℕ) (y : List ℕ) (ts : List Token) (kept : List ℕ) (lay : Markdown) (x : List ℕ) where
   abbrev here : State
   here = page kept lay x
 
@@ -70,36 +70,36 @@ module _ (limit : ℕ) (full : Bool) (p : ℕ) (y : List ℕ) (ts : List Token) 
   met b = metTerm b ts (styled style.Text lay)
 
   module _ (b : Block) where
-    pub start-is : (index b ≡ 10 → ⊥) → turn limit full p (kind.Start b) y ts here
+    pub start-is : (index b ≡ 10 → ⊥) → turn limit full p q (kind.Start b) y ts here
         ≡ (closed limit (lay .style) x >>= startRule limit (met b) b >>= λ z. gives (page kept (startLay b (met b)) z))
     unfolding turn change write
     start-is n = started-is limit p b (lay .style) (withLay (styled style.Text) here) ts n
 
-    pub end-is : (index b ≡ 10 → ⊥) → turn limit full p (kind.End b) y ts here
+    pub end-is : (index b ≡ 10 → ⊥) → turn limit full p q (kind.End b) y ts here
         ≡ (closed limit (lay .style) x >>= extended limit (endText (styled style.Text lay) b) >>= λ z. gives (page kept (endLay b (styled style.Text lay)) z))
     unfolding turn change write
     end-is n = ended-is limit p b (lay .style) (withLay (styled style.Text) here) n
 
-    pub start-meta : index b ≡ 10 → turn limit full p (kind.Start b) y ts here ≡ (closed limit (lay .style) x >>= λ _. refused 11 p)
+    pub start-meta : index b ≡ 10 → turn limit full p q (kind.Start b) y ts here ≡ (closed limit (lay .style) x >>= λ _. refused 11 p)
     unfolding turn change write started
     start-meta e = refused-is limit p b (lay .style) (withLay (styled style.Text) here) (started limit p b ts) (λ t. if-true _ _ (eq-eqb (index b) 10 e))
 
-    pub end-meta : index b ≡ 10 → turn limit full p (kind.End b) y ts here ≡ (closed limit (lay .style) x >>= λ _. refused 11 p)
+    pub end-meta : index b ≡ 10 → turn limit full p q (kind.End b) y ts here ≡ (closed limit (lay .style) x >>= λ _. refused 11 p)
     unfolding turn change write ended
     end-meta e = refused-is limit p b (lay .style) (withLay (styled style.Text) here) (ended limit p b) (λ t. if-true _ _ (eq-eqb (index b) 10 e))
 
-  pub unknown-is : turn limit full p kind.Unknown y ts here ≡ gives here
+  pub unknown-is : turn limit full p q kind.Unknown y ts here ≡ gives here
   unfolding turn
   unknown-is = refl
 
   module _ (st : Style) where
     -- text that is hidden, and text that is not
-    pub hidden-is : hides (lay .skip) ≡ true → turn limit full p (kind.Text st) y ts here ≡ gives here
+    pub hidden-is : hides (lay .skip) ≡ true → turn limit full p q (kind.Text st) y ts here ≡ gives here
     unfolding turn
     hidden-is h = if-true _ _ h
 
-    pub text-is : hides (lay .skip) ≡ false → turn limit full p (kind.Text st) y ts here
-        ≡ (change limit st here >>= body full (chunk limit full) (split y) >>= bodyEnds limit)
+    pub text-is : hides (lay .skip) ≡ false → turn limit full p q (kind.Text st) y ts here
+        ≡ (change limit st here >>= body full (anywhere (chunk limit full)) (split y) >>= bodyEnds limit)
     unfolding turn
     text-is h = if-false _ _ h
 

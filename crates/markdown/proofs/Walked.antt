@@ -21,13 +21,13 @@ use Rattle.records.specs.declared.Kind.the-variants as kind
 use Rattle.records.specs.declared.Head.{Head}
 use Rattle.document.proofs.Walks.{check-gives}
 use Rattle.splitter.specs.Split.{split}
-use Rattle.splitter.specs.Answers.{chunkOf, chunksFrom, cursor, start}
+use Rattle.splitter.specs.Answers.{chunkOf, placedFrom, cursor, start}
 use Rattle.splitter.specs.declared.Code.{Code}
 use Rattle.splitter.specs.declared.Cursor.{Cursor}
 use Rattle.splitter.specs.declared.Piece.{Piece}
 use Rattle.splitter.specs.declared.Piece.the-variants.{Raw, Space, Paragraph, LineBreak}
 use Rattle.splitter.proofs.Answers.{Took}
-use Rattle.renderer.specs.Walk.{page, withLay, write, shown, last, walk, body}
+use Rattle.renderer.specs.Walk.{page, withLay, write, shown, last, anywhere, walk, body}
 use Rattle.skip.specs.Counter.{hides, skipParagraph}
 use Rattle.renderer.proofs.Shown.{shown-in, shown-then, shown-by, shown-write, shown-changed}
 use Rattle.renderer.proofs.Leads.{Leads, leads-start, leads-on, chunksThen}
@@ -44,9 +44,9 @@ use Rattle.markdown.proofs.Turns.{start-is, end-is, start-meta, end-met
 
 fence-any : (p : Piece) (y : List ℕ) (f : Bool) → fenceAfter (chunkOf y p) f ≡ fenceAfter (chunkOf [] p) f
 fence-any (Raw from to width) y f = refl
-fence-any Space y f = refl
-fence-any Paragraph y f = refl
-fence-any LineBreak y f = refl
+fence-any (Space at) y f = refl
+fence-any (Paragraph at) y f = refl
+fence-any (LineBreak at) y f = refl
 
 module _ (limit : ℕ) (full : Bool) (tags document : List ℕ) where
   -- the records from a place on, and the end; after a body, its end first
@@ -82,7 +82,7 @@ module _ (limit : ℕ) (full : Bool) (tags document : List ℕ) where
   pub record InBody (room : List ℕ) (at len : ℕ) (lay : Markdown) (y : List ℕ) (c : Cursor) : Type 0 where
     pub few : lay .skip ≤ at
     pub open-few : lay .mono ≤ at
-    pub leads : Leads whole (chunksThen full (chunk limit full) (after at) (chunksFrom y c)) (shown room len [] lay)
+    pub leads : Leads whole (chunksThen full (anywhere (chunk limit full)) (after at) (placedFrom y c)) (shown room len [] lay)
 
   -- words that went out as they stand
   pub body-words : {room : List ℕ} {at len : ℕ} {lay : Markdown} {y : List ℕ} {from : ℕ} {d : Code} → InBody room at len lay y (cursor from d)
@@ -123,7 +123,7 @@ module _ (limit : ℕ) (full : Bool) (tags document : List ℕ) where
         → told ≡ whole
     on-end told h w =
         walking.rest-end (turn limit full) (finish limit) document whole at room len [] lay (o .leads) told (closed limit (lay .style)) h
-        (λ x. finish-is limit full at [] [] [] lay x)
+        (λ x. finish-is limit full at at [] [] [] lay x)
         (w (o .table) ∙ ap (λ (m : ℕ). seen room len >>= closed m (lay .style)) (o .same))
 
     -- a record was read here
@@ -134,7 +134,7 @@ module _ (limit : ℕ) (full : Bool) (tags document : List ℕ) where
       further : at + 1 ≤ h .next
       further = walking.further (turn limit full) (finish limit) document whole at room len [] lay (o .leads) r l
 
-      by-kind : (k : Kind) → h .kind ≡ k → (s : State) → Turned s ≡ turn limit full at k (part document (h .start) (h .stop)) (tokensFrom document (h .next)) s
+      by-kind : (k : Kind) → h .kind ≡ k → (s : State) → Turned s ≡ turn limit full at (h .start) k (part document (h .start) (h .stop)) (tokensFrom document (h .next)) s
       by-kind = walking.by-kind (turn limit full) (finish limit) document whole at room len [] lay (o .leads) r l
 
       turn-leads : (rule : List ℕ → Result (List ℕ)) (new : List ℕ) (n : ℕ) (lay′ : Markdown)
@@ -156,7 +156,7 @@ module _ (limit : ℕ) (full : Bool) (tags document : List ℕ) where
       }
 
       pub on-unknown : h .kind ≡ kind.Unknown → On room (h .next) len lay
-      on-unknown e = passes (λ x. by-kind kind.Unknown e (page [] lay x) ∙ unknown-is limit full at _ _ [] lay x)
+      on-unknown e = passes (λ x. by-kind kind.Unknown e (page [] lay x) ∙ unknown-is limit full at _ _ _ [] lay x)
 
       -- Meta
       meta : (told : Result (List ℕ)) → ((x : List ℕ) → Turned (page [] lay x) ≡ (closed limit (lay .style) x >>= λ _. refused 11 at))
@@ -172,9 +172,9 @@ module _ (limit : ℕ) (full : Bool) (tags document : List ℕ) where
           go : (k : Kind) → h .kind ≡ k → isMeta k ≡ true → told ≡ whole
           go (kind.Text s) e t = cc
           go (kind.Start b) e t =
-              meta told (λ x. by-kind (kind.Start b) e (page [] lay x) ∙ start-meta limit full at _ _ [] lay x b (eqb-true (index b) 10 t)) w
+              meta told (λ x. by-kind (kind.Start b) e (page [] lay x) ∙ start-meta limit full at _ _ _ [] lay x b (eqb-true (index b) 10 t)) w
           go (kind.End b) e t =
-              meta told (λ x. by-kind (kind.End b) e (page [] lay x) ∙ end-meta limit full at _ _ [] lay x b (eqb-true (index b) 10 t)) w
+              meta told (λ x. by-kind (kind.End b) e (page [] lay x) ∙ end-meta limit full at _ _ _ [] lay x b (eqb-true (index b) 10 t)) w
           go kind.Unknown e t = cc
 
       -- the records after this one
@@ -204,7 +204,7 @@ module _ (limit : ℕ) (full : Bool) (tags document : List ℕ) where
               short = o .short;
               leads = rw (z, u)
                   (turn-leads (λ x. closed limit (lay .style) x >>= startRule limit (metTerm b next (styled style.Text lay)) b) new k _
-                  (λ x. by-kind (kind.Start b) e (page [] lay x) ∙ start-is limit full at _ _ [] lay x b (eqb-false (index b) 10 (ap isMeta (sym e) ∙ m)))
+                  (λ x. by-kind (kind.Start b) e (page [] lay x) ∙ start-is limit full at _ _ _ [] lay x b (eqb-false (index b) 10 (ap isMeta (sym e) ∙ m)))
                   (w (o .table) ∙ ap (λ (c : ℕ). seen room len >>= startedText c met b) (o .same)
                   ∙ ap (λ (st : Style). seen room len >>= λ x. closed limit st x >>= startRule limit (styled style.Text met) b) v
                   ∙ ap (λ (l : Markdown). seen room len >>= λ x. closed limit (lay .style) x >>= startRule limit l b) u));
@@ -226,14 +226,14 @@ module _ (limit : ℕ) (full : Bool) (tags document : List ℕ) where
               short = o .short;
               leads = rw f
                   (turn-leads (endedText limit lay b) new k _
-                  (λ x. by-kind (kind.End b) e (page [] lay x) ∙ end-is limit full at _ _ [] lay x b (eqb-false (index b) 10 (ap isMeta (sym e) ∙ m)))
+                  (λ x. by-kind (kind.End b) e (page [] lay x) ∙ end-is limit full at _ _ _ [] lay x b (eqb-false (index b) 10 (ap isMeta (sym e) ∙ m)))
                   (w (o .table) ∙ ap (λ (c : ℕ). seen room len >>= endedText c lay b) (o .same)));
             }
 
       -- text
       module _ {st : Style} (e : h .kind ≡ kind.Text st) where
         pub on-hidden : hides (lay .skip) ≡ true → On room (h .next) len lay
-        on-hidden z = passes (λ x. by-kind (kind.Text st) e (page [] lay x) ∙ hidden-is limit full at _ _ [] lay x st z)
+        on-hidden z = passes (λ x. by-kind (kind.Text st) e (page [] lay x) ∙ hidden-is limit full at _ _ _ [] lay x st z)
 
         -- the style has changed, and the chunks of the body are left
         pub on-body : (y new : List ℕ) (n : ℕ) (lay′ : Markdown) → y ≡ part document (h .start) (h .stop) → hides (lay .skip) ≡ false
@@ -248,13 +248,13 @@ module _ (limit : ℕ) (full : Bool) (tags document : List ℕ) where
               open-few = omega (arith, o .open-few, further);
               leads = rw g
                   (walking.turn-begins (turn limit full) (finish limit) document whole at room len [] lay (o .leads) r l
-                  (change limit st) (chunksThen full (chunk limit full) (after (h .next)) (split y)) (shown new n [] (styled st lay))
+                  (change limit st) (chunksThen full (anywhere (chunk limit full)) (after (h .next)) (split y)) (shown new n [] (styled st lay))
                   (λ x.
                   ap (λ (q : Result State). q >>= rest (h .next))
-                  (by-kind (kind.Text st) e (page [] lay x) ∙ text-is limit full at _ _ [] lay x st z
-                  ∙ ap (λ (a : List ℕ). change limit st (page [] lay x) >>= body full (chunk limit full) (split a) >>= bodyEnds limit) (sym b))
-                  ∙ sym (bind-assoc (change limit st (page [] lay x) >>= body full (chunk limit full) (split y)) (bodyEnds limit) (rest (h .next)))
-                  ∙ sym (bind-assoc (change limit st (page [] lay x)) (body full (chunk limit full) (split y)) (after (h .next))))
+                  (by-kind (kind.Text st) e (page [] lay x) ∙ text-is limit full at _ _ _ [] lay x st z
+                  ∙ ap (λ (a : List ℕ). change limit st (page [] lay x) >>= body full (anywhere (chunk limit full)) (split a) >>= bodyEnds limit) (sym b))
+                  ∙ sym (bind-assoc (change limit st (page [] lay x) >>= body full (anywhere (chunk limit full)) (split y)) (bodyEnds limit) (rest (h .next)))
+                  ∙ sym (bind-assoc (change limit st (page [] lay x)) (body full (anywhere (chunk limit full)) (split y)) (after (h .next))))
                   (shown-write (withLay (styled st)) [] [] lay (styled st lay) (λ x. refl) limit room new len n (closing (lay .style) ++ opening st)
                   (w (o .table) ∙ ap (λ (c : ℕ). seen room len >>= extended c (closing (lay .style) ++ opening st)) (o .same))
                   ∙ sym (shown-then room len [] lay (change limit st) (λ s. write limit (closing (lay .style) ++ opening st) (withLay (styled st) s))
@@ -274,7 +274,7 @@ module _ (limit : ℕ) (full : Bool) (tags document : List ℕ) where
               ∙ ap (λ (y : List ℕ). seen old k >>= extended limit y) (ap (λ (b : Bool). codeEnds (fenced b l₂)) (sym f)))
               ∙ sym (shown-then old k [] l₂ (bodyEnds limit) (λ s. write limit (codeEnds l₂) (withLay (fenced false) s)) (λ x. refl)))
 
-          pub on-done : chunksFrom y c ≡ [] → On new (h .next) n (fenced false l₁)
+          pub on-done : placedFrom y c ≡ [] → On new (h .next) n (fenced false l₁)
           on-done f = record {
             table = o .table;
             same = u ∙ s;

@@ -77,13 +77,13 @@ module _ (limit : ℕ) (l : Markdown) (body : List ℕ) (p : Piece) where
       (chunkOf body p)
   piece-raw e y f = rw (f, e)
 
-  pub piece-space : p ≡ Space → rawRule limit l (0x20 ∷ []) 1 ≡ chunkRule limit l (chunkOf body p)
+  pub piece-space : {at : ℕ} → p ≡ Space at → rawRule limit l (0x20 ∷ []) 1 ≡ chunkRule limit l (chunkOf body p)
   piece-space e = rw e
 
-  pub piece-paragraph : p ≡ Paragraph → (y : List ℕ) → y ≡ paragraphText l → extended limit y ≡ chunkRule limit l (chunkOf body p)
+  pub piece-paragraph : {at : ℕ} → p ≡ Paragraph at → (y : List ℕ) → y ≡ paragraphText l → extended limit y ≡ chunkRule limit l (chunkOf body p)
   piece-paragraph e y f = rw (f, e)
 
-  pub piece-break : p ≡ LineBreak → extended limit (0x0A ∷ []) ≡ chunkRule limit l (chunkOf body p)
+  pub piece-break : {at : ℕ} → p ≡ LineBreak at → extended limit (0x0A ∷ []) ≡ chunkRule limit l (chunkOf body p)
   unfolding bytes encode if_then_else_
   piece-break e = rw e
 
@@ -101,6 +101,6 @@ module _ (p : Piece) (f : Bool) where
       itself true = refl
       itself false = refl
 
-  pub fence-space : p ≡ Space → false ≡ fenceAfter (chunkOf [] p) f
+  pub fence-space : {at : ℕ} → p ≡ Space at → false ≡ fenceAfter (chunkOf [] p) f
   unfolding if_then_else_
   fence-space e = rw e

@@ -5,22 +5,22 @@ use mathlib.Core.Bool.{Bool, true, false}
 use mathlib.Core.List.{List}
 use lib.ListN.{length}
 use Rattle.base.specs.Result.{Result, _>>=_}
-use Rattle.splitter.specs.Split.{Chunk}
-use Rattle.splitter.specs.Answers.{chunksFrom, cursor}
+use Rattle.splitter.specs.Split.{Placed}
+use Rattle.splitter.specs.Answers.{placedFrom, cursor}
 use Rattle.splitter.specs.declared.Code.{Code}
 use Rattle.splitter.specs.declared.Code.the-variants as code
-use Rattle.renderer.specs.Walk.{shown, body}
+use Rattle.renderer.specs.Walk.{shown, anywhere, body}
 use Rattle.words.specs.Onward as words
 use Rattle.html_rules.specs.Markdown.{State, chunk}
 use Rattle.html_rules.specs.declared.Markdown.{Markdown}
 
 -- the chunks of a body from a cursor on, as Markdown writes them
 abbrev pub onward : Bool → ℕ → List ℕ → ℕ → Code → State → Result State
-onward full limit x at c = body full (chunk limit full) (chunksFrom x (cursor at c))
+onward full limit x at c = body full (anywhere (chunk limit full)) (placedFrom x (cursor at c))
 
 -- the rule for a chunk, by whether all is shown and the room's length
-abbrev pub ruleOf : Bool → ℕ → Chunk → State → Result State
-ruleOf full limit = chunk limit full
+abbrev pub ruleOf : Bool → ℕ → Placed → State → Result State
+ruleOf full limit = anywhere (chunk limit full)
 
 -- the words of a body go out as they stand: outside Mono and code lines, and where none of them is as wide as a code line
 pub record Plain (x : List ℕ) (l : Markdown) : Type 0 where

@@ -99,9 +99,9 @@ pub fn put_chunk(
         Piece::Raw(_, _, width) => {
             put_raw(room, len, tags, splitter::text_of(body, piece), width, l)
         }
-        Piece::Space => put_raw(room, len, tags, b" ", 1, l),
-        Piece::Paragraph => html_marks::put_span(room, len, tags, paragraph_span(l)),
-        Piece::LineBreak => room::put(room, len, b'\n'),
+        Piece::Space(_) => put_raw(room, len, tags, b" ", 1, l),
+        Piece::Paragraph(_) => html_marks::put_span(room, len, tags, paragraph_span(l)),
+        Piece::LineBreak(_) => room::put(room, len, b'\n'),
     }
 }
 
@@ -123,9 +123,9 @@ pub fn fence_after(piece: Piece, fenced: bool) -> bool
             }
             width == 1_000_000
         }
-        Piece::Space => false,
-        Piece::Paragraph => fenced,
-        Piece::LineBreak => fenced,
+        Piece::Space(_) => false,
+        Piece::Paragraph(_) => fenced,
+        Piece::LineBreak(_) => fenced,
     }
 }
 

@@ -106,11 +106,13 @@ pub fn next_case(buffer: &mut [u8]) -> Next {
     Next::Case(n)
 }
 
-// A call: its number in a list, its setting (width, style or block), its flags, and the length of its room.
+// A call: its number in a list, its setting (width, style, block or place of a cursor), its flags, of which the first may be the ticks of a
+// cursor, and the length of its room.
 pub struct Call {
     pub number: u8,
     pub setting: usize,
     pub full: bool,
+    pub ticks: u8,
     pub css: bool,
     pub room: usize,
 }
@@ -122,6 +124,7 @@ pub fn call_of(case: &[u8]) -> Call {
         number: byte_or(case, 0, 255),
         setting: number(settings),
         full: byte_or(flags, 0, 0) == 1,
+        ticks: byte_or(flags, 0, 0),
         css: byte_or(flags, 1, 0) == 1,
         room: number(rest(flags, 2)),
     }
@@ -171,9 +174,9 @@ pub fn fill(room: &mut [u8], document: &[u8]) {
 }
 
 // One call more of those with its number.
-pub fn count(counts: &mut [u64; 12], case: &[u8]) {
+pub fn count(counts: &mut [u64; 23], case: &[u8]) {
     let call = wide(byte_or(case, 0, 255));
-    if call < 12 {
+    if call < 23 {
         if counts[call] < 1_000_000 {
             counts[call] += 1;
         }

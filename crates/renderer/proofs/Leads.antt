@@ -14,7 +14,7 @@ use Rattle.records.specs.Records.{Token, tokensFrom}
 use Rattle.records.specs.Answers.{Read}
 use Rattle.records.specs.declared.Head.{Head}
 use Rattle.records.proofs.Tokens.{tokens-end}
-use Rattle.splitter.specs.Split.{Chunk}
+use Rattle.splitter.specs.Split.{Placed}
 use Rattle.renderer.specs.Walk.{Page, page, shown, Turn, last, walk, body}
 use Rattle.base.proofs.Results.{bind-assoc, bind-end, bind-same}
 use Rattle.renderer.proofs.Shown.{shown-then}
@@ -66,7 +66,7 @@ module _ {S : Type 0} (turn : Turn S) (document : List ℕ) where
 
   -- the turn of a record that was read
   abbrev pub turned : ℕ → Head → S → Result S
-  turned at h = turn at (h .kind) (part document (h .start) (h .stop)) (tokensFrom document (h .next))
+  turned at h = turn at (h .start) (h .kind) (part document (h .start) (h .stop)) (tokensFrom document (h .next))
 
   -- its turn, and then the records from its end on
   pub walk-record : (at : ℕ) (h : Head) → Read document at h → at < length document → (s : S) → records at s ≡ (turned at h s >>= records (h .next))
@@ -79,27 +79,27 @@ module _ {S : Type 0} (turn : Turn S) (document : List ℕ) where
 
 -- Chunks: those of a body that are left, and then what follows the body
 
-module _ {S T : Type 0} (full : Bool) (chunk : Chunk → S → Result S) (after : S → Result T) where
-  abbrev pub chunksThen : List Chunk → S → Result T
+module _ {S T : Type 0} (full : Bool) (chunk : Placed → S → Result S) (after : S → Result T) where
+  abbrev pub chunksThen : List Placed → S → Result T
   chunksThen cs s = body full chunk cs s >>= after
 
-  module _ (c : Chunk) (cs ds : List Chunk) (first : cs ≡ c ∷ ds) where
+  module _ (c : Placed) (cs ds : List Placed) (first : cs ≡ c ∷ ds) where
     -- a chunk, and then those after it
-    pub body-chunk : last full c ≡ false → (s : S) → chunksThen cs s ≡ (chunk c s >>= chunksThen ds)
+    pub body-chunk : last full (c .chunk) ≡ false → (s : S) → chunksThen cs s ≡ (chunk c s >>= chunksThen ds)
     unfolding body
     body-chunk e s =
-        ap (λ (l : List Chunk). chunksThen l s) first
+        ap (λ (l : List Placed). chunksThen l s) first
         ∙ ap (λ (r : Result S). r >>= after) (bind-same (chunk c s) _ _ (λ s₁. if-false _ _ e))
         ∙ sym (bind-assoc (chunk c s) (body full chunk ds) after)
 
     -- a chunk that ends the walk of its body
-    pub body-last : last full c ≡ true → (s : S) → chunksThen cs s ≡ (chunk c s >>= after)
+    pub body-last : last full (c .chunk) ≡ true → (s : S) → chunksThen cs s ≡ (chunk c s >>= after)
     unfolding body
     body-last e s =
-        ap (λ (l : List Chunk). chunksThen l s) first
+        ap (λ (l : List Placed). chunksThen l s) first
         ∙ ap (λ (r : Result S). r >>= after) (bind-same (chunk c s) _ gives (λ s₁. if-true _ _ e) ∙ bind-end (chunk c s))
 
   -- no chunk is left
-  pub body-end : (cs : List Chunk) → cs ≡ [] → (s : S) → chunksThen cs s ≡ after s
+  pub body-end : (cs : List Placed) → cs ≡ [] → (s : S) → chunksThen cs s ≡ after s
   unfolding body _>>=_
   body-end cs e s = rw e

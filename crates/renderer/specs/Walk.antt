@@ -8,7 +8,7 @@ use Rattle.room.specs.Room.{extended, seen}
 use Rattle.records.specs.Records.{Token}
 use Rattle.records.specs.declared.Kind.{Kind}
 use Rattle.records.specs.declared.Kind.the-variants as kind
-use Rattle.splitter.specs.Split.{Chunk, raw, paragraph, lineBreak}
+use Rattle.splitter.specs.Split.{Chunk, raw, paragraph, lineBreak, Placed}
 
 -- The text so far, what a renderer keeps as a list (margins, open blocks or a captured heading), and its numbers and flags.
 pub record Page (L : Type 0) : Type 0 where
@@ -42,9 +42,9 @@ unfoldable pub empty : List ℕ → Bool
 empty [] = true
 empty (b ∷ s) = false
 
--- what a renderer does at a record: its place, its kind, its body, the records after it
+-- what a renderer does at a record: its place, where its body starts, its kind, its body, the records after it
 abbrev pub Turn : Type 0 → Type 0
-Turn S = ℕ → Kind → List ℕ → List Token → S → Result S
+Turn S = ℕ → ℕ → Kind → List ℕ → List Token → S → Result S
 
 -- 'With `full` off, a paragraph chunk ends the walk of that body'
 abbrev pub last : Bool → Chunk → Bool
@@ -53,12 +53,16 @@ last full paragraph = not full
 last full lineBreak = false
 
 module _ {S : Type 0} where
+  -- what is done at a chunk, wherever it begins
+  abbrev pub anywhere : (Chunk → S → Result S) → Placed → S → Result S
+  anywhere chunk c = chunk (c .chunk)
+
   -- the records in order: 'the first of 10 to 13 that the walk meets' is the refusal
   unfoldable pub walk : Turn S → List Token → S → Result S
   walk turn [] s = gives s
-  walk turn (t ∷ ts) s = turn (t .place) (t .kind) (t .body) ts s >>= walk turn ts
+  walk turn (t ∷ ts) s = turn (t .place) (t .start) (t .kind) (t .body) ts s >>= walk turn ts
 
-  -- the chunks of a body in order; after its last one 'the rest of it is unread'
-  unfoldable pub body : Bool → (Chunk → S → Result S) → List Chunk → S → Result S
+  -- the chunks of a body in order, each with its place; after the last one 'the rest of it is unread'
+  unfoldable pub body : Bool → (Placed → S → Result S) → List Placed → S → Result S
   body full chunk [] s = gives s
-  body full chunk (c ∷ cs) s = chunk c s >>= λ s₁. if last full c then gives s₁ else body full chunk cs s₁
+  body full chunk (c ∷ cs) s = chunk c s >>= λ s₁. if last full (c .chunk) then gives s₁ else body full chunk cs s₁

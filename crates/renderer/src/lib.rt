@@ -34,9 +34,9 @@ pub fn ends_body(piece: Piece, full: bool) -> bool
 {
     match piece {
         Piece::Raw(_, _, _) => false,
-        Piece::Space => false,
-        Piece::Paragraph => !full,
-        Piece::LineBreak => false,
+        Piece::Space(_) => false,
+        Piece::Paragraph(_) => !full,
+        Piece::LineBreak(_) => false,
     }
 }
 

@@ -1,5 +1,5 @@
 // Reads a list of calls with the oracle's answers from standard input, makes each call and compares, and prints one line with the counts:
-// check, the renderers and the splitter.
+// check, the renderers, the splitter and its step.
 ghost use Prim.Native.Nat.{_<_, _≤_};
 use console_rules::Settings;
 use document::Checked;
@@ -37,17 +37,17 @@ fn chunk_size(listed: &[u8]) -> usize
     1 + recorded::number_size(start) + recorded::number_size(length) + recorded::number_size(width)
 }
 
-// Whether the piece at a place of a body is the chunk that a list begins with.
-fn is_listed(body: &[u8], at: usize, piece: Piece, listed: &[u8]) -> bool {
+// Whether a piece of a body is the chunk that a list begins with.
+fn is_listed(body: &[u8], piece: Piece, listed: &[u8]) -> bool {
     let tag = recorded::byte_or(listed, 0, 255);
     let numbers = recorded::rest(listed, 1);
     let start = recorded::number(numbers);
     let size = recorded::number(recorded::past(numbers));
     let width = recorded::number(recorded::past(recorded::past(numbers)));
     match piece {
-        Piece::Paragraph => is_mark(1, tag, start, size, width),
-        Piece::LineBreak => is_mark(2, tag, start, size, width),
-        Piece::Space => is_space(body, at, tag, start, size, width),
+        Piece::Paragraph(_) => is_mark(1, tag, start, size, width),
+        Piece::LineBreak(_) => is_mark(2, tag, start, size, width),
+        Piece::Space(at) => is_space(body, at, tag, start, size, width),
         Piece::Raw(from, to, w) => {
             if tag != 0 {
                 return false;
@@ -111,7 +111,7 @@ fn has_chunks(body: &[u8], listed: &[u8], count: usize) -> bool
         let Step::Take(piece, after) = splitter::step_at(body, cursor) else {
             return false;
         };
-        if !is_listed(body, cursor.at, piece, recorded::rest(listed, at)) {
+        if !is_listed(body, piece, recorded::rest(listed, at)) {
             return false;
         }
         at += chunk_size(recorded::rest(listed, at));
@@ -131,6 +131,35 @@ fn splits(body: &[u8], answer: &[u8]) -> bool {
     }
     let counted = recorded::past(answer);
     has_chunks(body, recorded::past(counted), recorded::number(counted))
+}
+
+// Whether `next_chunk` answers as a case says: what the chunk is and the cursor after it, where it begins, its length and its width.
+fn hands_out(call: Call, body: &[u8], answer: &[u8]) -> bool {
+    let next = next_chunk::next_chunk(body, call.setting, call.ticks as u32);
+    let at = recorded::past(answer);
+    let ticks = recorded::past(at);
+    let start = recorded::past(ticks);
+    let length = recorded::past(start);
+    let width = recorded::past(length);
+    if recorded::number(answer) != next.number as usize {
+        return false;
+    }
+    if recorded::number(at) != next.at {
+        return false;
+    }
+    if recorded::number(ticks) != next.ticks as usize {
+        return false;
+    }
+    if recorded::number(start) != next.start {
+        return false;
+    }
+    if recorded::number(length) != next.length {
+        return false;
+    }
+    if recorded::number(width) != next.width {
+        return false;
+    }
+    recorded::past(width).len() == 0
 }
 
 // Whether a room holds a text and then zeros.
@@ -221,19 +250,22 @@ fn agrees(case: &[u8]) -> bool {
     if call.number == 11 {
         return splits(document, answer);
     }
+    if call.number == 12 {
+        return hands_out(call, document, answer);
+    }
     false
 }
 
 // How many calls there were by their number, how many differ, the first that does, and whether the list was whole.
 struct Tally {
-    counts: [u64; 12],
+    counts: [u64; 23],
     differences: u64,
     first: u64,
     whole: bool,
 }
 
 fn replay_all(buffer: &mut [u8]) -> Tally {
-    let mut counts = [0u64; 12];
+    let mut counts = [0u64; 23];
     let mut cases: u64 = 0;
     let mut differences: u64 = 0;
     let mut first: u64 = 0;
@@ -269,7 +301,7 @@ fn replay_all(buffer: &mut [u8]) -> Tally {
     }
 }
 
-fn print_counts(counts: &[u64; 12]) {
+fn print_counts(counts: &[u64; 23]) {
     recorded::print_count(b"check ", counts[0]);
     recorded::print_count(b", console ", counts[1]);
     recorded::print_count(b", html ", counts[2]);
@@ -277,6 +309,7 @@ fn print_counts(counts: &[u64; 12]) {
     recorded::print_count(b", markdown ", counts[4]);
     recorded::print_count(b", roff ", counts[5]);
     recorded::print_count(b", split ", counts[11]);
+    recorded::print_count(b", next_chunk ", counts[12]);
 }
 
 fn main() {

@@ -143,14 +143,14 @@ fn agrees(case: &[u8]) -> bool {
 
 // How many calls there were by their number, how many differ, the first that does, and whether the list was whole.
 struct Tally {
-    counts: [u64; 12],
+    counts: [u64; 23],
     differences: u64,
     first: u64,
     whole: bool,
 }
 
 fn replay_all(buffer: &mut [u8]) -> Tally {
-    let mut counts = [0u64; 12];
+    let mut counts = [0u64; 23];
     let mut cases: u64 = 0;
     let mut differences: u64 = 0;
     let mut first: u64 = 0;
@@ -186,7 +186,7 @@ fn replay_all(buffer: &mut [u8]) -> Tally {
     }
 }
 
-fn print_counts(counts: &[u64; 12]) {
+fn print_counts(counts: &[u64; 23]) {
     recorded::print_count(b"write ", counts[6]);
     recorded::print_count(b", open ", counts[7]);
     recorded::print_count(b", close ", counts[8]);

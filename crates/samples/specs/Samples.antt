@@ -81,7 +81,7 @@ samples =
     ∷ shows 100 (plain "see " ++ around block.TermRef (literal "-p")) "see `-p`"
     ∷ shows 100 (plain "a" ++ around block.Section2 (around block.TermRef (plain "b"))) "a`\nb`"
     ∷ shows 100 (around block.Section3 (nested 8 block.ItemBody (plain "x"))) "                                                  x"
-    ∷ refuses 100 (around block.Section3 (around block.Section3 (nested 8 block.ItemBody (plain "x")))) 10 60
+    ∷ refuses 100 (around block.Section3 (around block.Section3 (nested 8 block.ItemBody (plain "x")))) 10 66
     ∷ showsHtml (literal "<p>") "<tt><b>&lt;p&gt;</b></tt>"
     ∷ showsRoff (around block.ItemTerm (literal "-p")) ".TP\n\\fB\\-p\\fP\n"
     ∷ showsRoff (around block.Header (plain "A\n") ++ around block.Block []) ".SH A\\ .PP\n"

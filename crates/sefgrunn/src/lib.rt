@@ -10,6 +10,7 @@ ghost use Rattle.console_rules.specs.Console.{console};
 ghost use Rattle.console.specs.Answers.{Demand3};
 ghost use Rattle.buffer.specs.Answers.{builtAs, kept};
 ghost use Rattle.buffer.specs.Builder.{addsDoc, addsEmDoc};
+ghost use Rattle.next_chunk.specs.NextChunk.{nextChunk};
 ghost use Rattle.html_rules.specs.Html.{html};
 ghost use Rattle.html_rules.specs.Markdown.{markdown};
 ghost use Rattle.manpage.specs.Roff.{roff};
@@ -90,6 +91,32 @@ pub extern "C" fn sefgrunn_console(
 {
     let answer = console::render_console(document, Settings { width, full }, room);
     told(answer, at)
+}
+
+// The chunk of a body at a cursor, which moves past it; 0 where there is none.
+#[no_mangle]
+pub extern "C" fn sefgrunn_next_chunk(
+    body: &[u8],
+    at: &mut usize,
+    ticks: &mut u32,
+    start: &mut usize,
+    length: &mut usize,
+    width: &mut usize,
+) -> u32
+    ensures number { λ r. ⌜ r ≡ (nextChunk (now (body .entry)) (now (at .entry)) (now (ticks .entry))) .number ⌝ }
+    ensures at { λ _. ⌜ now (at .exit) ≡ (nextChunk (now (body .entry)) (now (at .entry)) (now (ticks .entry))) .at ⌝ }
+    ensures ticks { λ _. ⌜ now (ticks .exit) ≡ (nextChunk (now (body .entry)) (now (at .entry)) (now (ticks .entry))) .ticks ⌝ }
+    ensures start { λ _. ⌜ now (start .exit) ≡ (nextChunk (now (body .entry)) (now (at .entry)) (now (ticks .entry))) .start ⌝ }
+    ensures length { λ _. ⌜ now (length .exit) ≡ (nextChunk (now (body .entry)) (now (at .entry)) (now (ticks .entry))) .length ⌝ }
+    ensures width { λ _. ⌜ now (width .exit) ≡ (nextChunk (now (body .entry)) (now (at .entry)) (now (ticks .entry))) .width ⌝ }
+{
+    let next = next_chunk::next_chunk(body, *at, *ticks);
+    *at = next.at;
+    *ticks = next.ticks;
+    *start = next.start;
+    *length = next.length;
+    *width = next.width;
+    next.number
 }
 
 // `Doc::render_html`.

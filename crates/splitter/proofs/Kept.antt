@@ -6,19 +6,19 @@ use mathlib.Core.Bool.{Bool, true, false, _&&_}
 use mathlib.Core.List.{List, [], _∷_, _++_, append-nil}
 use lib.Dec.{eqb}
 use lib.ListN.{length, take, drop, take-append-drop}
-use lib.Seq.{drop-drop, take-append-seam, take-add}
+use lib.Seq.{drop-drop, take-add}
 use borrow.Author.Tests.{eqb-true}
 use Rattle.base.specs.Choice.{if_then_else_}
 use Rattle.base.specs.Bytes.{startsWith}
 use Rattle.base.proofs.Choice.{pick, and-left, and-right, and-both}
-use Rattle.base.proofs.Prefix.{starts-split}
 use Rattle.base.proofs.Parts.{drop-less}
 use Rattle.splitter.specs.Split.{Chunk, raw, paragraph, lineBreak, before, isLineEnd, isLineEndOrSpace, line, ticks, four}
-use Rattle.splitter.specs.Split.{Step, afterLineEnd, ticked, step, chunks, split}
+use Rattle.splitter.specs.Split.{Step, afterLineEnd, ticked, step, chunks, chunksOf}
 use Rattle.splitter.specs.declared.Code.{Code}
 use Rattle.splitter.specs.declared.Code.the-variants as code
 use Rattle.splitter.proofs.Before.{before-take}
-use Rattle.splitter.proofs.Steps.{step-moves}
+use Rattle.splitter.proofs.Starts.{starts-take, starts-head}
+use Rattle.splitter.proofs.Fits.{step-moves}
 
 -- spaces and line ends only
 abbrev pub gaps : List ℕ → Bool
@@ -51,12 +51,9 @@ pub record Accounted (s : List ℕ) (r : Step) : Type 0 where
 
 -- The kinds of steps
 
-starts-take : (w s : List ℕ) → startsWith w s ≡ true → take (length w) s ≡ w
-starts-take w s e = ap (take (length w)) (starts-split w s e) ∙ take-append-seam w (drop (length w) s)
-
 -- for spaces and line ends alone
 module _ (x : ℕ) (w s : List ℕ) (c : Chunk) (d : Code) where
-  gap-step : Holds [] c → gaps (x ∷ w) ≡ true → startsWith (x ∷ w) s ≡ true → Accounted s (record { chunk = c; used = length (x ∷ w); code = d })
+  gap-step : Holds [] c → gaps (x ∷ w) ≡ true → startsWith (x ∷ w) s ≡ true → Accounted s (record { chunk = c; begins = 0; used = length (x ∷ w); code = d })
   gap-step h g e = record {
     lead = [];
     kept = [];
@@ -78,7 +75,8 @@ module _ (test : ℕ → Bool) (t : Ends test) where
   before-stops [] = atEnd
   before-stops (b ∷ s) = pick (λ (w : List ℕ). Stops (drop (length w) (b ∷ s))) (test b) (λ e. stop b s (t b e)) (λ _. before-stops s)
 
-  before-step : (s : List ℕ) (width : ℕ) (d : Code) → Accounted s (record { chunk = raw (before test s) width; used = length (before test s); code = d })
+  before-step : (s : List ℕ) (width : ℕ) (d : Code)
+      → Accounted s (record { chunk = raw (before test s) width; begins = 0; used = length (before test s); code = d })
   before-step s width d = record {
     lead = [];
     kept = before test s;
@@ -105,7 +103,7 @@ module _ (s : List ℕ) (d : Code) where
   abbrev After : List ℕ
   After = drop (length (line s)) s
 
-  line-step : Accounted s (record { chunk = raw (line s) 1_000_001; used = length (line s) + 1; code = d })
+  line-step : Accounted s (record { chunk = raw (line s) 1_000_001; begins = 0; used = length (line s) + 1; code = d })
   line-step =
       let t = before-stops isLineEnd line-ends s in
       record {
@@ -121,7 +119,7 @@ module _ (s : List ℕ) (d : Code) where
 
 -- for a code line
 code-step : (s : List ℕ) → startsWith four s ≡ true
-    → Accounted (0x0A ∷ s) (record { chunk = raw (line (drop 4 s)) 1_000_000; used = 5 + length (line (drop 4 s)); code = code.No })
+    → Accounted (0x0A ∷ s) (record { chunk = raw (line (drop 4 s)) 1_000_000; begins = 5; used = 5 + length (line (drop 4 s)); code = code.No })
 code-step s e =
     let n = length (line (drop 4 s)) in
     record {
@@ -138,11 +136,6 @@ code-step s e =
 
 -- Every step is one of them
 
-starts-head : (x : ℕ) (xs s : List ℕ) → startsWith (x ∷ xs) s ≡ true → startsWith (x ∷ []) s ≡ true
-unfolding startsWith
-starts-head x xs [] e = e
-starts-head x xs (b ∷ s) e = and-both (and-left (eqb b x) (startsWith xs s) e) refl
-
 after-accounted : (s : List ℕ) → Accounted (0x0A ∷ s) (afterLineEnd s)
 unfolding afterLineEnd startsWith
 after-accounted s =
@@ -157,7 +150,7 @@ after-accounted s =
 ticked-accounted : (last : Bool) (s : List ℕ) → Accounted s (ticked last s)
 unfolding ticked
 ticked-accounted last s =
-    pick (λ (u : ℕ). Accounted s (record { chunk = raw (line s) 1_000_001; used = u; code = if last then code.No else code.Rest })) _
+    pick (λ (u : ℕ). Accounted s (record { chunk = raw (line s) 1_000_001; begins = 0; used = u; code = if last then code.No else code.Rest })) _
     (λ _. before-step isLineEnd line-ends s 1_000_001 _) (λ _. line-step s _)
 
 pub step-accounted : (c : Code) (b : ℕ) (s : List ℕ) → Accounted (b ∷ s) (step c (b ∷ s))
@@ -228,6 +221,6 @@ chunks-solid (b ∷ s) c zero =
     ∙ ap (λ (x : List ℕ). solid (a .kept) ++ x) (chunks-solid s (r .code) (r .used - 1) ∙ ap solid (sym (drop-less (r .used) b s (step-moves c b s))))
     ∙ sym (accounted-solid (b ∷ s) r a)
 
-pub split-solid : (body : List ℕ) → solid (texts (split body)) ≡ solid body
-unfolding split
+pub split-solid : (body : List ℕ) → solid (texts (chunksOf body)) ≡ solid body
+unfolding chunksOf
 split-solid body = chunks-solid body code.No 0

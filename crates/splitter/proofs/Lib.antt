@@ -1,7 +1,10 @@
 pub mod Before
 pub mod Words
-pub mod Steps
+pub mod Starts
 pub mod Stripped
+pub mod Fits
+pub mod Steps
+pub mod Places
 pub mod Answers
 pub mod Kept
 pub mod Say

@@ -1,5 +1,5 @@
 -- The chunks of a UTF-8 body are UTF-8, and say its printing characters. Assumes nothing.
-use Prim.Native.Nat.{ℕ, zero, suc, _-_}
+use Prim.Native.Nat.{ℕ, zero, suc, _+_, _-_}
 use mathlib.Core.Path.{_≡_, refl, sym, ap, ap₂, _∙_}
 use mathlib.Core.Bool.{Bool, true, false, _||_}
 use mathlib.Core.List.{List, [], _∷_, _++_, append-assoc, append-nil}
@@ -13,10 +13,10 @@ use Rattle.utf8.specs.Utf8.{continues, rowOf, table}
 use Rattle.white.specs.White.{printing, blank, white, whites}
 use Rattle.utf8.proofs.Text.{Valid}
 use Rattle.white.proofs.White.{valid-left, valid-right, printing-append, blank-valid, blank-printing, blank-join, empty-blank}
-use Rattle.splitter.specs.Split.{Chunk, raw, paragraph, lineBreak, isLineEndOrSpace, Step, step, chunks, split}
+use Rattle.splitter.specs.Split.{Chunk, raw, paragraph, lineBreak, isLineEndOrSpace, Step, step, Placed, placed, split}
 use Rattle.splitter.specs.declared.Code.{Code}
 use Rattle.splitter.specs.declared.Code.the-variants as code
-use Rattle.splitter.proofs.Steps.{step-moves}
+use Rattle.splitter.proofs.Fits.{step-moves}
 use Rattle.splitter.proofs.Kept.{gaps, Holds, itself, aSpace, aParagraph, aLineBreak, Stops, stop, Accounted, step-accounted}
 
 -- what a chunk prints
@@ -31,9 +31,9 @@ Sound paragraph = Unit {0}
 Sound lineBreak = Unit {0}
 
 -- some chunks are UTF-8 and print some characters
-pub data Say : List Chunk → List ℕ → Type 0 where
+pub data Say : List Placed → List ℕ → Type 0 where
   nothing : Say [] []
-  more : {c : Chunk} {cs : List Chunk} {x : List ℕ} → Sound c → Say cs x → Say (c ∷ cs) (said c ++ x)
+  more : {c : Placed} {cs : List Placed} {x : List ℕ} → Sound (c .chunk) → Say cs x → Say (c ∷ cs) (said (c .chunk) ++ x)
 
 -- Spaces and line ends are blank
 
@@ -111,17 +111,17 @@ step-right c b s v = accounted-right (b ∷ s) (step c (b ∷ s)) (step-accounte
 
 -- All of them
 
-chunks-say : (s : List ℕ) (c : Code) (pass : ℕ) → Valid (drop pass s) → Say (chunks c pass s) (printing (drop pass s))
-unfolding chunks printing
-chunks-say [] c zero v = nothing
-chunks-say [] c (suc pass) v = nothing
-chunks-say (b ∷ s) c (suc pass) v = chunks-say s c pass v
-chunks-say (b ∷ s) c zero v =
+placed-say : (s : List ℕ) (at : ℕ) (c : Code) (pass : ℕ) → Valid (drop pass s) → Say (placed at c pass s) (printing (drop pass s))
+unfolding placed printing
+placed-say [] at c zero v = nothing
+placed-say [] at c (suc pass) v = nothing
+placed-say (b ∷ s) at c (suc pass) v = placed-say s (at + 1) c pass v
+placed-say (b ∷ s) at c zero v =
     let r = step c (b ∷ s) in
     let h = step-right c b s v in
     let e = drop-less (r .used) b s (step-moves c b s) in
-    rw (h .same, e) (more (h .sound) (chunks-say s (r .code) (r .used - 1) (rw e at (h .rest))))
+    rw (h .same, e) (more (h .sound) (placed-say s (at + 1) (r .code) (r .used - 1) (rw e at (h .rest))))
 
 pub split-say : (body : List ℕ) → Valid body → Say (split body) (printing body)
 unfolding split
-split-say body v = chunks-say body code.No 0 v
+split-say body v = placed-say body 0 code.No 0 v

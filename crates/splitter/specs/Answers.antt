@@ -1,11 +1,12 @@
--- What the step over a slice and a cursor answers, seen as the rules' chunks.
-use Prim.Native.Nat.{ℕ, _+_, _≤_}
+-- What the step over a slice and a cursor answers, as the rules have it.
+use Prim.Native.Nat.{ℕ, _+_, _≤_, _<_}
+use mathlib.Core.Bool.{_&&_}
 use mathlib.Core.List.{List, [], _∷_}
-use lib.Dec.{leb}
+use lib.Dec.{eqb, leb}
 use lib.ListN.{length, drop}
 use Rattle.base.specs.Bytes.{part}
 use Rattle.base.specs.Choice.{if_then_else_}
-use Rattle.splitter.specs.Split.{Chunk, raw, paragraph, lineBreak, step, chunks}
+use Rattle.splitter.specs.Split.{Chunk, raw, paragraph, lineBreak, isSpace, step, Placed, placed}
 use Rattle.splitter.specs.Split as rules
 use Rattle.splitter.specs.declared.Code.{Code}
 use Rattle.splitter.specs.declared.Code.the-variants as code
@@ -15,19 +16,12 @@ use Rattle.splitter.specs.declared.Piece.the-variants.{Raw, Space, Parag
 use Rattle.splitter.specs.declared.Step.{Step}
 use Rattle.splitter.specs.declared.Step.the-variants.{Take, Done}
 
--- the chunk that a piece of a body is: 'A word or line is handed back as a part of that body'
-abbrev pub chunkOf : List ℕ → Piece → Chunk
-chunkOf body (Raw from to width) = raw (part body from to) width
-chunkOf body Space = raw (0x20 ∷ []) 1
-chunkOf body Paragraph = paragraph
-chunkOf body LineBreak = lineBreak
-
--- the bytes of a piece: 'A word or line is handed back as a part of that body'; the other pieces have none there
-abbrev pub textOf : List ℕ → Piece → List ℕ
-textOf body (Raw from to width) = part body from to
-textOf body Space = []
-textOf body Paragraph = []
-textOf body LineBreak = []
+-- the piece that a chunk is at a place of a body: 'A word or line is handed back as a part of that body'; 'the chunk of one space' is a case of
+-- its own, for a space of the body and for a line end, which the byte at its place tells apart.
+unfoldable pub pieceAt : ℕ → Chunk → Piece
+pieceAt at (raw text width) = if isSpace text && eqb width 1 then Space at else Raw at (at + length text) width
+pieceAt at paragraph = Paragraph at
+pieceAt at lineBreak = LineBreak at
 
 abbrev pub cursor : ℕ → Code → Cursor
 cursor n c = record { at = n; code = c }
@@ -36,36 +30,51 @@ cursor n c = record { at = n; code = c }
 abbrev pub start : Cursor
 start = cursor 0 code.No
 
--- the chunks of a body from a cursor on
-abbrev pub chunksFrom : List ℕ → Cursor → List Chunk
-chunksFrom body c = chunks (c .code) 0 (drop (c .at) body)
-
--- a chunk with the cursor after it, or that there is none
-pub data First : Type 0 where
-  first : Chunk → Cursor → First
-  none : First
+-- a step of the rules for the bytes from a place of a body on, as an answer
+unfoldable pub answer : ℕ → rules.Step → Step
+answer at s = Take (pieceAt (at + s .begins) (s .chunk)) (cursor (at + s .used) (s .code))
 
 -- 'a step giving a chunk and a cursor'; 'a cursor at or past the body's end has no further chunk'
-unfoldable pub firstChunk : List ℕ → Cursor → First
-firstChunk body c = if leb (length body) (c .at) then none else found (c .at) (step (c .code) (drop (c .at) body))
-  where
-    found : ℕ → rules.Step → First
-    found at s = first (s .chunk) (cursor (at + s .used) (s .code))
+unfoldable pub firstChunk : List ℕ → Cursor → Step
+firstChunk body c = if leb (length body) (c .at) then Done else answer (c .at) (step (c .code) (drop (c .at) body))
 
--- an answer as the rules see it
-abbrev pub told : List ℕ → Step → First
-told body (Take p c) = first (chunkOf body p) c
-told body Done = none
+-- the chunk that a piece of a body is
+abbrev pub chunkOf : List ℕ → Piece → Chunk
+chunkOf body (Raw from to width) = raw (part body from to) width
+chunkOf body (Space at) = raw (0x20 ∷ []) 1
+chunkOf body (Paragraph at) = paragraph
+chunkOf body (LineBreak at) = lineBreak
 
--- What the rules leave free: where in the body a word or line is, and whether a space of the body is handed out as `Raw` or as `Space`.
--- What holds of it: the part lies within the body. The width, which the rules settle, is at most the body's length past 1,000,001.
+-- the place in its body where a piece begins
+abbrev pub placeOf : Piece → ℕ
+placeOf (Raw from to width) = from
+placeOf (Space at) = at
+placeOf (Paragraph at) = at
+placeOf (LineBreak at) = at
+
+abbrev pub placedOf : List ℕ → Piece → Placed
+placedOf body p = record { place = placeOf p; chunk = chunkOf body p }
+
+-- the bytes of a piece: 'A word or line is handed back as a part of that body'; the other pieces have none there
+abbrev pub textOf : List ℕ → Piece → List ℕ
+textOf body (Raw from to width) = part body from to
+textOf body (Space at) = []
+textOf body (Paragraph at) = []
+textOf body (LineBreak at) = []
+
+-- the chunks of a body from a cursor on
+abbrev pub placedFrom : List ℕ → Cursor → List Placed
+placedFrom body c = placed (c .at) (c .code) 0 (drop (c .at) body)
+
+-- Bounds that follow from the rules, for callers to do sums with: a piece lies within the body, and its width is at most the body's length past
+-- 1,000,001
 abbrev pub PieceWithin : ℕ → Piece → Type 0
 PieceWithin n (Raw from to width) = (from ≤ to) × (to ≤ n) × (width ≤ n + 1_000_001)
-PieceWithin n Space = Unit {0}
-PieceWithin n Paragraph = Unit {0}
-PieceWithin n LineBreak = Unit {0}
+PieceWithin n (Space at) = at < n
+PieceWithin n (Paragraph at) = at < n
+PieceWithin n (LineBreak at) = at < n
 
--- what holds of the next cursor: it is past the last one, and at most one past the end
+-- and the next cursor is past the last one, and at most one past the end
 abbrev pub Within : List ℕ → Cursor → Step → Type 0
 Within body c (Take p d) = PieceWithin (length body) p × (c .at + 1 ≤ d .at) × (d .at ≤ length body + 1)
 Within body c Done = length body ≤ c .at

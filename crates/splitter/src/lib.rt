@@ -1,11 +1,11 @@
 // The chunks of a body, one at a time (src/buffer/splitter.rs).
 ghost use mathlib.Core.Path.{_≡_};
 ghost use mathlib.Core.Bool.{false};
-ghost use Prim.Native.Nat.{_+_, _-_, _≤_, _<_};
-ghost use lib.ListN.{length, take, drop};
+ghost use Prim.Native.Nat.{_+_, _<_};
+ghost use lib.ListN.{length, drop};
 ghost use Rattle.splitter.specs.Split.{line, step, stripped, ticked as tickedLine, afterLineEnd};
-ghost use Rattle.splitter.specs.Answers.{cursor, told, firstChunk, textOf, Within};
-ghost use Rattle.splitter.specs.Parts.{Follows, Gives, wordFrom};
+ghost use Rattle.splitter.specs.Answers.{cursor, answer, firstChunk, placeOf, textOf, Within};
+ghost use Rattle.splitter.specs.Parts.{Follows, wordFrom};
 ghost use Rattle.splitter.specs.declared.Code.the-variants as code;
 ghost use Rattle.splitter.specs.declared.Step.the-variants.{Take};
 
@@ -22,12 +22,13 @@ pub struct Cursor {
     pub code: Code,
 }
 
-// A chunk: a part of the body from a place up to another with its width, one space, a paragraph, a line break.
+// A chunk and where in the body it begins: a part of the body from a place up to another with its width; the chunk of one space, for the space or
+// the line end at a place; a paragraph, a line break.
 pub enum Piece {
     Raw(usize, usize, usize),
-    Space,
-    Paragraph,
-    LineBreak,
+    Space(usize),
+    Paragraph(usize),
+    LineBreak(usize),
 }
 
 // A chunk with the cursor after it, or that there is none.
@@ -97,7 +98,7 @@ fn found(piece: Piece, at: usize, code: Code) -> Step
 // A line in ticks.
 fn ticked(body: &[u8], at: usize, last: bool) -> Step
     requires { ⌜ at < length (now body) ⌝ }
-    ensures { λ r. ⌜ Gives (now (body .entry)) at (tickedLine last (drop at (now (body .entry)))) r ⌝ }
+    ensures { λ r. ⌜ r ≡ answer at (tickedLine last (drop at (now (body .entry)))) ⌝ }
 {
     let to = line_end(body, at);
     let next = to + 1;
@@ -110,21 +111,13 @@ fn ticked(body: &[u8], at: usize, last: bool) -> Step
     found(Piece::Raw(at, to, 1_000_001), next, Code::Rest)
 }
 
-// The bytes from a place on.
-fn rest<'a>(body: &'a [u8], at: usize) -> &'a [u8]
-    requires { ⌜ at ≤ length (now body) ⌝ }
-    ensures { λ r. ⌜ now r ≡ drop at (now (body .entry)) ⌝ }
-{
-    &body[at..]
-}
-
 // The text after a prefix, all of it if the prefix isn't there. A prefix of some bytes was there if the part is shorter than the text, as the
 // functions below test for the source's `if let Some(tail)`.
 pub fn strip_prefix<'a>(text: &'a [u8], prefix: &[u8]) -> &'a [u8]
     ensures { λ r. ⌜ now r ≡ stripped (now (prefix .entry)) (now (text .entry)) ⌝ }
 {
     if base::starts_with(text, 0, prefix) {
-        return rest(text, prefix.len());
+        return base::get_from(text, prefix.len());
     }
     text
 }
@@ -132,7 +125,7 @@ pub fn strip_prefix<'a>(text: &'a [u8], prefix: &[u8]) -> &'a [u8]
 // What the line end at `start` begins; `tail` is what follows it.
 fn after_line_end(body: &[u8], start: usize, tail: &[u8]) -> Step
     requires { ⌜ Follows (now body) start (now tail) ⌝ }
-    ensures { λ r. ⌜ Gives (now (body .entry)) start (afterLineEnd (now (tail .entry))) r ⌝ }
+    ensures { λ r. ⌜ r ≡ answer start (afterLineEnd (now (tail .entry))) ⌝ }
 {
     let at = start + 1;
     let code = strip_prefix(tail, b"    ");
@@ -142,35 +135,35 @@ fn after_line_end(body: &[u8], start: usize, tail: &[u8]) -> Step
         return found(Piece::Raw(from, to, 1_000_000), to, Code::No);
     }
     if base::starts_with(tail, 0, b"\n```") {
-        return found(Piece::Paragraph, at + 1, Code::First);
+        return found(Piece::Paragraph(start), at + 1, Code::First);
     }
     if base::starts_with(tail, 0, b"\n    ") {
-        return found(Piece::Paragraph, at, Code::No);
+        return found(Piece::Paragraph(start), at, Code::No);
     }
     let second = strip_prefix(tail, b"\n");
     if second.len() < tail.len() {
-        return found(Piece::Paragraph, body.len() - second.len(), Code::No);
+        return found(Piece::Paragraph(start), body.len() - second.len(), Code::No);
     }
     let spaced = strip_prefix(tail, b" ");
     if spaced.len() < tail.len() {
-        return found(Piece::LineBreak, body.len() - spaced.len(), Code::No);
+        return found(Piece::LineBreak(start), body.len() - spaced.len(), Code::No);
     }
-    found(Piece::Space, at, Code::No)
+    found(Piece::Space(start), at, Code::No)
 }
 
 // Outside ticks.
 fn plain(body: &[u8], at: usize) -> Step
     requires { ⌜ at < length (now body) ⌝ }
-    ensures { λ r. ⌜ Gives (now (body .entry)) at (step code.No (drop at (now (body .entry)))) r ⌝ }
+    ensures { λ r. ⌜ r ≡ answer at (step code.No (drop at (now (body .entry)))) ⌝ }
 {
-    let input = rest(body, at);
+    let input = &body[at..];
     let tail = strip_prefix(input, b"\n");
     if tail.len() < input.len() {
         return after_line_end(body, at, tail);
     }
     let spaced = strip_prefix(input, b" ");
     if spaced.len() < input.len() {
-        return found(Piece::Space, body.len() - spaced.len(), Code::No);
+        return found(Piece::Space(at), body.len() - spaced.len(), Code::No);
     }
     let w = word_end(body, at);
     let to = w.to;
@@ -180,7 +173,7 @@ fn plain(body: &[u8], at: usize) -> Step
 // In ticks, after their first line.
 fn later(body: &[u8], at: usize) -> Step
     requires { ⌜ at < length (now body) ⌝ }
-    ensures { λ r. ⌜ Gives (now (body .entry)) at (step code.Rest (drop at (now (body .entry)))) r ⌝ }
+    ensures { λ r. ⌜ r ≡ answer at (step code.Rest (drop at (now (body .entry)))) ⌝ }
 {
     let last = base::starts_with(body, at, b"```");
     ticked(body, at, last)
@@ -188,7 +181,7 @@ fn later(body: &[u8], at: usize) -> Step
 
 // The first chunk from a cursor on, and the cursor after it.
 pub fn step_at(body: &[u8], c: Cursor) -> Step
-    ensures chunk { λ r. ⌜ told (now (body .entry)) r ≡ firstChunk (now (body .entry)) c ⌝ }
+    ensures chunk { λ r. ⌜ r ≡ firstChunk (now (body .entry)) c ⌝ }
     ensures within { λ r. ⌜ Within (now (body .entry)) c r ⌝ }
 {
     let at = c.at;
@@ -203,30 +196,26 @@ pub fn step_at(body: &[u8], c: Cursor) -> Step
     }
 }
 
-// The bytes from a place up to another, as far as there are any.
-fn part<'a>(body: &'a [u8], from: usize, to: usize) -> &'a [u8]
-    ensures { λ r. ⌜ now r ≡ take (to - from) (drop from (now (body .entry))) ⌝ }
-{
-    if to <= from {
-        return &body[0..0];
-    }
-    if body.len() <= from {
-        return &body[0..0];
-    }
-    if body.len() <= to {
-        return rest(body, from);
-    }
-    &body[from..to]
-}
-
-// The part of a body that a word or a line is; nothing of the other pieces.
+// The part of a body that a word or a line is; nothing for the other pieces.
 pub fn text_of<'a>(body: &'a [u8], p: Piece) -> &'a [u8]
     ensures { λ r. ⌜ now r ≡ textOf (now (body .entry)) p ⌝ }
 {
     match p {
-        Piece::Raw(from, to, _) => part(body, from, to),
-        Piece::Space => &body[0..0],
-        Piece::Paragraph => &body[0..0],
-        Piece::LineBreak => &body[0..0],
+        Piece::Raw(from, to, _) => base::get(body, from, to),
+        Piece::Space(_) => &body[0..0],
+        Piece::Paragraph(_) => &body[0..0],
+        Piece::LineBreak(_) => &body[0..0],
+    }
+}
+
+// The place in its body where a piece begins.
+pub fn place_of(p: Piece) -> usize
+    ensures { λ r. ⌜ r ≡ placeOf p ⌝ }
+{
+    match p {
+        Piece::Raw(from, _, _) => from,
+        Piece::Space(at) => at,
+        Piece::Paragraph(at) => at,
+        Piece::LineBreak(at) => at,
     }
 }

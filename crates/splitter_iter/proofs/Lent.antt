@@ -3,15 +3,12 @@
 -- Assumes nothing.
 use Rattle.proof_kit.proofs.Kit.{_≡_, ℕ, List, [], _∷_, URA, PosShare·left, PosShare·right, Val, vptr, SProp, ent, id⊢, GName, Lft, Share, Fml, ftrue, flft, fdead, flent, Memory, Routine, Heap, Env, Calls, Loops, Atoms, meet-⊑-right, Fun, fact, Given, Item, ‵, raw, _⊛_, ⋆, some, later, Post, runs, lands, Seq, _$_, _∵_, !, qed, move, drop, use1, use2, use3, split, join, pick, fsplit, fjoin, frame, await, done, Opds, Body, lft-new, FmC, RattleType, Is, shows, lends-ref, ref-back, mem, RefT, MutRef, NamedLft, now, peeks, heard, nothing, Contract, Triple, calls-at, ensured, lasts, tripleOf}
 use mir.Syntax.{named, erased, Place, Opd as Operand, Body as Code, seq, call}
-use denote.Struct.Laws as LL
-use lib.ListN.{drop as drop-bytes}
-use Rattle.splitter.specs.Answers.{told, firstChunk, Within}
-use Rattle.splitter_iter.specs.Held.{rest as restOf, standing, afterStep}
+use Rattle.splitter.specs.Answers.{firstChunk}
+use Rattle.splitter_iter.specs.Held.{splitter, bodyOf, standing, afterStep}
 use Rattle.splitter_iter.specs.declared.Splitter.{Splitter}
 use Rattle.splitter.specs.declared.Step.{Step}
 use Rattle.splitter_iter.proofs.Parts as P
 use Rattle.proof_kit.proofs.Tokens.{Whole, out, back}
-use Rattle.splitter_iter.proofs.Splitter.Laws as T′
 use Rattle.splitter.proofs.Step as S
 use Rattle.splitter_iter.proofs.Splitter.next as next
 use Rattle.splitter_iter.proofs.Splitter.next.Symbol.{name as #next}
@@ -29,9 +26,7 @@ Next 𝓤 H A mem run = tripleOf 𝓤 H A next.signature (next.spec 𝓤 H A mem
 
 -- what `next` says, of the struct before and after it and of its answer
 abbrev pub Said : Splitter → Step → Splitter → Type 0
-Said h r z =
-    (told (restOf h) r ≡ firstChunk (restOf h) (standing h)) × Within (restOf h) (standing h) r
-    × (restOf z ≡ drop-bytes (afterStep r (standing h) .at) (restOf h)) × (z .code ≡ afterStep r (standing h) .code)
+Said h r z = (r ≡ firstChunk (bodyOf h) (standing h)) × (z ≡ splitter (h .input) (afterStep r (standing h)))
 
 module _ {M : Type 1} (𝓤 : URA M) (H : Heap 𝓤) (A : Atoms 𝓤) (W : Given 𝓤 H A) (at-mem : Memory → SProp 𝓤) (run : Routine → Fun 𝓤) (κ : Lft) (q : Share) (h : Splitter) (l ν : ℕ) (γ : GName) where
   -- the loan of the local at l, under the name γ, for the meet of κ and ν

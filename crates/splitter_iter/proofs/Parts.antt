@@ -50,7 +50,7 @@ module _ (a : NamedLft) where
   L = T′.the-laws a
 
   abbrev pub values : Splitter → Values (D .parts)
-  values d = (d .input, (d .code, tt))
+  values d = (d .input, (d .at, (d .code, tt)))
 
   abbrev pub val : Splitter → Val
   val d = LL.val D L d
@@ -62,9 +62,16 @@ module _ (a : NamedLft) where
     abbrev pub Input : Fml
     Input = ShrSlice (a .mir) (a .lft) u8 .own (d .input) (slice-val (d .input) ∷ [])
 
+    -- its place fits a usize, and its tick state has its facts
+    pub place-fits : Is R d (val d ∷ []) → d .at < 2 ^ 64
+    place-fits is = LL.owed D L d _ is .1 .0 .1
+
+    pub code-is : Is R d (val d ∷ []) → Is C.the-row (d .code) (code-val (d .code) ∷ [])
+    code-is is = LL.owed D L d _ is .1 .1 .0
+
     -- its machine value, and that of its tick state, have their MIR types
     pub code-typed : Is R d (val d ∷ []) → Holds (hasTy C′.mir (code-val (d .code))) × WT (code-val (d .code))
-    code-typed is = EL.lawful C.the-type C′.the-laws 𝓤 H A W tt .typed (d .code) _ (LL.owed D L d _ is .1 .0) .0
+    code-typed is = EL.lawful C.the-type C′.the-laws 𝓤 H A W tt .typed (d .code) _ (code-is is) .0
 
     pub typed : Is R d (val d ∷ []) → Holds (hasTy (T′.mir (a .mir)) (val d)) × WT (val d)
     typed is = LL.lawful D L 𝓤 H A W .typed d _ is .0

@@ -3,28 +3,26 @@ use Prim.Native.Nat.{ℕ}
 use mathlib.Core.Bool.{Bool, true, false}
 use mathlib.Core.List.{List}
 use denote.Ref.{RefT, now}
-use Rattle.splitter.specs.Split.{Chunk, chunks}
-use Rattle.splitter.specs.Answers.{cursor}
-use Rattle.splitter.specs.declared.Code.{Code}
+use Rattle.splitter.specs.Split.{Placed}
+use Rattle.splitter.specs.Answers.{cursor, placedFrom}
 use Rattle.splitter.specs.declared.Cursor.{Cursor}
 use Rattle.splitter.specs.declared.Step.{Step}
 use Rattle.splitter.specs.declared.Step.the-variants.{Take, Done}
 use Rattle.splitter_iter.specs.declared.Splitter.{Splitter}
 
-abbrev pub splitter : RefT (List ℕ) → Code → Splitter
-splitter x k = record { input = x; code = k }
+abbrev pub splitter : RefT (List ℕ) → Cursor → Splitter
+splitter x c = record { input = x; at = c .at; code = c .code }
 
--- the bytes that are left
-abbrev pub rest : Splitter → List ℕ
-rest s = now (s .input)
+abbrev pub bodyOf : Splitter → List ℕ
+bodyOf s = now (s .input)
 
--- the cursor at which a step goes on: at the start of what is left
+-- the cursor at which a step goes on
 abbrev pub standing : Splitter → Cursor
-standing s = cursor 0 (s .code)
+standing s = cursor (s .at) (s .code)
 
 -- the chunks that are left
-abbrev pub left : Splitter → List Chunk
-left s = chunks (s .code) 0 (rest s)
+abbrev pub left : Splitter → List Placed
+left s = placedFrom (bodyOf s) (standing s)
 
 -- the cursor after a step; where there was no chunk, the one before it
 abbrev pub afterStep : Step → Cursor → Cursor

@@ -1,18 +1,18 @@
-// The splitter as in the source (src/buffer/splitter.rs): a struct that holds what is left of a body and its tick state, with thin functions over
-// the step of the crate `splitter`.
+// The splitter as in the source (src/buffer/splitter.rs): a struct that holds a body and its tick state, with thin functions over the step of the
+// crate `splitter`. It also holds the place in the body where it stands, so that places of chunks count in the whole body.
 ghost use mathlib.Core.Path.{_≡_};
-ghost use lib.ListN.{length, drop};
+ghost use lib.ListN.{length};
 ghost use Rattle.splitter.specs.Split.{split as splitOf};
-ghost use Rattle.splitter.specs.Answers.{told, firstChunk, Within};
-ghost use Rattle.splitter.specs.declared.Code.the-variants as code;
-ghost use Rattle.splitter_iter.specs.Held.{splitter as held, rest as restOf, standing, left, afterStep, hasChunk};
+ghost use Rattle.splitter.specs.Answers.{start, firstChunk};
+ghost use Rattle.splitter_iter.specs.Held.{splitter as held, bodyOf, standing, left, afterStep, hasChunk};
 use splitter::Code;
 use splitter::Cursor;
 use splitter::Step;
 
-// What is left of a body, and whether that is in ticks.
+// A body, the place in it up to which chunks were taken, and whether that is in ticks.
 pub struct Splitter<'a> {
     pub input: &'a [u8],
+    pub at: usize,
     pub code: Code,
 }
 
@@ -26,42 +26,30 @@ fn after(t: Step, c: Cursor) -> Cursor
     }
 }
 
-// The bytes from a place on.
-fn rest<'a>(body: &'a [u8], at: usize) -> &'a [u8]
-    ensures { λ r. ⌜ now r ≡ drop at (now (body .entry)) ⌝ }
-{
-    if at <= body.len() {
-        return &body[at..];
-    }
-    let n = body.len();
-    &body[n..]
-}
-
 // The splitter before a body's first chunk: all of the body's chunks are left.
 pub fn split<'a>(input: &'a [u8]) -> Splitter<'a>
-    ensures { λ r. ⌜ (r ≡ held (input .entry) code.No) × (left r ≡ splitOf (now (input .entry))) ⌝ }
+    ensures { λ r. ⌜ (r ≡ held (input .entry) start) × (left r ≡ splitOf (now (input .entry))) ⌝ }
 {
     Splitter {
         input,
+        at: 0,
         code: Code::No,
     }
 }
 
 impl<'a> Splitter<'a> {
-    // The first chunk of what is left, which is then no longer left. Its places count from the start of what was left.
+    // The first chunk that is left, with its place in the body; it is then no longer left.
     pub fn next(&mut self) -> Step
-        ensures { λ r. ⌜ (told (restOf (now (self .entry))) r ≡ firstChunk (restOf (now (self .entry))) (standing (now (self .entry))))
-            × Within (restOf (now (self .entry))) (standing (now (self .entry))) r
-            × (restOf (now (self .exit)) ≡ drop (afterStep r (standing (now (self .entry))) .at) (restOf (now (self .entry))))
-            × (now (self .exit) .code ≡ afterStep r (standing (now (self .entry))) .code) ⌝ }
+        ensures { λ r. ⌜ (r ≡ firstChunk (bodyOf (now (self .entry))) (standing (now (self .entry))))
+            × (now (self .exit) ≡ held (now (self .entry) .input) (afterStep r (standing (now (self .entry))))) ⌝ }
     {
         let c = Cursor {
-            at: 0,
+            at: self.at,
             code: self.code,
         };
         let t = splitter::step_at(self.input, c);
         let d = after(t, c);
-        self.input = rest(self.input, d.at);
+        self.at = d.at;
         self.code = d.code;
         t
     }

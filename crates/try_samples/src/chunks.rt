@@ -30,9 +30,9 @@ fn is_wanted(body: &[u8], piece: Piece, line: &[u8]) -> bool {
                 && width == number.value
                 && check::same(splitter::text_of(body, piece), text)
         }
-        Piece::Space => letter == b'~' && number.value == 1 && check::same(b" ", text),
-        Piece::Paragraph => letter == b'P',
-        Piece::LineBreak => false,
+        Piece::Space(_) => letter == b'~' && number.value == 1 && check::same(b" ", text),
+        Piece::Paragraph(_) => letter == b'P',
+        Piece::LineBreak(_) => false,
     }
 }
 

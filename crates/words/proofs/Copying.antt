@@ -17,13 +17,13 @@ use Rattle.utf8.specs.Utf8.{characters}
 use Rattle.room.proofs.Laws.{copied-more}
 use Rattle.splitter.specs.Split.{isLineEndOrSpace, raw, word}
 use Rattle.splitter.specs.Parts.{wordFrom}
-use Rattle.splitter.specs.Answers.{chunksFrom, cursor}
+use Rattle.splitter.specs.Answers.{placedFrom, cursor}
 use Rattle.splitter.specs.declared.Code.the-variants as code
 use Rattle.splitter.specs.declared.Piece.the-variants.{Raw, Space}
 use Rattle.splitter.specs.declared.Step.the-variants.{Take}
 use Rattle.splitter.proofs.Before.{before-stop, before-go, before-none, space-ends, line-ends, neither-ends}
 use Rattle.splitter.proofs.Words.{Reading, reading-start, reading-stop, reading-end, reading-one, reading-none}
-use Rattle.splitter.proofs.Steps.{chunks-take}
+use Rattle.splitter.proofs.Steps.{placed-take}
 use Rattle.splitter.proofs.Answers.{plain-word, plain-space, answers-some}
 use Rattle.words.specs.Copies.{nextWord, fittingWord, Copies}
 use Rattle.words.specs.declared.Word.{Word}
@@ -166,10 +166,11 @@ module _ (x : List ℕ) (at len : ℕ) (old : List ℕ) where
             let b = ap length (before-stop isLineEndOrSpace x at (omega (arith, c .within)) f) in
             omega (arith, c .reading .ends)
 
-        word-next : at < to → chunksFrom x (cursor at code.No) ≡ raw (take (to - at) (drop at x)) width ∷ chunksFrom x (cursor to code.No)
+        word-next : at < to
+            → placedFrom x (cursor at code.No) ≡ record { place = at; chunk = raw (take (to - at) (drop at x)) width } ∷ placedFrom x (cursor to code.No)
         word-next h =
             let l : at < length x = omega (arith, c .within) in
-            chunks-take x (cursor at code.No) (Raw at to width) (cursor to code.No)
+            placed-take x (cursor at code.No) (Raw at to width) (cursor to code.No)
             (answers-some x (cursor at code.No) code.No (Take (Raw at to width) (cursor to code.No)) l refl
             (plain-word x at l (λ f. first-none h (line-ends (getD x at 0) f)) (record { to = to; width = width }) (λ f. first-none h (space-ends (getD x at 0) f)) e) .0)
 
@@ -215,8 +216,8 @@ module _ (x : List ℕ) (at len : ℕ) (old : List ℕ) where
         within = λ _. omega arith;
         narrow = λ _. omega arith;
         next = λ _. rw (z, one)
-            (chunks-take x (cursor at code.No) Space (cursor (at + 1) code.No)
-            (answers-some x (cursor at code.No) code.No (Take Space (cursor (at + 1) code.No)) h refl
+            (placed-take x (cursor at code.No) (Space at) (cursor (at + 1) code.No)
+            (answers-some x (cursor at code.No) code.No (Take (Space at) (cursor (at + 1) code.No)) h refl
             (plain-space x at h (λ f. omega arith) e) .0));
       }
 

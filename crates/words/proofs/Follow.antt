@@ -9,8 +9,8 @@ use native.Mathlib.Omega.{arith}
 use Rattle.base.specs.Choice.{if_then_else_}
 use Rattle.base.specs.Result.{Result, gives, _>>=_}
 use Rattle.base.proofs.Choice.{le-or-lt}
-use Rattle.splitter.specs.Split.{Chunk, raw}
-use Rattle.splitter.specs.Answers.{chunksFrom, cursor}
+use Rattle.splitter.specs.Split.{raw, Placed}
+use Rattle.splitter.specs.Answers.{placedFrom, cursor}
 use Rattle.splitter.specs.declared.Code.the-variants as code
 use Rattle.room.proofs.Laws.{extended-in}
 use Rattle.renderer.specs.Walk.{Page, page, write, shown, body}
@@ -32,11 +32,12 @@ module _ {L : Type 0} where
       (le-or-lt len (length old))
 
   -- the next chunk is a text that a renderer writes as it stands
-  pub word-follows : (full : Bool) (chunk : Chunk → Page L → Result (Page L)) (x old new text : List ℕ) (len k at to w : ℕ) (kept : List ℕ) (lay lay′ : L)
+  pub word-follows : (full : Bool) (chunk : Placed → Page L → Result (Page L)) (x old new text : List ℕ) (len k at to w : ℕ) (kept : List ℕ) (lay lay′ : L)
       → length new ≡ length old → len + k ≤ length old → take (len + k) new ≡ take len old ++ text
-      → chunksFrom x (cursor at code.No) ≡ raw text w ∷ chunksFrom x (cursor to code.No)
-      → chunk (raw text w) (page kept lay (take len old)) ≡ gives (page kept lay′ (take len old ++ text))
-      → (shown new (len + k) kept lay′ >>= body full chunk (chunksFrom x (cursor to code.No))) ≡ (shown old len kept lay >>= body full chunk (chunksFrom x (cursor at code.No)))
+      → placedFrom x (cursor at code.No) ≡ record { place = at; chunk = raw text w } ∷ placedFrom x (cursor to code.No)
+      → chunk (record { place = at; chunk = raw text w }) (page kept lay (take len old)) ≡ gives (page kept lay′ (take len old ++ text))
+      → (shown new (len + k) kept lay′ >>= body full chunk (placedFrom x (cursor to code.No)))
+      ≡ (shown old len kept lay >>= body full chunk (placedFrom x (cursor at code.No)))
   unfolding body _>>=_ if_then_else_
   word-follows full chunk x old new text len k at to w kept lay lay′ size fits copied next e =
       rw (shown-in new (len + k) kept lay′ (omega arith), shown-in old len kept lay (omega arith), copied, next) (rw e refl)

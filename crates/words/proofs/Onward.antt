@@ -8,7 +8,7 @@ use lib.Seq.{length-take-le}
 use native.Mathlib.Omega.{arith}
 use Rattle.base.specs.Bytes.{part}
 use Rattle.base.specs.Result.{Result, gives, _>>=_}
-use Rattle.splitter.specs.Split.{Chunk, raw}
+use Rattle.splitter.specs.Split.{raw, Placed}
 use Rattle.splitter.specs.declared.Code.the-variants as code
 use Rattle.renderer.specs.Walk.{Page, page, shown}
 use Rattle.words.specs.Copies.{Copies}
@@ -16,7 +16,7 @@ use Rattle.words.specs.Onward.{onward, Onward}
 use Rattle.words.specs.declared.Word.{Word}
 use Rattle.words.proofs.Follow.{shown-stays, word-follows}
 
-module _ {I L : Type 0} (full : I → Bool) (chunk : I → ℕ → Chunk → Page L → Result (Page L)) (Plain : I → L → Type 0) (x old : List ℕ) (len at : ℕ) where
+module _ {I L : Type 0} (full : I → Bool) (chunk : I → ℕ → Placed → Page L → Result (Page L)) (Plain : I → L → Type 0) (x old : List ℕ) (len at : ℕ) where
   -- no word yet
   pub onward-start : (moved : L → L) → ((i : I) (lay : L) → Plain i lay → moved lay ≡ lay) → Onward full chunk Plain moved x old len at old len at
   onward-start moved e = record {
@@ -45,7 +45,8 @@ module _ {I L : Type 0} (full : I → Bool) (chunk : I → ℕ → Chunk → Pag
     -- a word that the renderer writes as it stands
     pub onward-next : at′ < w .to → (after : L → L)
         → ((i : I) (kept : List ℕ) (lay : L) → Plain i lay
-        → chunk i (length new) (raw (part x at′ (w .to)) (w .width)) (page kept (moved lay) (take len′ new)) ≡ gives (page kept (after lay) (take len′ new ++ part x at′ (w .to))))
+        → chunk i (length new) (record { place = at′; chunk = raw (part x at′ (w .to)) (w .width) }) (page kept (moved lay) (take len′ new))
+        ≡ gives (page kept (after lay) (take len′ new ++ part x at′ (w .to))))
         → Onward full chunk Plain after x old len at new′ (len′ + (w .to - at′)) (w .to)
     onward-next h after e = record {
       size = size ∙ o .size;

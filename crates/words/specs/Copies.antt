@@ -8,7 +8,7 @@ use Rattle.base.specs.Bytes.{part, startsWith}
 use Rattle.base.specs.Choice.{if_then_else_}
 use Rattle.utf8.specs.Utf8.{characters}
 use Rattle.splitter.specs.Split.{raw, word}
-use Rattle.splitter.specs.Answers.{chunksFrom, cursor}
+use Rattle.splitter.specs.Answers.{placedFrom, cursor}
 use Rattle.splitter.specs.declared.Code.the-variants as code
 use Rattle.words.specs.declared.Word.{Word}
 
@@ -24,7 +24,7 @@ unfoldable pub fittingWord : ℕ → ℕ → List ℕ → ℕ → Word
 fittingWord room len x at = if leb (len + (nextWord x at .to - at)) room then nextWord x at else record { to = at; width = 0 }
 
 -- It is that word. The bytes up to the length stay, and of a word that ends past `at` all bytes were copied after them; it is the next
--- chunk. Free are the bytes of the room past those.
+-- chunk, at its place. Free are the bytes of the room past those.
 pub record Copies (x : List ℕ) (at len : ℕ) (old new : List ℕ) (w : Word) : Type 0 where
   pub exact : w ≡ fittingWord (length old) len x at
   pub stays : take len new ≡ take len old
@@ -33,4 +33,5 @@ pub record Copies (x : List ℕ) (at len : ℕ) (old new : List ℕ) (w : Word) 
   pub fits : at < w .to → len + (w .to - at) ≤ length old
   pub within : at < w .to → w .to ≤ length x
   pub narrow : at < w .to → w .width ≤ w .to - at
-  pub next : at < w .to → chunksFrom x (cursor at code.No) ≡ raw (part x at (w .to)) (w .width) ∷ chunksFrom x (cursor (w .to) code.No)
+  pub next : at < w .to
+      → placedFrom x (cursor at code.No) ≡ record { place = at; chunk = raw (part x at (w .to)) (w .width) } ∷ placedFrom x (cursor (w .to) code.No)

@@ -5,17 +5,17 @@ use mathlib.Core.Bool.{Bool}
 use mathlib.Core.List.{List}
 use lib.ListN.{length}
 use Rattle.base.specs.Result.{Result, _>>=_}
-use Rattle.splitter.specs.Split.{Chunk}
-use Rattle.splitter.specs.Answers.{chunksFrom, cursor}
+use Rattle.splitter.specs.Split.{Placed}
+use Rattle.splitter.specs.Answers.{placedFrom, cursor}
 use Rattle.splitter.specs.declared.Code.{Code}
 use Rattle.splitter.specs.declared.Code.the-variants as code
 use Rattle.renderer.specs.Walk.{Page, shown, body}
 
 -- A renderer's rule for a chunk, by what the renderer is asked for and the room's length.
-module _ {I L : Type 0} (full : I → Bool) (chunk : I → ℕ → Chunk → Page L → Result (Page L)) where
+module _ {I L : Type 0} (full : I → Bool) (chunk : I → ℕ → Placed → Page L → Result (Page L)) where
   -- the chunks of a body from a cursor on
   abbrev pub onward : I → ℕ → List ℕ → ℕ → Code → Page L → Result (Page L)
-  onward i limit x at c = body (full i) (chunk i limit) (chunksFrom x (cursor at c))
+  onward i limit x at c = body (full i) (chunk i limit) (placedFrom x (cursor at c))
 
   -- Where `Plain` holds, the chunks from one place on give what those from another do, with the text and what is kept as they are there.
   pub record Onward (Plain : I → L → Type 0) (moved : L → L) (x old : List ℕ) (len at : ℕ) (new : List ℕ) (len′ at′ : ℕ) : Type 0 where

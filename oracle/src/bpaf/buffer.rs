@@ -377,13 +377,22 @@ pub(crate) enum PlainChunk<'a> {
     LineBreak,
 }
 
-// ADDED: see `PlainChunk`.
-pub(crate) fn plain_chunks(input: &str) -> Vec<PlainChunk<'_>> {
-    splitter::split(input)
-        .map(|chunk| match chunk {
-            splitter::Chunk::Raw(s, w) => PlainChunk::Raw(s, w),
-            splitter::Chunk::Paragraph => PlainChunk::Paragraph,
-            splitter::Chunk::LineBreak => PlainChunk::LineBreak,
-        })
-        .collect()
+// ADDED: see `PlainChunk`. With each chunk, where the splitter stood before and after it: how many bytes of
+// the input it had taken, and its tick state.
+pub(crate) type Stands = (usize, u32);
+pub(crate) fn plain_chunks(input: &str) -> Vec<(PlainChunk<'_>, Stands, Stands)> {
+    let mut splitter = splitter::split(input);
+    let mut chunks = Vec::new();
+    loop {
+        let (before, ticks_before) = splitter.stands();
+        let chunk = match splitter.next() {
+            Some(splitter::Chunk::Raw(s, w)) => PlainChunk::Raw(s, w),
+            Some(splitter::Chunk::Paragraph) => PlainChunk::Paragraph,
+            Some(splitter::Chunk::LineBreak) => PlainChunk::LineBreak,
+            None => return chunks,
+        };
+        let (after, ticks_after) = splitter.stands();
+        let taken = |left: usize| input.len() - left;
+        chunks.push((chunk, (taken(before), ticks_before), (taken(after), ticks_after)));
+    }
 }

@@ -13,10 +13,10 @@ use Rattle.splitter.proofs.Answers.{took, ended}
 use Rattle.console.proofs.Standing.{Standing, Writing, stand-first, zeros-shallow, stand-over, stand-known, stand-startable, stand-less, stand-count, stand-column, stand-started, stand-ended, stand-hidden, write-words, stands-refused, stands-done, margin-low, body-few, body-first, column-low, body-done, body-stop, body-on, body-deep, placed-deep, placed-at, nearby-at}
 
 abbrev Inv-chunks : tie.InvT-chunks
-Inv-chunks document set tab room₀ margins count m₀ at place start stop next margin body from₀ code₀ room m from code = Writing document set (tab .0) (length room₀) body (margin .0) place next (take count margins) room m (cursor from code)
+Inv-chunks document set tab room₀ margins count m₀ at start stop next margin body from₀ code₀ room m from code = Writing document set (tab .0) (length room₀) body (margin .0) start next (take count margins) room m (cursor from code)
 
 abbrev μ-chunks : tie.MeasureT-chunks
-μ-chunks document set tab room₀ margins count m₀ at place start stop next margin body from₀ code₀ room m from code = length body + 1 - from
+μ-chunks document set tab room₀ margins count m₀ at start stop next margin body from₀ code₀ room m from code = length body + 1 - from
 
 abbrev Inv-records : tie.InvT-records
 Inv-records document set tab room₀ margins₀ count₀ m₀ at₀ room margins count m at = Standing document set (tab .0) (length room₀) room margins count m at
@@ -126,6 +126,7 @@ put-piece-requires c κs =
       column-low _ _ _ _ (s .room) (s .margins) (s .count) (s .m) (s .at) (s .inv) (c .before .before .before .before .before .before .before .before .before .before .before .before .before .before .before .before .before .before .before .record-at .result) (c .before .before .before .before .before .before .before .before .before .before .before .before .before .before .before .before .before .before .before .record-at .ensures) (c .before .before .before .before .before .before .before .before .before .before .before .before .before .before .before .before .before .before .before .before .before .before .records-test .taken) (c .before .before .before .before .before .before .before .before .before .before .before .before .before .before .before .before .before .before .before .before .before .before .before .before .before .before .before .pre .0) _ (c .before .before .before .before .before .before .before .before .before .before .before .before .before .before .before .before .before .enum-told2 .given .1) (c .before .before .before .before .before .before .before .before .before .before .before .before .top-margin .result .0) (c .before .before .before .before .before .before .before .before .before .before .before .before .top-margin .ensures) (u .last .0) (u .result .mark) (cursor (u .result .at) (v .code)) i,
       omega (arith, low),
       body-few _ _ _ _ (s .room) (s .margins) (s .count) (s .m) (s .at) (s .inv) (c .before .before .before .before .before .before .before .before .before .before .before .before .before .before .before .before .before .before .before .record-at .result) (c .before .before .before .before .before .before .before .before .before .before .before .before .before .before .before .before .before .before .before .record-at .ensures) (c .before .before .before .before .before .before .before .before .before .before .before .before .before .before .before .before .before .before .before .before .before .before .records-test .taken) (c .before .before .before .before .before .before .before .before .before .before .before .before .before .before .before .before .before .before .before .before .before .before .before .before .before .before .before .pre .0) _ (c .before .before .before .before .before .before .before .before .before .before .before .before .before .before .before .before .before .enum-told2 .given .1) (c .before .before .before .before .before .before .before .before .before .before .before .before .top-margin .result .0) (c .before .before .before .before .before .before .before .before .before .before .before .before .top-margin .ensures),
+      (let r = c .before .before .before .before .before .before .before .before .before .before .before .before .before .before .before .before .before .before .before .record-at .ensures in omega (arith, r .order, r .high, c .before .before .before .before .before .before .before .before .before .before .before .before .before .before .before .before .before .before .before .before .before .before .before .before .before .before .before .pre .0)),
       t .piece,
     )
 

@@ -9,7 +9,7 @@ use Rattle.splitter.specs.Split.{ticks, four}
 use Rattle.splitter.proofs.after_line_end.Statement.{statement}
 use Rattle.splitter.proofs.after_line_end.Tie as tie
 use Rattle.splitter.proofs.Stripped.{whole-starts-not}
-use Rattle.splitter.proofs.Answers.{gave, tail-short, after-code, after-ticks, after-four, after-para, after-break, after-space}
+use Rattle.splitter.proofs.Answers.{tail-short, after-code, after-ticks, after-four, after-para, after-break, after-space}
 
 -- Where the function starts, seen from each test that failed, and what the test says of the tail
 
@@ -59,26 +59,26 @@ returns c =
     let t = c .before .before in
     let s = t .before .before .before .before .before in
     let p = t .before .strip-prefix in
-    gave (c .found .ensures)
-    (after-code (now (s .args .body)) (now (s .args .tail)) (s .args .start) (s .pre) (now (p .result)) _ (p .ensures) (t .if1 .taken)
-    (c .before .line-end .ensures))
+    c .found .ensures
+    ∙ after-code (now (s .args .body)) (now (s .args .tail)) (s .args .start) (s .pre) (now (p .result)) _ (p .ensures) (t .if1 .taken)
+    (c .before .line-end .ensures)
 
 returns-2 : tie.Need-returns-2
 returns-2 c =
     let t = c .before in
     let l = t .before .before .before in
     let s = start₁ l in
-    gave (c .found2 .ensures)
-    (after-ticks (now (s .args .body)) (now (s .args .tail)) (s .args .start) (s .pre) (no-code l) (sym (t .before .starts-with .ensures) ∙ t .if2 .taken))
+    c .found2 .ensures
+    ∙ after-ticks (now (s .args .body)) (now (s .args .tail)) (s .args .start) (s .pre) (no-code l) (sym (t .before .starts-with .ensures) ∙ t .if2 .taken)
 
 returns-3 : tie.Need-returns-3
 returns-3 c =
     let t = c .before in
     let l = t .before .before .before in
     let s = start₂ l in
-    gave (c .found3 .ensures)
-    (after-four (now (s .args .body)) (now (s .args .tail)) (s .args .start) (s .pre) (no-code (l .before .before .before)) (no-ticks l)
-    (sym (t .before .starts-with2 .ensures) ∙ t .if3 .taken))
+    c .found3 .ensures
+    ∙ after-four (now (s .args .body)) (now (s .args .tail)) (s .args .start) (s .pre) (no-code (l .before .before .before)) (no-ticks l)
+    (sym (t .before .starts-with2 .ensures) ∙ t .if3 .taken)
 
 sub-found : tie.Need-sub-found
 sub-found c =
@@ -92,9 +92,9 @@ returns-4 c =
     let k = l .before .before .before in
     let s = start₃ l in
     let p = t .before .strip-prefix2 in
-    gave (c .found4 .ensures)
-    (after-para (now (s .args .body)) (now (s .args .tail)) (s .args .start) (s .pre) (no-code (k .before .before .before)) (no-ticks k) (no-four l)
-    (now (p .result)) (p .ensures) (t .if4 .taken))
+    c .found4 .ensures
+    ∙ after-para (now (s .args .body)) (now (s .args .tail)) (s .args .start) (s .pre) (no-code (k .before .before .before)) (no-ticks k) (no-four l)
+    (now (p .result)) (p .ensures) (t .if4 .taken)
 
 sub-found-2 : tie.Need-sub-found-2
 sub-found-2 c =
@@ -109,9 +109,9 @@ returns-5 c =
     let j = k .before .before .before in
     let s = start₄ l in
     let p = t .before .strip-prefix3 in
-    gave (c .found5 .ensures)
-    (after-break (now (s .args .body)) (now (s .args .tail)) (s .args .start) (s .pre) (no-code (j .before .before .before)) (no-ticks j) (no-four k)
-    (no-second l) (now (p .result)) (p .ensures) (t .if5 .taken))
+    c .found5 .ensures
+    ∙ after-break (now (s .args .body)) (now (s .args .tail)) (s .args .start) (s .pre) (no-code (j .before .before .before)) (no-ticks j) (no-four k)
+    (no-second l) (now (p .result)) (p .ensures) (t .if5 .taken)
 
 returns-6 : tie.Need-returns-6
 returns-6 c =
@@ -120,9 +120,9 @@ returns-6 c =
     let j = k .before .before .before in
     let i = j .before .before .before in
     let s = start₅ l in
-    gave (c .found6 .ensures)
-    (after-space (now (s .args .body)) (now (s .args .tail)) (s .args .start) (s .pre) (no-code (i .before .before .before)) (no-ticks i) (no-four j)
-    (no-second k) (no-space l))
+    c .found6 .ensures
+    ∙ after-space (now (s .args .body)) (now (s .args .tail)) (s .args .start) (s .pre) (no-code (i .before .before .before)) (no-ticks i) (no-four j)
+    (no-second k) (no-space l)
 
 pub after-line-end-spec : {M : Type 1} → statement M
 after-line-end-spec =

@@ -8,7 +8,7 @@ use Rattle.splitter.proofs.Answers.{text-raw}
 returns : tie.Need-returns
 returns c =
     let a = c .before .before .before .before .before .args in
-    c .part .ensures ∙ text-raw (now (a .body)) _ _ _ (a .p) (c .before .before .p .given .1)
+    c .get .ensures ∙ text-raw (now (a .body)) _ _ _ (a .p) (c .before .before .p .given .1)
 
 pub text-of-spec : {M : Type 1} → statement M
 text-of-spec =

@@ -6,7 +6,7 @@ use Rattle.splitter.proofs.ticked.Statement.{statement}
 use Rattle.splitter.proofs.ticked.Tie as tie
 use Rattle.splitter.specs.Split.{isLineEnd}
 use Rattle.splitter.proofs.Before.{before-within}
-use Rattle.splitter.proofs.Answers.{gave, ticked-on, ticked-kept, ticked-last}
+use Rattle.splitter.proofs.Answers.{ticked-on, ticked-kept, ticked-last}
 
 add-next : tie.Need-add-next
 add-next c =
@@ -20,8 +20,8 @@ returns c =
     let l = t .before .before .before in
     let e = l .before .line-end in
     let s = l .before .before .before in
-    gave (c .found .ensures)
-    (ticked-kept (now (s .args .body)) (s .args .at) _ (s .pre) (e .ensures) _ (l .if1 .taken) (sym (t .before .starts-with .ensures) ∙ t .if2 .taken))
+    c .found .ensures
+    ∙ ticked-kept (now (s .args .body)) (s .args .at) _ (e .ensures) _ (l .if1 .taken) (sym (t .before .starts-with .ensures) ∙ t .if2 .taken)
 
 returns-2 : tie.Need-returns-2
 returns-2 c =
@@ -29,14 +29,14 @@ returns-2 c =
     let l = t .before .before .before in
     let e = l .before .line-end in
     let s = l .before .before .before in
-    gave (c .found2 .ensures)
-    (ticked-last (now (s .args .body)) (s .args .at) _ (s .pre) (e .ensures) _ (l .if1 .taken) (sym (t .before .starts-with .ensures) ∙ t .if2 .left))
+    c .found2 .ensures
+    ∙ ticked-last (now (s .args .body)) (s .args .at) _ (e .ensures) _ (l .if1 .taken) (sym (t .before .starts-with .ensures) ∙ t .if2 .left)
 
 returns-3 : tie.Need-returns-3
 returns-3 c =
     let l = c .before in
     let s = l .before .before .before in
-    gave (c .found3 .ensures) (ticked-on (now (s .args .body)) (s .args .at) _ (s .pre) (l .before .line-end .ensures) _ (l .if1 .left))
+    c .found3 .ensures ∙ ticked-on (now (s .args .body)) (s .args .at) _ (l .before .line-end .ensures) _ (l .if1 .left)
 
 pub ticked-spec : {M : Type 1} → statement M
 ticked-spec =

@@ -14,7 +14,7 @@ use denote.Enum.Laws as EL
 use denote.Struct.Laws as LL
 use Rattle.proof_kit.proofs.While.{whiles, tests}
 use Rattle.splitter.specs.Split.{split as splitOf}
-use Rattle.splitter.specs.declared.Code.the-variants.{No}
+use Rattle.splitter.specs.Answers.{start}
 use Rattle.splitter.specs.declared.Step.{Step}
 use Rattle.splitter.proofs.Step as S
 use Rattle.splitter.proofs.Step.Laws as S′
@@ -84,7 +84,7 @@ module _ {M : Type 1} (𝓤 : URA M) (H : Heap 𝓤) (A : Atoms 𝓤) (W : Given
 
   -- the struct that `split` makes, and its type as a local of a body has it
   abbrev h₀ : Splitter
-  h₀ = splitter s No
+  h₀ = splitter s start
 
   abbrev αᵉ : NamedLft
   αᵉ = record { mir = erased; lft = κ }

@@ -1,7 +1,7 @@
--- `splitter_iter::split` meets its contract: a walk of its MIR, by hand. A `Splitter` is made of the slice passed and `No`, in the result's local.
+-- `splitter_iter::split` meets its contract: a walk of its MIR, by hand. A `Splitter` is made of the slice passed, 0 and `No`, in the result's local.
 -- A `&[u8]` is Copy, so what it owns is had twice: once for the parameter at exit, and once inside the result.
 -- Assumes nothing.
-use Rattle.proof_kit.proofs.Kit.{refl, sym, ℕ, List, [], _∷_, length, URA, named, Val, WT, hasTy, SProp, ent, emp, via, fst∗, Lft, Share, Fml, ftrue, flft, Memory, Routine, Heap, Calls, Loops, WpFn, Tables, Atoms, Fun, givenOf, tables, tablesOf, Given, ‵, raw, _⊛_, _$_, _∵_, !, qed, by, move, use1, split, fsplit, fjoin, suffices, frame, agg, look, init, forget, stop, from, load, lit, and-then, no-more, assigns, returns, enter, alloc1, alloc0, params1, pass1, pass0, free1, free0, WpFn-mono, owns, Is, u8, RefT, NamedLft, now, plain, namedLft, sliceVal, ShrSlice, slice-vals, shr-slice-tells, shr-slice-lawful, shr-slice-copy, only, nothing, owned, own-shut, onEntry, Meets, tripleOf, entered, says, Stays, stay-none-slice, walkOf, goes-none-slice, Walks, ends-at, walked, walk-meets, yes}
+use Rattle.proof_kit.proofs.Kit.{refl, sym, ℕ, List, [], _∷_, lit<, length, URA, named, w64, Val, WT, hasTy, SProp, ent, emp, via, fst∗, Lft, Share, Fml, ftrue, flft, Memory, Routine, Heap, Calls, Loops, WpFn, Tables, Atoms, Fun, givenOf, tables, tablesOf, Given, ‵, raw, _⊛_, _$_, _∵_, !, qed, by, move, use1, split, fsplit, fjoin, suffices, frame, agg, look, init, forget, stop, from, load, lit, and-then, no-more, assigns, returns, enter, alloc1, alloc0, params1, pass1, pass0, free1, free0, WpFn-mono, owns, Is, u8, usize, uint-makes, RefT, NamedLft, now, plain, namedLft, sliceVal, ShrSlice, slice-vals, shr-slice-tells, shr-slice-lawful, shr-slice-copy, only, nothing, owned, own-shut, onEntry, Meets, tripleOf, entered, says, Stays, stay-none-slice, walkOf, goes-none-slice, Walks, ends-at, walked, walk-meets, yes}
 use lib.Dec.{T as Holds}
 use denote.Enum.Laws as EL
 use Rattle.splitter.specs.declared.Code.the-variants.{No}
@@ -32,7 +32,7 @@ module _ {M : Type 1} (𝓤 : URA M) (H : Heap 𝓤) (A : Atoms 𝓤) (W : Given
   v = sliceVal (s .ptr) (length (s .now))
 
   abbrev made : Splitter
-  made = record { input = s; code = No }
+  made = record { input = s; at = 0; code = No }
 
   abbrev at : List Val × Unit {0}
   at = (v ∷ [], tt)
@@ -48,8 +48,9 @@ module _ {M : Type 1} (𝓤 : URA M) (H : Heap 𝓤) (A : Atoms 𝓤) (W : Given
       qed W ((‵ (flft κ q) ⊛ ‵ ftrue) ∷ ‵ (owns (ShrSlice (named 0) κ u8 ∷ []) (s, tt) at) ∷ []) ∵
       suffices ! _ (ends-at 𝓤 H A split′.ended stayed (split′.clauses 𝓤 H A mem run) W (((κ, tt), (q, tt), tt, (s, tt), at), tt) (T′.lowered made) made (tt, tt) (tt, tt)) $ says ! (refl, sym (split-start (now s))) $
       frame ! $ fsplit ! $ use1 W (‵ Own ⊛ ‵ Own) (shr-slice-copy 𝓤 H A W (named 0) κ u8 .twice s (v ∷ [])) $ split ! $ move ! (0 ∷ 2 ∷ []) $ fjoin ! $ frame ! $
-      -- [what input owns]: what the fields own together, of it and of the facts of code, is what the struct owns
-      nothing ! $ owned ! C.the-row (Is C.the-row) (EL.makes C.the-type C′.the-plain 𝓤 H A) No _ no-is $ fjoin ! $ move ! (1 ∷ 0 ∷ []) $ fjoin ! $ by ! (own-shut 𝓤 H A W (T.the-type α) (T′.the-laws α) (s, (No, tt)))
+      -- [what input owns]: what the fields own together, of it and of the facts of the others, is what the struct owns
+      nothing ! $ owned ! C.the-row (Is C.the-row) (EL.makes C.the-type C′.the-plain 𝓤 H A) No _ no-is $ fjoin ! $
+      owned ! usize (Is usize) (uint-makes 𝓤 H A W w64) 0 _ (refl, lit< tt) $ fjoin ! $ move ! (1 ∷ 0 ∷ []) $ fjoin ! $ by ! (own-shut 𝓤 H A W (T.the-type α) (T′.the-laws α) (s, (0, (No, tt))))
 
   abbrev no-typed : Holds (hasTy C′.mir (only (EL.vals C.the-type C′.the-laws No))) × WT (only (EL.vals C.the-type C′.the-laws No))
   no-typed = EL.lawful C.the-type C′.the-laws 𝓤 H A W tt .typed No _ no-is .0
@@ -61,7 +62,8 @@ module _ {M : Type 1} (𝓤 : URA M) (H : Heap 𝓤) (A : Atoms 𝓤) (W : Given
         alloc1 ! (λ l₀. alloc1 ! (λ l₁. alloc1 ! (λ l₂. alloc0 ! $ params1 ! $ pass1 ! (init ! 2 refl (shr-slice-lawful 𝓤 H A W (named 0) κ u8 .typed s (v ∷ []) p .0)) $ pass0 ! $
         -- [_2; …; _1; …; room for _0; …]
         assigns ! (agg ! (and-then ! (lit ! tt) (no-more !))) (from ! (stop !)) (init ! 0 refl no-typed) $
-        assigns ! (agg ! (and-then ! (load ! (from ! (stop !)) (look ! 2 refl)) (and-then ! (load ! (from ! (stop !)) (look ! 0 refl)) (no-more !)))) (from ! (stop !)) (init ! 4 refl (tt, (shr-slice-lawful 𝓤 H A W (named 0) κ u8 .typed s (v ∷ []) p .0 .1, (no-typed .1, tt)))) $
+        assigns ! (agg ! (and-then ! (load ! (from ! (stop !)) (look ! 2 refl)) (and-then ! (lit ! tt) (and-then ! (load ! (from ! (stop !)) (look ! 0 refl)) (no-more !))))) (from ! (stop !))
+        (init ! 4 refl (tt, (shr-slice-lawful 𝓤 H A W (named 0) κ u8 .typed s (v ∷ []) p .0 .1, (record { fits = lit< tt }, (no-typed .1, tt))))) $
         returns ! (look ! 4 refl) $ forget ! 0 refl $ forget ! 2 refl $ forget ! 4 refl $ move ! (4 ∷ 5 ∷ []) $ free1 ! $ move ! (2 ∷ 3 ∷ []) $ free1 ! $ free1 ! $ free0 ! $ by ! exits)))
 
 module _ {M : Type 1} (𝓤 : URA M) (H : Heap 𝓤) (A : Atoms 𝓤) (W : Given 𝓤 H A) (mem : Memory → SProp 𝓤) (run : Routine → Fun 𝓤) where

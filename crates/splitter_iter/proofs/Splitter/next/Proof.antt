@@ -1,19 +1,17 @@
--- `splitter_iter::Splitter::next` meets its contract: a walk of its MIR, by hand. The borrow is opened; a cursor is made of 0 and the struct's tick state, and `step_at` is
--- called on the slice that the struct holds; `after` says where the struct then stands, whatever the answer is, so that the walk has no branch; `rest` gives the bytes from
--- there on; the two fields are stored, and the borrow is closed at the new struct.
--- All that the proof knows of `step_at`, of `after` and of `rest` is that each meets its contract.
+-- `splitter_iter::Splitter::next` meets its contract: a walk of its MIR, by hand. The borrow is opened; a cursor is made of the struct's place and tick state, and
+-- `step_at` is called on the slice that the struct holds; `after` says where the struct then stands, whatever the answer is, so that the walk has no branch; the two
+-- fields are stored, and the borrow is closed at the new struct.
+-- All that the proof knows of `step_at` and of `after` is that each meets its contract.
 -- Assumes nothing.
-use Rattle.proof_kit.proofs.Kit.{_≡_, refl, ap, _∙_, ℕ, _<_, _^_, List, [], _∷_, lit<, URA, fullShare, named, erased, w64, Val, vptr, vint, vstruct, vcons, vnil, SProp, ent, sep, emp, via, fst∗, snd∗, exE, id⊢, GName, Lft, Share, Fml, ftrue, fat, flft, fobs, fbor, Memory, Routine, Heap, Calls, Loops, WpFn, Tables, Atoms, sem, AllOutlive, Fun, fact, givenOf, tables, tablesOf, Given, ‵, raw, _⊛_, ⋆, some, later, _$_, _∵_, !, qed, by, move, keep, drop, use0, use1, use2, split, join, pick, rewrite, fsplit, fsplit3, fjoin, fjoin3, feqI, suffices, frame, await, done, whole, sub, look-in, store-in, agg, look, init, store, forget, stop, hop, fld, from, load, lit, of-opd, and-then, no-more, assigns, land, returns, enter, alloc1, alloc0, params1, pass1, pass0, free1, free0, Body, FmC, fmOf, WpFn-mono, RattleType, owns, Is, shows, mem, cellAt, RefT, NamedLft, MutRef, now, ptr-vals, mut-tells, uint-makes, u8, usize, ShrSlice, shr-slice-tells, shr-slice-lawful, own-shut, Slot, plain, namedLft, only, opens, closes, owned, peeks, heard, nothing, spelt, Contract, Triple, calls-at, onEntry, Meets, tripleOf, entered, cited, says, Stays, stay-ref, walkOf, goes-ref, Walks, ends-at, walked, walk-meets, ensured, lasts}
-use lib.ListN.{drop as drop-bytes}
+use Rattle.proof_kit.proofs.Kit.{_≡_, refl, ap, ℕ, _<_, _^_, List, [], _∷_, URA, fullShare, named, erased, w64, Val, vptr, SProp, ent, sep, emp, via, fst∗, snd∗, exE, id⊢, GName, Lft, Share, Fml, ftrue, fat, flft, fobs, fbor, Memory, Routine, Heap, Calls, Loops, WpFn, Tables, Atoms, sem, AllOutlive, Fun, fact, givenOf, tables, tablesOf, Given, ‵, raw, _⊛_, ⋆, some, later, _$_, _∵_, !, qed, by, move, keep, drop, use0, use1, use2, split, join, pick, rewrite, fsplit, fsplit3, fjoin, fjoin3, feqI, suffices, frame, await, done, whole, sub, look-in, store-in, agg, look, init, forget, stop, hop, fld, from, load, of-opd, and-then, no-more, assigns, land, returns, enter, alloc1, alloc0, params1, pass1, pass0, free1, free0, Body, FmC, fmOf, WpFn-mono, RattleType, owns, Is, shows, mem, cellAt, RefT, NamedLft, MutRef, now, ptr-vals, mut-tells, uint-makes, usize, own-shut, Slot, plain, namedLft, only, opens, closes, owned, peeks, heard, nothing, spelt, Contract, Triple, calls-at, onEntry, Meets, tripleOf, entered, cited, says, Stays, stay-ref, walkOf, goes-ref, Walks, ends-at, walked, walk-meets, ensured, lasts}
 use denote.Enum.Laws as EL
 use denote.Struct.Laws as LL
-use Rattle.splitter.specs.Answers.{told, firstChunk, Within}
+use Rattle.splitter.specs.Answers.{firstChunk, Within}
 use Rattle.splitter_iter.specs.Held.{splitter, standing, afterStep}
-use Rattle.splitter.specs.declared.Code.{Code}
 use Rattle.splitter.specs.declared.Cursor.{Cursor}
 use Rattle.splitter_iter.specs.declared.Splitter.{Splitter}
 use Rattle.splitter.specs.declared.Step.{Step}
-use Rattle.splitter_iter.proofs.Parts.{slice-val, cursor-val, code-val, cursor-is, code-of-typed, typed, code-typed, input-of}
+use Rattle.splitter_iter.proofs.Parts.{slice-val, cursor-val, cursor-is, code-of-typed, place-fits, code-is, typed, code-typed, input-of}
 use Rattle.splitter_iter.proofs.Parts as P
 use Rattle.splitter.proofs.Code as Cd
 use Rattle.splitter.proofs.Code.Laws as Cd′
@@ -30,10 +28,6 @@ use Rattle.splitter_iter.proofs.after as after
 use Rattle.splitter_iter.proofs.after.Symbol as after-def
 use Rattle.splitter_iter.proofs.after.Symbol.{name as #after}
 use Rattle.splitter_iter.proofs.after.Met as after-thm
-use Rattle.splitter_iter.proofs.rest as rest′
-use Rattle.splitter_iter.proofs.rest.Symbol as rest-def
-use Rattle.splitter_iter.proofs.rest.Symbol.{name as #rest}
-use Rattle.splitter_iter.proofs.rest.Met as rest-thm
 use Rattle.splitter_iter.proofs.Splitter.next.Key.{name as #next}
 use Rattle.splitter_iter.proofs.Splitter.next as next
 use Rattle.splitter_iter.proofs.Splitter.next.Statement as stated
@@ -61,9 +55,6 @@ module _ {M : Type 1} (𝓤 : URA M) (H : Heap 𝓤) (A : Atoms 𝓤) (mem : Mem
   abbrev After : Contract 𝓤
   After = tripleOf 𝓤 H A after.signature (after.spec 𝓤 H A mem run)
 
-  abbrev Rest : Contract 𝓤
-  Rest = tripleOf 𝓤 H A rest′.signature (rest′.spec 𝓤 H A mem run)
-
 module _ {M : Type 1} (𝓤 : URA M) (H : Heap 𝓤) (A : Atoms 𝓤) (W : Given 𝓤 H A) (at-mem : Memory → SProp 𝓤) (run : Routine → Fun 𝓤) (κ κ′ : Lft) (q q′ : Share) (bounds : AllOutlive 2 (next.signature .outlives) (κ, (κ′, tt))) (b o : ℕ) (γ : GName) (h : Splitter) where
   abbrev x : RefT Splitter × Unit {0}
   x = (record { ptr = (b, o); name = γ; now = h }, tt)
@@ -74,23 +65,26 @@ module _ {M : Type 1} (𝓤 : URA M) (H : Heap 𝓤) (A : Atoms 𝓤) (W : Given
   abbrev Post : Val → SProp 𝓤
   Post = walkOf 𝓤 H A next.ended stayed (next.clauses 𝓤 H A at-mem run) .post (((κ, (κ′, tt)), (q, (q′, tt)), bounds, x, at), tt)
 
-  -- where it stands: at the start of what is left
+  -- where it stands
   abbrev st : Cursor
   st = standing h
 
   -- what `step_at` says of its answer
   abbrev Chunk : Step → Type 0
-  Chunk r = told (now (h .input)) r ≡ firstChunk (now (h .input)) st
+  Chunk r = r ≡ firstChunk (now (h .input)) st
 
   abbrev Lies : Step → Type 0
   Lies r = Within (now (h .input)) st r
 
-  -- the struct that is left
-  abbrev moved : RefT (List ℕ) → Code → Splitter
-  moved y k = splitter y k
+  -- the struct after the step
+  abbrev moved : Cursor → Splitter
+  moved c = splitter (h .input) c
 
   st-is : Is (B κ′) h (P.val (α κ′) h ∷ []) → Is K.the-row st (cursor-val st ∷ [])
-  st-is is = cursor-is st (lit< tt) (LL.owed (P.D (α κ′)) (P.L (α κ′)) h _ is .1 .0)
+  st-is is = cursor-is st (place-fits (α κ′) 𝓤 H A W h is) (code-is (α κ′) 𝓤 H A W h is)
+
+  at-fits : (c : Cursor) {vs : List Val} → Is K.the-row c vs → c .at < 2 ^ 64
+  at-fits c is = LL.owed K.the-type K′.the-laws c _ is .0 .1
 
   abbrev Input : Fml
   Input = P.Input (α κ′) 𝓤 H A W h
@@ -122,33 +116,15 @@ module _ {M : Type 1} (𝓤 : URA M) (H : Heap 𝓤) (A : Atoms 𝓤) (W : Given
   after-said : (r : Step) (c : Cursor) → ent 𝓤 (ensured 𝓤 H A after.ended (after.clauses 𝓤 H A at-mem run) tt (r, (st, tt)) tt c) (fact 𝓤 (c ≡ afterStep r st))
   after-said r c = exE 𝓤 _ (λ ws. snd∗ 𝓤 (sem 𝓤 H A (lasts after.ended tt (r, (st, tt)) ws)) (fact 𝓤 (c ≡ afterStep r st)))
 
-  -- the call of `rest`, at the number n
-  abbrev to-rest : ℕ → Rest 𝓤 H A at-mem run .Ghost
-  to-rest n = (((κ′, tt), (q′, tt), tt, (h .input, (n, tt)), (slice-val (h .input) ∷ [], (vint w64 n ∷ [], tt))), tt)
-
-  goes-rest : (n : ℕ) → n < 2 ^ 64 → ent 𝓤 (⋆ 𝓤 H A ((‵ (flft κ′ q′) ⊛ ‵ ftrue) ∷ ‵ Input ∷ [])) (Rest 𝓤 H A at-mem run .pre (to-rest n))
-  goes-rest n fits =
-      qed W ((‵ (flft κ′ q′) ⊛ ‵ ftrue) ∷ ‵ Input ∷ []) ∵ nothing ! $ owned ! usize (Is usize) (uint-makes 𝓤 H A W w64) n _ (refl, fits) $ fjoin ! $
-      move ! (2 ∷ 0 ∷ []) $ fjoin ! $ move ! (1 ∷ 0 ∷ []) $ join ! $ frame ! $ done !
-
-  abbrev Left : ℕ → RefT (List ℕ) → Type 0
-  Left n y = now y ≡ drop-bytes n (now (h .input))
-
-  rest-said : (n : ℕ) (y : RefT (List ℕ)) → ent 𝓤 (ensured 𝓤 H A rest′.ended (rest′.clauses 𝓤 H A at-mem run) (κ′, tt) (h .input, (n, tt)) tt y) (fact 𝓤 (Left n y))
-  rest-said n y = exE 𝓤 _ (λ ws. snd∗ 𝓤 (sem 𝓤 H A (lasts rest′.ended (κ′, tt) (h .input, (n, tt)) ws)) (fact 𝓤 (Left n y)))
-
-  abbrev Slice : RefT (List ℕ) → Val → Fml
-  Slice y w = ShrSlice (named 1) κ′ u8 .own y (w ∷ [])
-
-  exits : (r : Step) (u : Val) (c : Cursor) (y : RefT (List ℕ)) → Chunk r → Lies r → c ≡ afterStep r st → Left (c .at) y
-      → ent 𝓤 (⋆ 𝓤 H A (‵ (fobs γ (B κ′ .coded .code (moved y (c .code)))) ∷ ‵ (fbor κ (Body (mem (B κ′)) b o γ)) ∷ ‵ (flft κ q) ∷ (‵ (flft κ′ q′) ⊛ ‵ ftrue) ∷ ‵ (S.the-row .own r (u ∷ [])) ∷ [])) (Post u)
-  exits r u c y e w e′ l =
-      qed W (‵ (fobs γ (B κ′ .coded .code (moved y (c .code)))) ∷ ‵ (fbor κ (Body (mem (B κ′)) b o γ)) ∷ ‵ (flft κ q) ∷ (‵ (flft κ′ q′) ⊛ ‵ ftrue) ∷ ‵ (S.the-row .own r (u ∷ [])) ∷ []) ∵
-      suffices ! _ (ends-at 𝓤 H A next.ended stayed (next.clauses 𝓤 H A at-mem run) W (((κ, (κ′, tt)), (q, (q′, tt)), bounds, x, at), tt) u r (moved y (c .code), tt) (tt, tt)) $
-      says ! (e, w, l ∙ ap (λ (z : Cursor). drop-bytes (z .at) (now (h .input))) e′, ap (λ (z : Cursor). z .code) e′) $
+  exits : (r : Step) (u : Val) (c : Cursor) → Chunk r → c ≡ afterStep r st
+      → ent 𝓤 (⋆ 𝓤 H A (‵ (fobs γ (B κ′ .coded .code (moved c))) ∷ ‵ (fbor κ (Body (mem (B κ′)) b o γ)) ∷ ‵ (flft κ q) ∷ (‵ (flft κ′ q′) ⊛ ‵ ftrue) ∷ ‵ (S.the-row .own r (u ∷ [])) ∷ [])) (Post u)
+  exits r u c e e′ =
+      qed W (‵ (fobs γ (B κ′ .coded .code (moved c))) ∷ ‵ (fbor κ (Body (mem (B κ′)) b o γ)) ∷ ‵ (flft κ q) ∷ (‵ (flft κ′ q′) ⊛ ‵ ftrue) ∷ ‵ (S.the-row .own r (u ∷ [])) ∷ []) ∵
+      suffices ! _ (ends-at 𝓤 H A next.ended stayed (next.clauses 𝓤 H A at-mem run) W (((κ, (κ′, tt)), (q, (q′, tt)), bounds, x, at), tt) u r (moved c, tt) (tt, tt)) $
+      says ! (e, ap moved e′) $
       move ! (2 ∷ 3 ∷ []) $ join ! $ frame ! $ feqI ! (List Val) (vptr b o ∷ []) (vptr b o ∷ []) refl $ fjoin3 ! $ nothing ! $ move ! (1 ∷ 0 ∷ []) $ fjoin ! $ done !
 
-  module _ (C : Calls 𝓤 H) (Λ : Loops 𝓤 H) (fm : FmC 𝓤 H (W .laws) C) (knnext : Triple 𝓤 (C #step-at) (StepAt 𝓤 H A at-mem run)) (known-after : Triple 𝓤 (C #after) (After 𝓤 H A at-mem run)) (known-rest : Triple 𝓤 (C #rest) (Rest 𝓤 H A at-mem run)) where
+  module _ (C : Calls 𝓤 H) (Λ : Loops 𝓤 H) (fm : FmC 𝓤 H (W .laws) C) (known-step : Triple 𝓤 (C #step-at) (StepAt 𝓤 H A at-mem run)) (known-after : Triple 𝓤 (C #after) (After 𝓤 H A at-mem run)) where
     walk : ent 𝓤 (onEntry 𝓤 H A next.signature (κ, (κ′, tt)) (q, (q′, tt)) x at) (WpFn 𝓤 H C Λ code.function (vptr b o ∷ []) Post)
     walk =
         qed W ((‵ (flft κ q) ⊛ ‵ (flft κ′ q′) ⊛ ‵ ftrue) ∷ ‵ (owns (MutRef (named 0) κ (B κ′) ∷ []) x at) ∷ []) ∵ enter ! C Λ code.function (vptr b o ∷ []) _ $
@@ -158,12 +134,13 @@ module _ {M : Type 1} (𝓤 : URA M) (H : Heap 𝓤) (A : Atoms 𝓤) (W : Given
         use1 W (‵ (fat fullShare (T′.mir erased) b o (P.val (α κ′) h))) (W .laws .raw-at fullShare (T′.mir erased) b o (P.val (α κ′) h)) $
         move ! (1 ∷ []) $ peeks ! (B κ′) (Is (B κ′)) (shows 𝓤 H A (B κ′)) h (P.val (α κ′) h ∷ []) (λ is. move ! (1 ∷ 0 ∷ []) $
         -- [the struct's cell; what it owns; the open borrow; obs; auth; 'a's token; true; _7; …; _6; …; _5; …; _4; …; _3; …; _2; …; _1; …; room for _0; …]
-        assigns ! (of-opd ! (load ! (from ! (hop ! (look ! 19 refl) (fld ! refl (stop !)))) (look-in ! 0 (sub ! 1 refl (whole !))))) (from ! (stop !)) (init ! 11 refl (code-typed (α κ′) 𝓤 H A W h is)) $
-        assigns ! (agg ! (and-then ! (lit ! tt) (and-then ! (load ! (from ! (stop !)) (look ! 11 refl)) (no-more !)))) (from ! (stop !)) (init ! 17 refl (LL.lawful K.the-type K′.the-laws 𝓤 H A W .typed st _ (st-is is) .0)) $
-        assigns ! (of-opd ! (load ! (from ! (hop ! (look ! 19 refl) (fld ! refl (stop !)))) (look-in ! 0 (sub ! 0 refl (whole !))))) (from ! (stop !)) (init ! 9 refl (tt, typed (α κ′) 𝓤 H A W h is .1 .0)) $
+        assigns ! (of-opd ! (load ! (from ! (hop ! (look ! 19 refl) (fld ! refl (stop !)))) (look-in ! 0 (sub ! 1 refl (whole !))))) (from ! (stop !)) (init ! 11 refl (tt, record { fits = place-fits (α κ′) 𝓤 H A W h is })) $
+        assigns ! (of-opd ! (load ! (from ! (hop ! (look ! 19 refl) (fld ! refl (stop !)))) (look-in ! 0 (sub ! 2 refl (whole !))))) (from ! (stop !)) (init ! 9 refl (code-typed (α κ′) 𝓤 H A W h is)) $
+        assigns ! (agg ! (and-then ! (load ! (from ! (stop !)) (look ! 11 refl)) (and-then ! (load ! (from ! (stop !)) (look ! 9 refl)) (no-more !)))) (from ! (stop !)) (init ! 17 refl (LL.lawful K.the-type K′.the-laws 𝓤 H A W .typed st _ (st-is is) .0)) $
+        assigns ! (of-opd ! (load ! (from ! (hop ! (look ! 19 refl) (fld ! refl (stop !)))) (look-in ! 0 (sub ! 0 refl (whole !))))) (from ! (stop !)) (init ! 7 refl (tt, typed (α κ′) 𝓤 H A W h is .1 .0)) $
         -- `step_at`
         move ! (1 ∷ []) $ use1 W (‵ Input ⊛ ‵ Own) (input-of (α κ′) 𝓤 H A W h) $ split ! $ move ! (6 ∷ 0 ∷ []) $ use2 W (raw (StepAt 𝓤 H A at-mem run .pre to-step)) (goes-step (st-is is)) $
-        calls-at ! fm (StepAt 𝓤 H A at-mem run) knnext to-step (and-then ! (load ! (from ! (stop !)) (look ! 9 refl)) (and-then ! (load ! (from ! (stop !)) (look ! 17 refl)) (no-more !))) (λ u.
+        calls-at ! fm (StepAt 𝓤 H A at-mem run) known-step to-step (and-then ! (load ! (from ! (stop !)) (look ! 7 refl)) (and-then ! (load ! (from ! (stop !)) (look ! 17 refl)) (no-more !))) (λ u.
         use1 W (later (some (λ (r : Step). ((‵ (flft κ′ q′) ⊛ ‵ ftrue) ⊛ ‵ (S.the-row .own r (u ∷ []))) ⊛ raw (ensured 𝓤 H A step.ended (step.clauses 𝓤 H A at-mem run) (κ′, tt) (h .input, (st, tt)) tt r)))) (id⊢ 𝓤 _) $ await ! tt $ pick ! (λ r.
         split ! $ move ! (1 ∷ []) $ use1 W (raw (fact 𝓤 (Chunk r)) ⊛ raw (fact 𝓤 (Lies r))) (step-said r) $ split ! $ heard ! (Chunk r) (λ e. heard ! (Lies r) (λ i. split ! $ move ! (1 ∷ []) $
         -- [the answer; 'a's token; what the struct owns; its cell; the open borrow; obs; auth; true; _7; …]
@@ -177,41 +154,33 @@ module _ {M : Type 1} (𝓤 : URA M) (H : Heap 𝓤) (A : Atoms 𝓤) (W : Given
         -- the machine value that came back is written out, field by field
         rewrite ! 15 (λ (z : Val). ‵ (fat fullShare K′.mir l₄ 0 z)) (ap only (LL.tells K.the-type K′.the-laws c _ w-is)) refl $ drop ! $
         -- [the answer; 'a's token; what the struct owns; its cell; the open borrow; obs; auth; true; _7; …]
-        assigns ! (of-opd ! (load ! (from ! (hop ! (look ! 20 refl) (fld ! refl (stop !)))) (look-in ! 3 (sub ! 0 refl (whole !))))) (from ! (stop !)) (store ! 10 refl (tt, typed (α κ′) 𝓤 H A W h is .1 .0)) $
-        -- `rest`
-        move ! (2 ∷ []) $ use1 W (‵ Input ⊛ ‵ Own) (input-of (α κ′) 𝓤 H A W h) $ split ! $ move ! (3 ∷ 0 ∷ []) $ use2 W (raw (Rest 𝓤 H A at-mem run .pre (to-rest (c .at)))) (goes-rest (c .at) (LL.owed K.the-type K′.the-laws c _ w-is .0 .1)) $
-        -- [what it asks; what the struct owns; the answer; the cell; the open borrow; obs; auth; true; _7; …]
-        calls-at ! fm (Rest 𝓤 H A at-mem run) known-rest (to-rest (c .at)) (and-then ! (load ! (from ! (stop !)) (look ! 10 refl)) (and-then ! (load ! (from ! (fld ! refl (stop !))) (look-in ! 14 (sub ! 0 refl (whole !)))) (no-more !))) (λ w₂.
-        use1 W (later (some (λ (y : RefT (List ℕ)). ((‵ (flft κ′ q′) ⊛ ‵ ftrue) ⊛ ‵ (Slice y w₂)) ⊛ raw (ensured 𝓤 H A rest′.ended (rest′.clauses 𝓤 H A at-mem run) (κ′, tt) (h .input, (c .at, tt)) tt y)))) (id⊢ 𝓤 _) $ await ! tt $ pick ! (λ y.
-        split ! $ move ! (1 ∷ []) $ use1 W (raw (fact 𝓤 (Left (c .at) y))) (rest-said (c .at) y) $ heard ! (Left (c .at) y) (λ l. split ! $ move ! (1 ∷ []) $
-        peeks ! (ShrSlice (named 1) κ′ u8) (Is (ShrSlice (named 1) κ′ u8)) (shows 𝓤 H A (ShrSlice (named 1) κ′ u8)) y (w₂ ∷ []) (λ y-is. land ! (from ! (stop !)) (init ! 9 refl (shr-slice-lawful 𝓤 H A W erased κ′ u8 .typed y (w₂ ∷ []) y-is .0)) $
-        rewrite ! 0 (λ (us : List Val). ‵ (ShrSlice (named 1) κ′ u8 .own y us)) (shr-slice-tells (named 1) κ′ u8 y _ y-is) refl $
-        -- [what the slice owns; 'a's token; what the struct owned; the answer; the cell; the open borrow; obs; auth; true; _7; …]
-        assigns ! (of-opd ! (load ! (from ! (stop !)) (look ! 9 refl))) (from ! (hop ! (look ! 21 refl) (fld ! refl (stop !)))) (store-in ! 4 (sub ! 0 refl (whole !)) (shr-slice-lawful 𝓤 H A W erased κ′ u8 .typed y (w₂ ∷ []) y-is .0)) $
-        assigns ! (of-opd ! (load ! (from ! (fld ! refl (stop !))) (look-in ! 15 (sub ! 1 refl (whole !))))) (from ! (hop ! (look ! 21 refl) (fld ! refl (stop !)))) (store-in ! 4 (sub ! 1 refl (whole !)) (code-of-typed 𝓤 H A W c w-is)) $
-        assigns ! (of-opd ! (load ! (from ! (stop !)) (look ! 17 refl))) (from ! (stop !)) (init ! 23 refl (EL.lawful S.the-type S′.the-laws 𝓤 H A W tt .typed r _ r-is .0)) $
-        -- the struct is put together, and the borrow is closed at it
-        rewrite ! 4 (λ (z : Val). ‵ (fat fullShare (T′.mir erased) b o (vstruct (vcons z (vcons (code-val (c .code)) vnil))))) (ap only (shr-slice-tells (named 1) κ′ u8 y _ y-is)) refl $
-        nothing ! $ owned ! Cd.the-row (Is Cd.the-row) (EL.makes Cd.the-type Cd′.the-plain 𝓤 H A) (c .code) _ (LL.owed K.the-type K′.the-laws c _ w-is .1 .0) $ fjoin ! $ move ! (1 ∷ 0 ∷ []) $ fjoin ! $
-        use1 W (‵ (B κ′ .own (moved y (c .code)) (P.val (α κ′) (moved y (c .code)) ∷ []))) (own-shut 𝓤 H A W (P.D (α κ′)) (P.L (α κ′)) (y, (c .code, tt))) $
-        move ! (2 ∷ []) $ drop ! $ move ! (3 ∷ []) $ use1 W (‵ (cellAt fullShare (B κ′ .mir) (P.val (α κ′) (moved y (c .code)) ∷ []) b o)) (W .laws .at-raw fullShare (T′.mir erased) b o (P.val (α κ′) (moved y (c .code)))) $
-        move ! (0 ∷ 1 ∷ 4 ∷ 5 ∷ 6 ∷ []) $ closes ! tt (B κ′) (moved y (c .code)) (P.val (α κ′) (moved y (c .code)) ∷ []) b o $
+        assigns ! (of-opd ! (load ! (from ! (fld ! refl (stop !))) (look-in ! 14 (sub ! 0 refl (whole !))))) (from ! (hop ! (look ! 20 refl) (fld ! refl (stop !)))) (store-in ! 3 (sub ! 1 refl (whole !)) (tt, record { fits = at-fits c w-is })) $
+        assigns ! (of-opd ! (load ! (from ! (fld ! refl (stop !))) (look-in ! 14 (sub ! 1 refl (whole !))))) (from ! (hop ! (look ! 20 refl) (fld ! refl (stop !)))) (store-in ! 3 (sub ! 2 refl (whole !)) (code-of-typed 𝓤 H A W c w-is)) $
+        assigns ! (of-opd ! (load ! (from ! (stop !)) (look ! 16 refl))) (from ! (stop !)) (init ! 22 refl (EL.lawful S.the-type S′.the-laws 𝓤 H A W tt .typed r _ r-is .0)) $
+        -- what the slice owns is kept of what the struct owned; the struct is put together, and the borrow is closed at it
+        move ! (2 ∷ []) $ use1 W (‵ Input ⊛ ‵ Own) (input-of (α κ′) 𝓤 H A W h) $ split ! $ move ! (1 ∷ []) $ drop ! $
+        nothing ! $ owned ! Cd.the-row (Is Cd.the-row) (EL.makes Cd.the-type Cd′.the-plain 𝓤 H A) (c .code) _ (LL.owed K.the-type K′.the-laws c _ w-is .1 .0) $ fjoin ! $
+        owned ! usize (Is usize) (uint-makes 𝓤 H A W w64) (c .at) _ (refl, at-fits c w-is) $ fjoin ! $ move ! (1 ∷ 0 ∷ []) $ fjoin ! $
+        use1 W (‵ (B κ′ .own (moved c) (P.val (α κ′) (moved c) ∷ []))) (own-shut 𝓤 H A W (P.D (α κ′)) (P.L (α κ′)) (h .input, (c .at, (c .code, tt)))) $
+        -- [what the struct owns; the answer; 'a's token; its cell; the open borrow; obs; auth; true; _7; …]
+        move ! (3 ∷ []) $ use1 W (‵ (cellAt fullShare (B κ′ .mir) (P.val (α κ′) (moved c) ∷ []) b o)) (W .laws .at-raw fullShare (T′.mir erased) b o (P.val (α κ′) (moved c))) $
+        move ! (0 ∷ 1 ∷ 4 ∷ 5 ∷ 6 ∷ 3 ∷ 2 ∷ []) $ closes ! tt (B κ′) (moved c) (P.val (α κ′) (moved c) ∷ []) b o $
         -- [obs; the borrow; its token; 'a's token; the answer; true; _7; …]
         returns ! (look ! 20 refl) $ forget ! 6 refl $ forget ! 8 refl $ forget ! 10 refl $ forget ! 12 refl $ forget ! 14 refl $ forget ! 16 refl $ forget ! 18 refl $ forget ! 20 refl $
         move ! (20 ∷ 21 ∷ []) $ free1 ! $ move ! (18 ∷ 19 ∷ []) $ free1 ! $ move ! (16 ∷ 17 ∷ []) $ free1 ! $ move ! (14 ∷ 15 ∷ []) $ free1 ! $ move ! (12 ∷ 13 ∷ []) $ free1 ! $ move ! (10 ∷ 11 ∷ []) $ free1 ! $ move ! (8 ∷ 9 ∷ []) $ free1 ! $ move ! (6 ∷ 7 ∷ []) $ free1 ! $ free0 ! $
-        keep ! (0 ∷ 1 ∷ 2 ∷ 3 ∷ 4 ∷ []) $ by ! (exits r u c y e i e′ l))))))))))))))))))))))))
+        keep ! (0 ∷ 1 ∷ 2 ∷ 3 ∷ 4 ∷ []) $ by ! (exits r u c e e′))))))))))))))))))))
 
 module _ {M : Type 1} (𝓤 : URA M) (H : Heap 𝓤) (A : Atoms 𝓤) (W : Given 𝓤 H A) (mem : Memory → SProp 𝓤) (run : Routine → Fun 𝓤) where
-  next-walks : (C : Calls 𝓤 H) (Λ : Loops 𝓤 H) → FmC 𝓤 H (W .laws) C → Triple 𝓤 (C #step-at) (StepAt 𝓤 H A mem run) → Triple 𝓤 (C #after) (After 𝓤 H A mem run) → Triple 𝓤 (C #rest) (Rest 𝓤 H A mem run)
+  next-walks : (C : Calls 𝓤 H) (Λ : Loops 𝓤 H) → FmC 𝓤 H (W .laws) C → Triple 𝓤 (C #step-at) (StepAt 𝓤 H A mem run) → Triple 𝓤 (C #after) (After 𝓤 H A mem run)
       → Walks 𝓤 H A next.ended stayed (WpFn 𝓤 H C Λ code.function) (next.clauses 𝓤 H A mem run)
-  next-walks C Λ fm knnext known-after known-rest = walked 𝓤 H A next.ended stayed (next.clauses 𝓤 H A mem run) (WpFn 𝓤 H C Λ code.function) (λ κs. (ptr-vals, tt)) (λ κs. (mut-tells (named 0) (κs .0) (B (κs .1 .0)), tt))
-      (λ κs qs bounds a _ _. via 𝓤 _ (fst∗ 𝓤 _ (emp 𝓤)) (walk 𝓤 H A W mem run (κs .0) (κs .1 .0) (qs .0) (qs .1 .0) bounds (a .0 .ptr .0) (a .0 .ptr .1) (a .0 .name) (a .0 .now) C Λ fm knnext known-after known-rest))
+  next-walks C Λ fm known-step known-after = walked 𝓤 H A next.ended stayed (next.clauses 𝓤 H A mem run) (WpFn 𝓤 H C Λ code.function) (λ κs. (ptr-vals, tt)) (λ κs. (mut-tells (named 0) (κs .0) (B (κs .1 .0)), tt))
+      (λ κs qs bounds a _ _. via 𝓤 _ (fst∗ 𝓤 _ (emp 𝓤)) (walk 𝓤 H A W mem run (κs .0) (κs .1 .0) (qs .0) (qs .1 .0) bounds (a .0 .ptr .0) (a .0 .ptr .1) (a .0 .name) (a .0 .now) C Λ fm known-step known-after))
 
 next-meets : {M : Type 1} (𝓤 : URA M) (H : Heap 𝓤) (A : Atoms 𝓤) (W : Given 𝓤 H A) (mem : Memory → SProp 𝓤) (run : Routine → Fun 𝓤) (𝓣 : Tables 𝓤 H)
-    → Triple 𝓤 (𝓣 .C #step-at) (StepAt 𝓤 H A mem run) → Triple 𝓤 (𝓣 .C #after) (After 𝓤 H A mem run) → Triple 𝓤 (𝓣 .C #rest) (Rest 𝓤 H A mem run)
+    → Triple 𝓤 (𝓣 .C #step-at) (StepAt 𝓤 H A mem run) → Triple 𝓤 (𝓣 .C #after) (After 𝓤 H A mem run)
     → Meets 𝓤 H A next.signature (WpFn 𝓤 H (𝓣 .C) (𝓣 .Λ) code.function) (next.spec 𝓤 H A mem run)
-next-meets 𝓤 H A W mem run 𝓣 knnext known-after known-rest = walk-meets 𝓤 H A next.ended stayed W (goes-ref 𝓤 H A W 2 0 tt behind, tt) (next.clauses 𝓤 H A mem run) (WpFn 𝓤 H (𝓣 .C) (𝓣 .Λ) code.function) (WpFn-mono 𝓤 H (W .laws) 𝓣 code.function)
-    (next-walks 𝓤 H A W mem run (𝓣 .C) (𝓣 .Λ) (fmOf 𝓤 H (W .laws) 𝓣) knnext known-after known-rest)
+next-meets 𝓤 H A W mem run 𝓣 known-step known-after = walk-meets 𝓤 H A next.ended stayed W (goes-ref 𝓤 H A W 2 0 tt behind, tt) (next.clauses 𝓤 H A mem run) (WpFn 𝓤 H (𝓣 .C) (𝓣 .Λ) code.function) (WpFn-mono 𝓤 H (W .laws) 𝓣 code.function)
+    (next-walks 𝓤 H A W mem run (𝓣 .C) (𝓣 .Λ) (fmOf 𝓤 H (W .laws) 𝓣) known-step known-after)
 
 pub next-spec : {M : Type 1} → stated.statement M
 unfolding code.routine tablesOf
@@ -220,5 +189,4 @@ next-spec 𝓤 H 𝓜 𝓖 𝓡 =
     (tables 𝓤 H 𝓜 𝓡 code.env .C) (tables 𝓤 H 𝓜 𝓡 code.env .Λ) #next code.function (code.unfolded 𝓤 H 𝓜 𝓡)
     (next-meets 𝓤 H (𝓖 .A) (givenOf 𝓤 H 𝓜 𝓖) (𝓜 .mem) (𝓡 .run) (tablesOf 𝓤 H 𝓜 (tables 𝓤 H 𝓜 𝓡 code.env))
     (cited 𝓤 H (StepAt 𝓤 H (𝓖 .A) (𝓜 .mem) (𝓡 .run)) 𝓜 𝓡 code.env #step-at step-def.routine code.calls-splitter·step-at (step-thm.met 𝓤 H 𝓜 𝓖 𝓡))
-    (cited 𝓤 H (After 𝓤 H (𝓖 .A) (𝓜 .mem) (𝓡 .run)) 𝓜 𝓡 code.env #after after-def.routine code.calls-splitter-iter·after (after-thm.met 𝓤 H 𝓜 𝓖 𝓡))
-    (cited 𝓤 H (Rest 𝓤 H (𝓖 .A) (𝓜 .mem) (𝓡 .run)) 𝓜 𝓡 code.env #rest rest-def.routine code.calls-splitter-iter·rest (rest-thm.met 𝓤 H 𝓜 𝓖 𝓡)))
+    (cited 𝓤 H (After 𝓤 H (𝓖 .A) (𝓜 .mem) (𝓡 .run)) 𝓜 𝓡 code.env #after after-def.routine code.calls-splitter-iter·after (after-thm.met 𝓤 H 𝓜 𝓖 𝓡)))
