@@ -254,14 +254,14 @@ static struct answer run_check(const uint8_t *document, size_t n)
 struct settings {
     enum function function;
     size_t width;
-    bool full, css;
+    bool full, css, characters;
 };
 
 static uint32_t render(struct settings s, const uint8_t *document, size_t n, uint8_t *room, size_t room_len, size_t *at)
 {
     switch (s.function) {
     case CONSOLE:
-        return sefgrunn_console(document, n, s.width, s.full, room, room_len, at);
+        return sefgrunn_console(document, n, s.width, s.full, s.characters, room, room_len, at);
     case HTML:
         return sefgrunn_html(document, n, s.full, s.css, room, room_len, at);
     case HTML_STRICT:
@@ -600,7 +600,7 @@ int LLVMFuzzerTestOneInput(const uint8_t *data, size_t n)
     struct answer checked = run_check(data, n);
     inputs++;
     for (enum function f = CONSOLE; f <= ROFF; f++) {
-        struct settings s = {f, width(&state), below(&state, 3) != 0, below(&state, 4) == 0};
+        struct settings s = {f, width(&state), below(&state, 3) != 0, below(&state, 4) == 0, below(&state, 2) == 0};
         try_render(s, data, n, checked, room_size(&state, n));
     }
     try_splitter(&state, data, n);

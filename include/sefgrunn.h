@@ -81,10 +81,13 @@ uint32_t sefgrunn_check(const uint8_t *document, size_t n, size_t *place);
 
 /* The monochrome console text of a document for a width in columns. With full it is all there; without, the first empty line in a text
  * ends it: that line is still ended, and from there on text is left out until an InlineBlock ends that was open there (or to the end of
- * the document). Blocks still take effect, and the backticks of a TermRef are still written. Reads n bytes at document. Writes all
+ * the document). Blocks still take effect, and the backticks of a TermRef are still written. A line is folded where the columns so far
+ * and the next word's bytes pass the width, as bpaf does; with characters, where they and the word's characters do. Each character then
+ * counts one, a combining one too. Reads n bytes at document. Writes all
  * room_len bytes at room: the text, then zeros; all zeros after a refusal. Writes *at: the text's length, or the refusal's place.
  * Refusals 1 to 10 and 13. */
-uint32_t sefgrunn_console(const uint8_t *document, size_t n, size_t width, bool full, uint8_t *room, size_t room_len, size_t *at);
+uint32_t sefgrunn_console(const uint8_t *document, size_t n, size_t width, bool full, bool characters, uint8_t *room, size_t room_len,
+    size_t *at);
 
 /* What sefgrunn_next_chunk found. */
 enum sefgrunn_chunk {

@@ -202,18 +202,34 @@ static void show(const char *what, const char *before, uint32_t number, const ui
     printf("\n");
 }
 
+/* A text beyond ASCII, folded by bytes and by characters. */
+static void show_measures(void)
+{
+    static struct page french;
+    static uint8_t room[ROOM];
+    size_t at;
+    uint32_t number;
+
+    put(&french, SEFGRUNN_STYLE_TEXT, "à côté");
+    number = sefgrunn_console(french.room, french.length, 6, true, false, room, sizeof room, &at);
+    show("console, width 6, folded by bytes", "", number, room, at, "à\ncôté");
+    number = sefgrunn_console(french.room, french.length, 6, true, true, room, sizeof room, &at);
+    show("console, width 6, folded by characters", "", number, room, at, "à côté");
+}
+
 static void show_all(const struct page *page)
 {
     static uint8_t room[ROOM];
     size_t at;
     uint32_t number;
 
-    number = sefgrunn_console(page->room, page->length, 40, true, room, sizeof room, &at);
+    number = sefgrunn_console(page->room, page->length, 40, true, false, room, sizeof room, &at);
     show("console, width 40", "", number, room, at, CONSOLE_40);
-    number = sefgrunn_console(page->room, page->length, 100, true, room, sizeof room, &at);
+    number = sefgrunn_console(page->room, page->length, 100, true, false, room, sizeof room, &at);
     show("console, width 100", "", number, room, at, CONSOLE_100);
-    number = sefgrunn_console(page->room, page->length, 100, false, room, sizeof room, &at);
+    number = sefgrunn_console(page->room, page->length, 100, false, false, room, sizeof room, &at);
     show("console, width 100, up to each first paragraph", "", number, room, at, CONSOLE_SHORT);
+    show_measures();
     number = sefgrunn_html(page->room, page->length, true, false, room, sizeof room, &at);
     show("HTML", "", number, room, at, HTML);
     number = sefgrunn_markdown(page->room, page->length, true, room, sizeof room, &at);
@@ -242,7 +258,7 @@ int main(void)
         fprintf(stderr, "example: a refused call changed the length\n");
         return 1;
     }
-    number = sefgrunn_console(page.room, page.length, 100, true, small, sizeof small, &place);
+    number = sefgrunn_console(page.room, page.length, 100, true, false, small, sizeof small, &place);
     refused("a room of 8 bytes", number, place, SEFGRUNN_NO_ROOM, 0);
     return 0;
 }

@@ -407,7 +407,7 @@ mod tests {
     fn answers(document: &[u8]) -> [(u32, u64); 4] {
         let (full, css, strict) = (true, true, false);
         let renderers = [
-            Renderer::Console { width: 100, full },
+            Renderer::Console { width: 100, full, characters: false },
             Renderer::Html { full, css, strict },
             Renderer::Markdown { full },
             Renderer::Roff,

@@ -15,7 +15,8 @@ use crate::rules::{self, Kind, Operation, Record, Renderer};
 use crate::stored::{decode, put_record, Block, Ending, Style, MOST_BYTES};
 use crate::Doc;
 
-const CONSOLE: Renderer = Renderer::Console { width: 100, full: true };
+const CONSOLE: Renderer = Renderer::Console { width: 100, full: true, characters: false };
+const CHARACTERS: Renderer = Renderer::Console { width: 100, full: true, characters: true };
 const HTML: Renderer = Renderer::Html { full: true, css: false, strict: false };
 const MARKDOWN: Renderer = Renderer::Markdown { full: true };
 
@@ -101,7 +102,7 @@ fn check_times(document: &[u8], records: &[Record]) -> Times {
 
 fn rust_text(renderer: Renderer, doc: &Doc) -> String {
     match renderer {
-        Renderer::Console { width, full } => {
+        Renderer::Console { width, full, .. } => {
             doc.render_console(full, Color::Monochrome, width as usize)
         }
         Renderer::Html { full, css, .. } => doc.render_html(full, css),
@@ -134,6 +135,22 @@ fn render_times(
             })
         },
     ))
+}
+
+/// The measure by characters; the port's measure by bytes stands in for the Rust, which has no such
+/// measure. `None` where the page is refused.
+fn characters_times(document: &[u8]) -> Option<Times> {
+    let need = |renderer| rules::render(renderer, document, usize::MAX).most;
+    let (mut room, mut other) = (vec![0; need(CHARACTERS)], vec![0; need(CONSOLE)]);
+    let run =
+        |renderer, room: &mut Vec<u8>| port(Call::Render(renderer), document, black_box(room)) == 0;
+    (run(CHARACTERS, &mut room) && run(CONSOLE, &mut other)).then(|| {
+        medians(
+            400,
+            || batch(BATCH, || assert!(run(CHARACTERS, &mut room))),
+            || batch(BATCH, || assert!(run(CONSOLE, &mut other))),
+        )
+    })
 }
 
 // ---------------------------------------------------------------------------------------------
@@ -242,6 +259,7 @@ pub fn page(name: &str, document: &[u8]) -> Option<()> {
     row("check (rust: from_utf8)", name, bytes, Some(check_times(document, &records)));
     let wide = render_times(CONSOLE, document, &doc, Some(65_536));
     row("console, room 65,536", name, bytes, wide);
+    row("characters (rust: bytes)", name, bytes, characters_times(document));
     for (what, renderer) in [
         ("console, room as needed", CONSOLE),
         ("html", HTML),

@@ -112,7 +112,7 @@ pub fn put_chunk(answer: &mut Answer, given: PlainCursor, next: Option<(Chunk, P
 fn header(call: Call) -> (u8, u64, bool, bool) {
     match call {
         Call::Check => (0, 0, false, false),
-        Call::Render(Renderer::Console { width, full }) => (1, width, full, false),
+        Call::Render(Renderer::Console { width, full, characters }) => (1, width, full, characters),
         Call::Render(Renderer::Html { full, css, strict: false }) => (2, 0, full, css),
         Call::Render(Renderer::Html { full, css, strict: true }) => (3, 0, full, css),
         Call::Render(Renderer::Markdown { full }) => (4, 0, full, false),
@@ -152,7 +152,7 @@ fn put(out: &mut Vec<u8>, number: u64) {
 ///      6 write, 7 open, 8 close, 9 doc, 10 em_doc, 11 split, 12 next_chunk
 /// n    width (console), style (write), block (open, close) or place in the body (next_chunk); else 0
 /// u8   full (console, html, html_strict, markdown), ticks (next_chunk); else 0
-/// u8   css (html, html_strict); else 0
+/// u8   css (html, html_strict), by characters (console); else 0
 /// n    room length R
 /// n    document length D
 /// D    the document; write: the text; doc, em_doc: the document added; split, next_chunk: the body
@@ -241,12 +241,12 @@ mod tests {
         };
         let document = vec![3, 0, 0, 0, 1, 0, b'a', b' ', b'b'];
         let case = Case {
-            call: Call::Render(Renderer::Console { width: 2, full: true }),
+            call: Call::Render(Renderer::Console { width: 2, full: true, characters: true }),
             document: document.clone(),
             room: pattern(0, 4).collect(),
             length: 0,
         };
-        let mut expected = vec![20, 1, 2, 1, 0, 4, 9];
+        let mut expected = vec![20, 1, 2, 1, 1, 4, 9];
         expected.extend(&document);
         expected.extend([0, 3, b'a', b'\n', b'b']);
         assert_eq!(form(case), expected);

@@ -301,7 +301,7 @@ impl Maker<'_> {
     }
 
     fn act(&mut self) {
-        match self.rng.below(28) {
+        match self.rng.below(29) {
             0..=5 => self.some_text(),
             // bodies that would split or escape otherwise if they were joined
             6 => {
@@ -432,6 +432,16 @@ impl Maker<'_> {
                 self.text("[y]");
             }
             25..=26 => self.past_the_margin(),
+            // a line whose bytes and characters differ by far: a word, a code line, a line in ticks
+            27 => {
+                let first = self.rng.pick(&["", " ", "\n ", "\n    ", "\n\n    ", "\n\n```\n"]);
+                let ascii = self.palette.ascii;
+                let one =
+                    self.rng.pick(if ascii { &["t"] } else { &["é", "漢", "😀", "e\u{301}"] });
+                let line = first.to_string() + &one.repeat(self.rng.below(30));
+                self.text(&line);
+                self.some_text();
+            }
             // an empty block
             _ => {
                 let block = self.rng.below(12);
@@ -631,7 +641,9 @@ fn rendering(rng: &mut Rng, subject: Subject, limits: Limits) -> Case {
     let document = document(rng, subject, limits, 10);
     let (full, css) = (!rng.once_in(3), rng.once_in(6));
     let renderer = match subject {
-        Subject::Console => Renderer::Console { width: width(rng, limits), full },
+        Subject::Console => {
+            Renderer::Console { width: width(rng, limits), full, characters: rng.once_in(2) }
+        }
         Subject::Html => Renderer::Html { full, css, strict: false },
         Subject::HtmlStrict => Renderer::Html { full, css, strict: true },
         Subject::Markdown => Renderer::Markdown { full },

@@ -11,7 +11,7 @@ use std::sync::Once;
 use crate::buffer::{plain_chunks, Color, PlainChunk, Token};
 use crate::cases::{Answer, Call, Case};
 use crate::rules::{self, Chunk, Kind, Operation, Record, Refusal, Renderer};
-use crate::stored::{decode, Block, Ending, Style, MOST_BYTES};
+use crate::stored::{decode, put_record, Block, Ending, Style, MOST_BYTES};
 use crate::Doc;
 
 thread_local!(static QUIET: Cell<bool> = const { Cell::new(false) });
@@ -74,13 +74,24 @@ fn strict_body(body: &str) -> String {
 /// The text of the kept Rust, or its panic.
 fn rendered(renderer: Renderer, doc: &Doc) -> Result<String, String> {
     caught(|| match renderer {
-        Renderer::Console { width, full } => {
+        Renderer::Console { width, full, .. } => {
             doc.render_console(full, Color::Monochrome, width as usize)
         }
         Renderer::Html { full, css, .. } => doc.render_html(full, css),
         Renderer::Markdown { full } => doc.render_markdown(full),
         Renderer::Roff => doc.roff(),
     })
+}
+
+/// A text with each character beyond ASCII replaced by one of a single byte, White_Space by a tab: the
+/// same chunks, and as many bytes as characters.
+fn narrowed(text: &str) -> String {
+    let narrow = |c: char| match c {
+        _ if c.is_ascii() => c,
+        _ if c.is_whitespace() => '\t',
+        _ => 'x',
+    };
+    text.chars().map(narrow).collect()
 }
 
 /// Slicing `PADDING` past its end: 10.
@@ -118,14 +129,20 @@ fn taken_apart(body: &str) -> Vec<(Option<usize>, String)> {
     parts
 }
 
+/// The text record in whose body, or at whose end, a place is.
+fn text_at(records: &[Record], place: usize) -> Option<usize> {
+    records.iter().position(|r| {
+        let body = r.place + 6..=r.place + 6 + r.body.len();
+        matches!(r.kind, Kind::Text(_)) && body.contains(&place)
+    })
+}
+
 /// The place of 10, from the kept Rust alone: with all text from the refusing chunk on taken away it
 /// does not panic, with all after it taken away it does. A term of the right width at the end keeps the
 /// tabstop; where what is taken away raises the tabstop nothing can be said.
 fn confirm_margin(renderer: Renderer, records: &[Record], place: usize) -> Result<(), String> {
-    let is_text = |r: &&Record| matches!(r.kind, Kind::Text(_));
-    let holds = |r: &&Record| (r.place + 6..=r.place + 6 + r.body.len()).contains(&place);
-    let refusing = records.iter().filter(is_text).find(holds).ok_or("10 in no text")?;
-    let at = records.iter().position(|r| r == refusing).expect("it is one of them");
+    let at = text_at(records, place).ok_or("10 in no text")?;
+    let refusing = &records[at];
     let body = std::str::from_utf8(refusing.body).expect("accepted text is UTF-8");
     let parts = taken_apart(body);
     let chunk = parts
@@ -197,18 +214,75 @@ fn confirm_rendering(renderer: Renderer, case: &Case, answer: &Answer) -> Result
         };
     };
     let records = rules::check(&case.document).map_err(|r| format!("read, yet refused: {r:?}"))?;
-    let doc = match renderer {
-        Renderer::Html { strict: true, .. } => rebuilt(&records, |_, body| strict_body(body)),
-        _ => doc,
-    };
+    confirm_text(renderer, &records, doc, &free.outcome)?;
+
+    let Ok(text) = &free.outcome else { return Ok(()) };
+    match renderer {
+        // 01's demand 3, which 02 asks of both measures
+        Renderer::Console { full: true, .. }
+            if rules::printing(text) != rules::printing_order(&records) =>
+        {
+            Err("printing characters are not the printing order".into())
+        }
+        Renderer::Console { .. } => Ok(()),
+        // no other renderer trims, so its text only grows
+        _ if free.most != text.len() => Err("longer than its text at some moment".into()),
+        _ => Ok(()),
+    }
+}
+
+/// The kept Rust's text or panic beside what the rules give without a limit on the room.
+fn confirm_text(
+    renderer: Renderer,
+    records: &[Record],
+    doc: Doc,
+    ruled: &Result<Vec<u8>, Refusal>,
+) -> Result<(), String> {
+    match renderer {
+        Renderer::Html { strict: true, .. } => {
+            let doc = rebuilt(records, |_, body| strict_body(body));
+            confirm_outcome(renderer, records, doc, ruled)
+        }
+        Renderer::Console { characters: true, .. } => {
+            let mut document = Vec::new();
+            for record in records {
+                let text = std::str::from_utf8(record.body).expect("accepted text is UTF-8");
+                put_record(&mut document, record.kind.number(), narrowed(text).as_bytes());
+            }
+            let narrow = rules::check(&document).map_err(|r| format!("made narrow: {r:?}"))?;
+            let ruled = match ruled {
+                Ok(text) => {
+                    Ok(narrowed(std::str::from_utf8(text).map_err(|e| e.to_string())?).into_bytes())
+                }
+                Err(Refusal { number: 10, place }) => {
+                    let at = text_at(records, *place).ok_or("10 in no text")?;
+                    let before = &records[at].body[..*place - records[at].place - 6];
+                    let place = narrow[at].place + 6 + rules::characters(before);
+                    Err(Refusal { number: 10, place })
+                }
+                Err(other) => Err(*other),
+            };
+            let doc = rebuilt(&narrow, |_, body| body.to_string());
+            confirm_outcome(renderer, &narrow, doc, &ruled)
+        }
+        _ => confirm_outcome(renderer, records, doc, ruled),
+    }
+}
+
+fn confirm_outcome(
+    renderer: Renderer,
+    records: &[Record],
+    doc: Doc,
+    ruled: &Result<Vec<u8>, Refusal>,
+) -> Result<(), String> {
     let outcome = rendered(renderer, &doc);
     let todo = if renderer == Renderer::Roff { 9 } else { 10 };
     let todo = records.iter().find(|r| r.kind == Kind::Start(todo)).map(|r| r.place);
-    let captured = if renderer == Renderer::Roff { captured_beyond_ascii(&records) } else { None };
-    match (&free.outcome, &outcome) {
+    let captured = if renderer == Renderer::Roff { captured_beyond_ascii(records) } else { None };
+    match (ruled, &outcome) {
         (Ok(text), Ok(kept)) if text == kept.as_bytes() && captured.is_none() => {}
         (Err(Refusal { number: 10, place }), Err(message)) if is_padding_panic(message) => {
-            confirm_margin(renderer, &records, *place)?;
+            confirm_margin(renderer, records, *place)?;
         }
         (Err(Refusal { number: 11, place }), Err(message)) if is_todo_panic(message) => {
             if todo != Some(*place) || captured.is_some_and(|at| at < *place) {
@@ -221,22 +295,9 @@ fn confirm_rendering(renderer: Renderer, case: &Case, answer: &Answer) -> Result
                 return Err(format!("12 at {place}, first such text {captured:?}, 11 {todo:?}"));
             }
         }
-        _ => return Err(format!("rules {:?}, kept Rust {outcome:?}", free.outcome)),
+        _ => return Err(format!("rules {ruled:?}, kept Rust {outcome:?}")),
     }
-
-    let Ok(text) = &free.outcome else { return Ok(()) };
-    match renderer {
-        // 01's demand 3
-        Renderer::Console { full: true, .. }
-            if rules::printing(text) != rules::printing_order(&records) =>
-        {
-            Err("printing characters are not the printing order".into())
-        }
-        Renderer::Console { .. } => Ok(()),
-        // no other renderer trims, so its text only grows
-        _ if free.most != text.len() => Err("longer than its text at some moment".into()),
-        _ => Ok(()),
-    }
+    Ok(())
 }
 
 fn confirm_build(operation: Operation, case: &Case, answer: &Answer) -> Result<(), String> {

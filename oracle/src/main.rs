@@ -16,7 +16,7 @@ const NOT_LINKED: &str =
 
 const USAGE: &str = "\
 usage: oracle answer console|html|html_strict|markdown|roff
-              [--width N] [--full 0|1] [--css 0|1] [--room N] < document
+              [--width N] [--full 0|1] [--characters 0|1] [--css 0|1] [--room N] < document
        oracle record check|console|html|html_strict|markdown|roff|builder|split|next_chunk
               --seed S --cases N [--max-bytes B] > list
        oracle compare --seed S --cases N [--only SUBJECT,..]
@@ -106,7 +106,7 @@ fn main() -> ExitCode {
                 println!("{NOT_LINKED}");
                 return ExitCode::from(2);
             }
-            "answer" => Arguments::read(arguments, &["width", "full", "css", "room"])
+            "answer" => Arguments::read(arguments, &["width", "full", "characters", "css", "room"])
                 .and_then(|a| run_answer(&a)),
             "record" => Arguments::read(arguments, &["seed", "cases", "max-bytes"])
                 .and_then(|a| run_record(&a)),
@@ -181,11 +181,12 @@ fn run_growth(arguments: &Arguments) -> Parsed<ExitCode> {
 fn run_answer(arguments: &Arguments) -> Parsed<ExitCode> {
     let width = arguments.number("width", Some(PROGRAM_WIDTH))?;
     let full = arguments.flag("full", true)?;
+    let characters = arguments.flag("characters", false)?;
     let css = arguments.flag("css", false)?;
     let room = arguments.number("room", Some(PROGRAM_ROOM))?;
     let room = usize::try_from(room).ok().filter(|&n| n <= 1 << 30).ok_or("--room: too large")?;
     let renderer = match arguments.operand()? {
-        "console" => Renderer::Console { width, full },
+        "console" => Renderer::Console { width, full, characters },
         "html" => Renderer::Html { full, css, strict: false },
         "html_strict" => Renderer::Html { full, css, strict: true },
         "markdown" => Renderer::Markdown { full },

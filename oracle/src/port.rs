@@ -127,8 +127,8 @@ pub(crate) fn number(call: Call, document: &[u8], room: &mut [u8], stored: &mut 
     unsafe {
         match call {
             Call::Check => c::sefgrunn_check(d, n, at),
-            Call::Render(Renderer::Console { width, full }) => {
-                c::sefgrunn_console(d, n, width as usize, full, r, r_len, at)
+            Call::Render(Renderer::Console { width, full, characters }) => {
+                c::sefgrunn_console(d, n, width as usize, full, characters, r, r_len, at)
             }
             Call::Render(Renderer::Html { full, css, strict: false }) => {
                 c::sefgrunn_html(d, n, full, css, r, r_len, at)

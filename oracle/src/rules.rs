@@ -80,6 +80,17 @@ pub enum Kind {
     End(usize),
 }
 
+impl Kind {
+    /// The number that a record has for it.
+    pub fn number(self) -> u16 {
+        (match self {
+            Kind::Text(style) => style,
+            Kind::Start(block) => 0x0100 + block,
+            Kind::End(block) => 0x0200 + block,
+        }) as u16
+    }
+}
+
 #[derive(Debug, Clone, Copy, Eq, PartialEq)]
 pub struct Record<'a> {
     pub place: usize,
@@ -358,9 +369,20 @@ impl Skip {
 
 #[derive(Debug, Clone, Copy, Eq, PartialEq)]
 pub enum Renderer {
-    Console { width: u64, full: bool },
-    Html { full: bool, css: bool, strict: bool },
-    Markdown { full: bool },
+    /// `characters`: the fold test adds a chunk's characters (02, point 3), not its bytes.
+    Console {
+        width: u64,
+        full: bool,
+        characters: bool,
+    },
+    Html {
+        full: bool,
+        css: bool,
+        strict: bool,
+    },
+    Markdown {
+        full: bool,
+    },
     Roff,
 }
 
@@ -371,8 +393,8 @@ pub struct Run {
     pub most: usize,
 }
 
-/// The misreadings that 01 warns of; the generator must tell each from 01's own reading. The last two
-/// are 01's worthless splitters (see `worthless`).
+/// The misreadings that 01 warns of, and two of 02's measure by characters; the generator must tell
+/// each from the paper's own reading. The last two are 01's worthless splitters (see `worthless`).
 #[derive(Debug, Clone, Copy, Eq, PartialEq)]
 pub enum Misreading {
     None,
@@ -381,15 +403,25 @@ pub enum Misreading {
     PopOwnMarginsOnly,
     TrimAsciiOnly,
     HideBackticks,
+    FoldByWidth,
+    AdvanceByMeasure,
     WholeBodyFirst,
     NoChunk,
 }
 
 impl Misreading {
-    /// 01's list.
-    pub const ALL: [Misreading; 5] = {
+    /// 01's list, then 02's two.
+    pub const ALL: [Misreading; 7] = {
         use Misreading::*;
-        [JoinBodies, FoldByCharacters, PopOwnMarginsOnly, TrimAsciiOnly, HideBackticks]
+        [
+            JoinBodies,
+            FoldByCharacters,
+            PopOwnMarginsOnly,
+            TrimAsciiOnly,
+            HideBackticks,
+            FoldByWidth,
+            AdvanceByMeasure,
+        ]
     };
 }
 
@@ -417,7 +449,9 @@ fn walk(renderer: Renderer, document: &[u8], text: &mut Text, misread: Misreadin
     }
     let records = closed(document)?;
     match renderer {
-        Renderer::Console { width, full } => console(&records, width, full, text, misread),
+        Renderer::Console { width, full, characters } => {
+            console(&records, width, full, characters, text, misread)
+        }
         Renderer::Html { full, css, strict } => html(&records, full, css, strict, text),
         Renderer::Markdown { full } => markdown(&records, full, text),
         Renderer::Roff => roff(&records, text),
@@ -472,6 +506,7 @@ fn misread_step(misread: Misreading, body: &[u8], cursor: Cursor) -> Option<(Chu
 struct Page<'t> {
     text: &'t mut Text,
     width: u64,
+    characters: bool,
     misread: Misreading,
     column: usize,
     line_due: bool,
@@ -492,7 +527,9 @@ impl Page<'_> {
                 self.text.put("\n")?;
             }
             let measure = match self.misread {
+                Misreading::FoldByWidth if self.characters => width,
                 Misreading::FoldByCharacters => characters(chunk),
+                _ if self.characters => characters(chunk),
                 _ => chunk.len(),
             };
             if (self.column + measure) as u64 > self.width {
@@ -520,7 +557,10 @@ impl Page<'_> {
         self.text.put(" ".repeat(spaces))?;
         (self.line_due, self.blank_line_due, self.body_due) = (false, false, false);
         self.text.put(chunk)?;
-        self.column += spaces + width;
+        self.column += match self.misread {
+            Misreading::AdvanceByMeasure if self.characters => spaces + characters(chunk),
+            _ => spaces + width,
+        };
         Ok(())
     }
 
@@ -542,6 +582,7 @@ fn console(
     records: &[Record],
     width: u64,
     full: bool,
+    characters: bool,
     text: &mut Text,
     misread: Misreading,
 ) -> Ruled<()> {
@@ -552,6 +593,7 @@ fn console(
     let mut page = Page {
         text,
         width,
+        characters,
         misread,
         column: 0,
         line_due: false,
@@ -1042,12 +1084,7 @@ struct Grown {
 impl Grown {
     fn add(&mut self, kind: Kind, body: &[u8]) -> Ruled<()> {
         nest(&mut self.open, kind, self.bytes.len())?;
-        let number = match kind {
-            Kind::Text(style) => style,
-            Kind::Start(block) => 0x0100 + block,
-            Kind::End(block) => 0x0200 + block,
-        };
-        crate::stored::put_record(&mut self.bytes, number as u16, body);
+        crate::stored::put_record(&mut self.bytes, kind.number(), body);
         Ok(())
     }
 

@@ -170,7 +170,7 @@ mod tests {
     /// An accepted case of each, by its bytes.
     #[test]
     fn answers() {
-        let render = Call::Render(Renderer::Console { width: 100, full: true });
+        let render = Call::Render(Renderer::Console { width: 100, full: true, characters: false });
         let document = [&[3, 0, 0, 0, 1, 0][..], b"a b"].concat();
         let console = Case { call: render, document, room: vec![7; 30], length: 0 };
         let given = |worthless: Worthless, case: &Case| {

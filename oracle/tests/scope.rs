@@ -14,7 +14,11 @@ const PREAMBLE: &str = ".ie \\n(.g .ds Aq \\(aq\n.el .ds Aq '\n";
 const ROOM: usize = 65_536;
 
 fn console(width: u64) -> Renderer {
-    Renderer::Console { width, full: true }
+    Renderer::Console { width, full: true, characters: false }
+}
+
+fn by_characters(width: u64) -> Renderer {
+    Renderer::Console { width, full: true, characters: true }
 }
 
 fn run(call: Call, document: &[u8], room: Vec<u8>, length: u64) -> Answer {
@@ -96,7 +100,8 @@ fn sample_white_space_is_trimmed() {
 #[test]
 fn sample_paragraph() {
     assert_eq!(shown(console(100), &text("a\n\nb")), "a\nb");
-    assert_eq!(shown(Renderer::Console { width: 100, full: false }, &text("a\n\nb")), "a\n");
+    let short = Renderer::Console { width: 100, full: false, characters: false };
+    assert_eq!(shown(short, &text("a\n\nb")), "a\n");
 }
 
 #[test]
@@ -335,6 +340,63 @@ fn white_space_is_the_property() {
     assert!(('\0'..=char::MAX).all(|c| rules::is_white_space(c) == c.is_whitespace()));
 }
 
+// 02, point 3: the measure by characters
+
+#[test]
+fn characters_fold_by_what_fits() {
+    for (width, bytes, characters) in
+        [(0, "é\né", "é\né"), (1, "é\né", "é\né"), (2, "é\né", "é\né"), (3, "é\né", "é é")]
+    {
+        assert_eq!(shown(console(width), &text("é é")), bytes, "{width}");
+        assert_eq!(shown(by_characters(width), &text("é é")), characters, "{width}");
+    }
+    // four-byte characters; a combining character counts one
+    assert_eq!(shown(console(10), &text("😀😀 😀😀")), "😀😀\n😀😀");
+    assert_eq!(shown(by_characters(5), &text("😀😀 😀😀")), "😀😀 😀😀");
+    assert_eq!(shown(by_characters(4), &text("😀😀 😀😀")), "😀😀\n😀😀");
+    assert_eq!(shown(by_characters(3), &text("a e\u{301}")), "a\ne\u{301}");
+    assert_eq!(shown(by_characters(4), &text("a e\u{301}")), "a e\u{301}");
+    assert_eq!(shown(by_characters(10_000), &text("é é")), "é é");
+    assert_eq!(refusal(by_characters(10_001), &text("é"), ROOM), (9, 0));
+}
+
+/// A code line and a line in ticks are measured by the characters that they hold, and still leave the
+/// column past every width.
+#[test]
+fn characters_of_code_lines() {
+    // five characters of ten bytes at column 95
+    let line = "u".repeat(95) + "\n    ééééé";
+    let unfolded = "u".repeat(95) + "ééééé";
+    assert_eq!(shown(by_characters(100), &text(&line)), unfolded);
+    assert_eq!(shown(console(104), &text(&line)), "u".repeat(95) + "\nééééé");
+    assert_eq!(shown(console(105), &text(&line)), unfolded);
+    assert_eq!(shown(by_characters(99), &text(&line)), "u".repeat(95) + "\nééééé");
+    // a line in ticks: a fold before it trims the space that ends the line before
+    let ticks = text("a \n\n```ééééé\nb");
+    assert_eq!(shown(by_characters(8), &ticks), "a \n```ééééé\nb");
+    assert_eq!(shown(by_characters(7), &ticks), "a\n```ééééé\nb");
+    assert_eq!(shown(console(12), &ticks), "a\n```ééééé\nb");
+    assert_eq!(shown(console(13), &ticks), "a \n```ééééé\nb");
+    // the column advanced by 1,000,000: what follows folds
+    let after = made(|d| d.text("\n    é").literal("b"));
+    assert_eq!(shown(by_characters(10_000), &after), "é\nb");
+}
+
+/// 10 stands at the chunk that folds by this measure.
+#[test]
+fn characters_decide_where_10_is_met() {
+    let document = made(|d| nested(d.text(&"u".repeat(54)), &[Block::ItemBody; 9], "é é"));
+    let from = (60 + 54 + 6) as u64;
+    // the first word keeps two columns from what is before it, so its last column is 57
+    assert_eq!(refusal(console(55), &document, ROOM), (10, from));
+    assert_eq!(refusal(console(56), &document, ROOM), (10, from + 3));
+    assert_eq!(refusal(by_characters(55), &document, ROOM), (10, from + 3));
+    assert_eq!(refusal(by_characters(58), &document, ROOM), (10, from + 3));
+    assert_eq!(shown(by_characters(59), &document), "u".repeat(54) + "  é é");
+    assert_eq!(refusal(console(59), &document, ROOM), (10, from + 3));
+    assert_eq!(shown(console(60), &document), "u".repeat(54) + "  é é");
+}
+
 // The rows of the refusal table
 
 #[test]
@@ -351,7 +413,7 @@ fn refusals_1_to_8() {
     ];
     for (document, number, place) in rows {
         assert_eq!(check(document), (number, place));
-        for renderer in [console(100), HTML, STRICT, MARKDOWN, ROFF] {
+        for renderer in [console(100), by_characters(100), HTML, STRICT, MARKDOWN, ROFF] {
             assert_eq!(refusal(renderer, document, ROOM), (number, place));
         }
     }

@@ -1,6 +1,6 @@
 //! The page of `samples/example.c`, built and printed through this package; both print the same.
 
-use sefgrunn::{Block, Builder, Html, Refusal, Settings, Style};
+use sefgrunn::{Block, Builder, Html, Measure, Refusal, Settings, Style};
 
 /// What roff text needs before it: `.TH`, without which groff shows no headings, and `.nh`, without
 /// which it hyphenates options.
@@ -35,10 +35,19 @@ fn build() -> Result<Builder, Refusal> {
 fn main() -> Result<(), Refusal> {
     let mut page = build()?;
     let document = page.clone().finish()?;
-    let console = |width, full| sefgrunn::console_string(&document, Settings { width, full });
+    let console = |width, full| {
+        sefgrunn::console_string(&document, Settings { width, full, ..Settings::default() })
+    };
     println!("== console, width 40\n{}", console(40, true)?);
     println!("== console, width 100\n{}", console(100, true)?);
     println!("== console, width 100, up to each first paragraph\n{}", console(100, false)?);
+    let mut french = Builder::new();
+    french.write(Style::Text, "à côté")?;
+    for (name, measure) in [("bytes", Measure::Bytes), ("characters", Measure::Characters)] {
+        let settings = Settings { width: 6, full: true, measure };
+        let text = sefgrunn::console_string(french.document(), settings)?;
+        println!("== console, width 6, folded by {name}\n{text}");
+    }
     println!("== HTML\n{}", sefgrunn::html_string(&document, Html::default())?);
     println!("== Markdown\n{}", sefgrunn::markdown_string(&document, true)?);
     println!("== roff\n{MAN_PAGE}{}", sefgrunn::roff_string(&document)?);

@@ -7,6 +7,7 @@ extern "C" {
         n: usize,
         width: usize,
         full: bool,
+        characters: bool,
         room: *mut u8,
         room_len: usize,
         at: *mut usize,

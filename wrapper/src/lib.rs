@@ -160,7 +160,25 @@ pub fn check(document: &[u8]) -> Result<(), Refusal> {
     accepted(number, place)
 }
 
+/// What the test that folds a line adds to the columns so far.
+#[derive(Debug, Clone, Copy, PartialEq, Eq, Hash, Default)]
+pub enum Measure {
+    /// The bytes of the next word, as bpaf does: `é é` folds at width 3.
+    #[default]
+    Bytes,
+    /// The characters of the next word, each counting one, a combining one too: `é é` folds at
+    /// width 2.
+    Characters,
+}
+
 /// How console text is laid out.
+///
+/// ```
+/// use sefgrunn::{Measure, Settings};
+///
+/// let french = Settings { width: 80, measure: Measure::Characters, ..Settings::default() };
+/// assert!(french.full);
+/// ```
 #[derive(Debug, Clone, Copy, PartialEq, Eq)]
 pub struct Settings {
     /// Columns, at most [`MOST_WIDTH`].
@@ -168,12 +186,14 @@ pub struct Settings {
     /// All of the text; or else the first empty line in a text ends it, and text is left out until
     /// an InlineBlock ends that was open there, or to the document's end.
     pub full: bool,
+    /// What a line is folded by.
+    pub measure: Measure,
 }
 
 impl Default for Settings {
-    /// All of the text, 100 columns wide.
+    /// All of the text, 100 columns wide, folded by bytes.
     fn default() -> Self {
-        Settings { width: 100, full: true }
+        Settings { width: 100, full: true, measure: Measure::Bytes }
     }
 }
 
@@ -208,7 +228,7 @@ pub fn console<'r>(
     settings: Settings,
     room: &'r mut [u8],
 ) -> Result<&'r str, Refusal> {
-    let answer = linked::console(document, settings.width, settings.full, room);
+    let answer = linked::console(document, settings, room);
     text(room, answer)
 }
 

@@ -5,7 +5,7 @@
 //! an empty one) or of a local number, with the slice's own length beside it, and no two overlap,
 //! because a `&mut` overlaps with nothing.
 
-use crate::c;
+use crate::{c, Measure, Settings};
 
 pub fn check(document: &[u8]) -> (u32, usize) {
     let mut place = 0;
@@ -14,10 +14,12 @@ pub fn check(document: &[u8]) -> (u32, usize) {
     (number, place)
 }
 
-pub fn console(document: &[u8], width: usize, full: bool, room: &mut [u8]) -> (u32, usize) {
+pub fn console(document: &[u8], settings: Settings, room: &mut [u8]) -> (u32, usize) {
     let (d, n, r, len, mut at) = parts(document, room);
+    let Settings { width, full, measure } = settings;
+    let characters = measure == Measure::Characters;
     // SAFETY: see above.
-    let number = unsafe { c::sefgrunn_console(d, n, width, full, r, len, &mut at) };
+    let number = unsafe { c::sefgrunn_console(d, n, width, full, characters, r, len, &mut at) };
     (number, at)
 }
 

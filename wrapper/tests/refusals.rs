@@ -47,7 +47,7 @@ fn of_documents() {
 
 #[test]
 fn of_renderers() {
-    let wide = |width| sefgrunn::console_string(b"", Settings { width, full: true });
+    let wide = |width| sefgrunn::console_string(b"", Settings { width, ..Settings::default() });
     assert_eq!(wide(10_000), Ok(String::new()));
     assert_eq!(wide(10_001), refusal(Number::TooWide, 0));
     assert_eq!(wide(usize::MAX), refusal(Number::TooWide, 0));

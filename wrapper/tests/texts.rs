@@ -1,8 +1,8 @@
 //! The samples of document 01 ("01"), through the library, and what a room holds after a call.
 
 use sefgrunn::{
-    Block, Builder, Chunk, Html, Number, Piece, Refusal, Settings, Style, MOST_ROOM, WIDTH_CODE,
-    WIDTH_TICKED,
+    Block, Builder, Chunk, Html, Measure, Number, Piece, Refusal, Settings, Style, MOST_ROOM,
+    WIDTH_CODE, WIDTH_TICKED,
 };
 
 const PREAMBLE: &str = ".ie \\n(.g .ds Aq \\(aq\n.el .ds Aq '\n";
@@ -30,7 +30,12 @@ fn nested(blocks: &[Block], style: Style, body: &str) -> Vec<u8> {
 }
 
 fn console(document: &[u8], width: usize) -> String {
-    sefgrunn::console_string(document, Settings { width, full: true }).unwrap()
+    sefgrunn::console_string(document, Settings { width, ..Settings::default() }).unwrap()
+}
+
+fn by_characters(document: &[u8], width: usize) -> String {
+    let settings = Settings { width, full: true, measure: Measure::Characters };
+    sefgrunn::console_string(document, settings).unwrap()
 }
 
 #[test]
@@ -46,6 +51,11 @@ fn folding() {
         assert_eq!(console(&text("a b"), width), shown);
     }
     assert_eq!(console(&text("é é"), 3), "é\né");
+    assert_eq!(by_characters(&text("é é"), 3), "é é");
+    assert_eq!(by_characters(&text("é é"), 2), "é\né");
+    let line = "u".repeat(95) + "\n    ééééé";
+    assert_eq!(by_characters(&text(&line), 100), "u".repeat(95) + "ééééé");
+    assert_eq!(console(&text(&line), 100), "u".repeat(95) + "\nééééé");
     assert_eq!(console(&text("a\u{A0} b"), 3), "a\nb");
 }
 
@@ -53,7 +63,7 @@ fn folding() {
 fn paragraph() {
     let document = text("a\n\nb");
     assert_eq!(console(&document, 100), "a\nb");
-    let short = Settings { width: 100, full: false };
+    let short = Settings { full: false, ..Settings::default() };
     assert_eq!(sefgrunn::console_string(&document, short).unwrap(), "a\n");
     assert_eq!(sefgrunn::markdown_string(&document, true).unwrap(), "a\n\nb");
     assert_eq!(sefgrunn::markdown_string(&document, false).unwrap(), "a");
@@ -180,7 +190,7 @@ fn chunks_and_their_places() {
 #[test]
 fn what_a_room_holds() {
     let document = text("a\u{A0} ");
-    let settings = Settings { width: 2, full: true };
+    let settings = Settings { width: 2, ..Settings::default() };
     let mut room = [0xEE; 5];
     assert_eq!(sefgrunn::console(&document, settings, &mut room), Ok("a\n"));
     assert_eq!(room, *b"a\n\0\0\0");

@@ -12,6 +12,7 @@ use Rattle.renderer.specs.Rendered.{standing, Inside}
 use Rattle.renderer.specs.declared.Rendered.{Rendered}
 use Rattle.console_rules.specs.Console.{finish, console}
 use Rattle.console_rules.specs.declared.Settings.{Settings}
+use Rattle.console_rules.specs.declared.Measure.the-variants as measure
 use Rattle.console_chunks.specs.Shown.{held}
 use Rattle.console_chunks.specs.declared.Mark.{Mark}
 
@@ -19,9 +20,9 @@ use Rattle.console_chunks.specs.declared.Mark.{Mark}
 abbrev pub textAfter : List ℕ → List ℕ → Mark → Result (List ℕ)
 textAfter room kept m = held room kept m >>= λ s. finish (length room) s >>= λ t. gives (t .out)
 
--- `Doc::monochrome` 'only fixes the width at 100'
+-- `Doc::monochrome` 'only fixes the width at 100'; it counts bytes
 abbrev pub wide : Bool → Settings
-wide x = record { width = 100; full = x }
+wide x = record { width = 100; full = x; measure = measure.Bytes }
 
 -- An answer stands for a text in a room: the text, or the refusal; and the text lies in the room.
 pub record Stands (room : List ℕ) (answer : Rendered) (text : Result (List ℕ)) : Type 0 where

@@ -17,6 +17,7 @@ use console_chunks::Placed;
 use console_rules::Bytes;
 use console_rules::Columns;
 use console_rules::Lay;
+use console_rules::Measure;
 use console_rules::Settings;
 use document::Checked;
 use records::Kind;
@@ -34,7 +35,15 @@ pub fn monochrome(document: &[u8], full: bool, room: &mut [u8]) -> Rendered
     ensures room { λ _. ⌜ now (room .exit) ≡ filled (length (now (room .entry))) (console (wide full) (length (now (room .entry))) (now (document .entry))) ⌝ }
     ensures demand3 { λ r. ⌜ Demand3 (wide full) (now (document .entry)) (now (room .entry)) (now (room .exit)) (answered r) ⌝ }
 {
-    render_console(document, Settings { width: 100, full }, room)
+    render_console(
+        document,
+        Settings {
+            width: 100,
+            full,
+            measure: Measure::Bytes,
+        },
+        room,
+    )
 }
 
 // The text of a document in a room, or its refusal. The room is 0 beyond the text, and all 0 after a refusal.

@@ -16,6 +16,7 @@ ghost use Rattle.console_chunks.specs.Pieces.{isText, textOr, widthOf};
 use console_rules::Bytes;
 use console_rules::Columns;
 use console_rules::Lay;
+use console_rules::Measure;
 use console_rules::Settings;
 use splitter::Piece;
 
@@ -214,7 +215,11 @@ fn is_space(text: &[u8]) -> bool
 fn measure_of(set: Settings, text: &[u8]) -> Bytes
     ensures { λ r. ⌜ r .0 ≡ measureOf set (now (text .entry)) ⌝ }
 {
-    Bytes(text.len())
+    let measure = set.measure;
+    match measure {
+        Measure::Bytes => Bytes(text.len()),
+        Measure::Characters => Bytes(utf8::count(text)),
+    }
 }
 
 // The fold test, the one place where columns and bytes are added. Where it fails their sum is at most a width, so that it is a number that

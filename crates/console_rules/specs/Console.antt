@@ -20,6 +20,8 @@ use Rattle.splitter.specs.Split.{Chunk, raw, paragraph, lineBreak, isSpace, Pla
 use Rattle.renderer.specs.Walk.{Page, withOut, withKept, withLay, write, empty, Turn, walk, body}
 use Rattle.skip.specs.Counter.{hides, skipParagraph, skipStart, skipEnd}
 use Rattle.console_rules.specs.declared.Settings.{Settings}
+use Rattle.console_rules.specs.declared.Measure.{Measure}
+use Rattle.console_rules.specs.declared.Measure.the-variants as measure
 use Rattle.console_rules.specs.declared.Columns.{Columns}
 use Rattle.console_rules.specs.declared.Bytes.{Bytes}
 use Rattle.console_rules.specs.declared.Lay.{Lay}
@@ -105,9 +107,14 @@ gap x y l = record { column = l .column; newline = l .newline; blank = l .blank;
 
 -- Tests.
 
--- What a chunk counts for in the fold test, by the settings: 'the chunk's bytes'. It is said here alone: the rules below leave it open.
+-- What a chunk counts for in the fold test, by the measure: 'the chunk's bytes', or 'the characters that the chunk truly holds, in code lines and
+-- lines in ticks too'. It is said here alone: the rules below leave it open.
+abbrev pub measureBy : Measure → List ℕ → ℕ
+measureBy measure.Bytes x = length x
+measureBy measure.Characters x = characters x
+
 abbrev pub measureOf : Settings → List ℕ → ℕ
-measureOf set x = length x
+measureOf set x = measureBy (set .measure) x
 
 -- 'The fold test .. adds columns so far to' it
 abbrev pub folds : ℕ → Columns → Bytes → Bool

@@ -1,9 +1,16 @@
 // The types that the console's rules share with its code.
 
-// What the console is asked for: '`full`' and the width, as one record.
+// What a chunk counts for in the fold test: its bytes, as in the source, or the characters that it holds.
+pub enum Measure {
+    Bytes,
+    Characters,
+}
+
+// What the console is asked for: the width, '`full`' and the measure, as one record.
 pub struct Settings {
     pub width: usize,
     pub full: bool,
+    pub measure: Measure,
 }
 
 // Columns used, and bytes used.

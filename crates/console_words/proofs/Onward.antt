@@ -12,6 +12,7 @@ use borrow.Author.Tests.{le-ltb, le-leb, lt-leb}
 use Rattle.base.specs.Bytes.{part}
 use Rattle.base.specs.Result.{gives, _>>=_}
 use Rattle.base.proofs.Choice.{if-false, le-or-lt}
+use Rattle.utf8.specs.Utf8.{characters}
 use Rattle.splitter.specs.Split.{raw}
 use Rattle.splitter.specs.declared.Code.{Code}
 use Rattle.splitter.specs.declared.Code.the-variants as code
@@ -93,7 +94,7 @@ module _ (set : Settings) (x old : List ℕ) (len col at : ℕ) (new : List ℕ)
   }
 
   -- a word that fits, with what it counts for
-  module _ (h : at′ < w .to) (n : ℕ) (counts : (y : List ℕ) → length y ≡ w .to - at′ → n ≡ measureOf set y) (thin : col′ + n ≤ set .width) where
+  module _ (h : at′ < w .to) (n : ℕ) (counts : (y : List ℕ) → length y ≡ w .to - at′ → characters y ≡ w .width → n ≡ measureOf set y) (thin : col′ + n ≤ set .width) where
     abbrev text : List ℕ
     text = part x at′ (w .to)
 
@@ -111,7 +112,7 @@ module _ (set : Settings) (x old : List ℕ) (len col at : ℕ) (new : List ℕ)
         let k : length (take len′ new) ≡ len′ = length-take-le len′ new (omega (arith, c .fits h)) in
         raw-there (length new) (t .margin) (t .start + at′) text (w .width) kept (column col′ lay) (take len′ new) (quiet-on (t .margin) lay (p .quiet) (p .here))
         (omega (arith, c .fits h, long)) (measureOf set) set
-        (empty-some new len′ (λ z. omega (arith, o .some)) (omega (arith, c .fits h))) (omega (arith, counts text long))
+        (empty-some new len′ (λ z. omega (arith, o .some)) (omega (arith, c .fits h))) (omega (arith, counts text long (c .counts h)))
 
     pub onward-next : Onward set x old len col at new′ (len′ + (w .to - at′)) (col′ + w .width) (w .to)
     onward-next = record {

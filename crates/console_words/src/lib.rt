@@ -4,12 +4,14 @@ ghost use mathlib.Core.Path.{_≡_};
 ghost use mathlib.Core.List.{List};
 ghost use Prim.Native.Nat.{ℕ, _<_, _≤_};
 ghost use lib.ListN.{length};
+ghost use Rattle.utf8.specs.Utf8.{characters};
 ghost use Rattle.console_rules.specs.Console.{measureOf};
 ghost use Rattle.console_words.specs.Onward.{Onward, Ahead, Moves};
 use console_chunks::Mark;
 use console_rules::Bytes;
 use console_rules::Columns;
 use console_rules::Lay;
+use console_rules::Measure;
 use console_rules::Settings;
 use splitter::Code;
 
@@ -22,10 +24,14 @@ struct Line {
 
 // What a word or a space counts for in the fold test, from its bytes and its width alone; for its width at least.
 fn measure_word(set: Settings, bytes: Bytes, width: Columns) -> Bytes
-    ensures { λ r. ⌜ ((x : List ℕ) → length x ≡ bytes .0 → r .0 ≡ measureOf set x) ⌝ }
+    ensures { λ r. ⌜ ((x : List ℕ) → length x ≡ bytes .0 → characters x ≡ width .0 → r .0 ≡ measureOf set x) ⌝ }
     ensures wide { λ r. ⌜ (width .0 ≤ bytes .0 → width .0 ≤ r .0) ⌝ }
 {
-    Bytes(bytes.0)
+    let measure = set.measure;
+    match measure {
+        Measure::Bytes => Bytes(bytes.0),
+        Measure::Characters => Bytes(width.0),
+    }
 }
 
 // Words and spaces as long as they fit on the line and into the room.

@@ -1,6 +1,7 @@
 // Reads a list of calls with the oracle's answers from standard input, makes each call and compares, and prints one line with the counts:
 // check, the renderers, the splitter and its step.
 ghost use Prim.Native.Nat.{_<_, _≤_};
+use console_rules::Measure;
 use console_rules::Settings;
 use document::Checked;
 use recorded::Call;
@@ -204,6 +205,14 @@ fn is_rendered(rendered: Rendered, room: &[u8], answer: &[u8]) -> bool {
     }
 }
 
+// The measure of the console, which the second flag of its calls names.
+fn measure_of(characters: bool) -> Measure {
+    if characters {
+        return Measure::Characters;
+    }
+    Measure::Bytes
+}
+
 fn render(call: Call, document: &[u8], room: &mut [u8]) -> Rendered {
     let width = call.setting;
     let full = call.full;
@@ -219,7 +228,16 @@ fn render(call: Call, document: &[u8], room: &mut [u8]) -> Rendered {
     if call.number == 5 {
         return manpage::render_roff(document, room);
     }
-    console::render_console(document, Settings { width, full }, room)
+    let measure = measure_of(call.css);
+    console::render_console(
+        document,
+        Settings {
+            width,
+            full,
+            measure,
+        },
+        room,
+    )
 }
 
 // Whether a renderer answers as a case says.

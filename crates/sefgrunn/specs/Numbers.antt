@@ -13,6 +13,8 @@ use Rattle.records.specs.declared.Block.{Block}
 use Rattle.records.specs.declared.Block.the-variants as block
 use Rattle.buffer.specs.Builder.{writes, opensBlock, closesBlock}
 use Rattle.console_rules.specs.declared.Settings.{Settings}
+use Rattle.console_rules.specs.declared.Measure.{Measure}
+use Rattle.console_rules.specs.declared.Measure.the-variants as measure
 
 module _ {A : Type 0} where
   abbrev pub numberOf : Result A → ℕ
@@ -38,8 +40,12 @@ lengthAfter m (refused k p) = m
 abbrev pub told : ℕ → ℕ → Result ℕ
 told number at = if eqb number 0 then gives at else refused number at
 
-abbrev pub settings : ℕ → Bool → Settings
-settings w f = record { width = w; full = f }
+-- '`characters` off is the crate's measure'
+abbrev pub measureAsked : Bool → Measure
+measureAsked c = if c then measure.Characters else measure.Bytes
+
+abbrev pub settings : ℕ → Bool → Bool → Settings
+settings w f c = record { width = w; full = f; measure = measureAsked c }
 
 -- A style's number from 1 to 5, or a block's index from 0 to 11; any other is refused as 3 with place 0, before anything else.
 abbrev pub inStyle : ℕ → (Style → Result (List ℕ)) → Result (List ℕ)

@@ -14,8 +14,9 @@ ghost use Rattle.next_chunk.specs.NextChunk.{nextChunk};
 ghost use Rattle.html_rules.specs.Html.{html};
 ghost use Rattle.html_rules.specs.Markdown.{markdown};
 ghost use Rattle.manpage.specs.Roff.{roff};
-ghost use Rattle.sefgrunn.specs.Numbers.{numberOf, placeOf, lengthOrPlace, lengthAfter, told, settings, writesIn, opensIn, closesIn};
+ghost use Rattle.sefgrunn.specs.Numbers.{numberOf, placeOf, lengthOrPlace, lengthAfter, told, measureAsked, settings, writesIn, opensIn, closesIn};
 use buffer::Built;
+use console_rules::Measure;
 use console_rules::Settings;
 use document::Checked;
 use records::Kind;
@@ -75,21 +76,40 @@ fn told(answer: Rendered, at: &mut usize) -> u32
     }
 }
 
-// `Doc::render_console` with `Color::Monochrome`.
+fn measure_asked(characters: bool) -> Measure
+    ensures { λ r. ⌜ r ≡ measureAsked characters ⌝ }
+{
+    if characters {
+        return Measure::Characters;
+    }
+    Measure::Bytes
+}
+
+// `Doc::render_console` with `Color::Monochrome`; by characters, the measure that 02 adds.
 #[no_mangle]
 pub extern "C" fn sefgrunn_console(
     document: &[u8],
     width: usize,
     full: bool,
+    characters: bool,
     room: &mut [u8],
     at: &mut usize,
 ) -> u32
-    ensures number { λ r. ⌜ r ≡ numberOf (console (settings width full) (length (now (room .entry))) (now (document .entry))) ⌝ }
-    ensures at { λ _. ⌜ now (at .exit) ≡ lengthOrPlace (measured (console (settings width full) (length (now (room .entry))) (now (document .entry)))) ⌝ }
-    ensures room { λ _. ⌜ now (room .exit) ≡ filled (length (now (room .entry))) (console (settings width full) (length (now (room .entry))) (now (document .entry))) ⌝ }
-    ensures demand3 { λ r. ⌜ Demand3 (settings width full) (now (document .entry)) (now (room .entry)) (now (room .exit)) (told r (now (at .exit))) ⌝ }
+    ensures number { λ r. ⌜ r ≡ numberOf (console (settings width full characters) (length (now (room .entry))) (now (document .entry))) ⌝ }
+    ensures at { λ _. ⌜ now (at .exit) ≡ lengthOrPlace (measured (console (settings width full characters) (length (now (room .entry))) (now (document .entry)))) ⌝ }
+    ensures room { λ _. ⌜ now (room .exit) ≡ filled (length (now (room .entry))) (console (settings width full characters) (length (now (room .entry))) (now (document .entry))) ⌝ }
+    ensures demand3 { λ r. ⌜ Demand3 (settings width full characters) (now (document .entry)) (now (room .entry)) (now (room .exit)) (told r (now (at .exit))) ⌝ }
 {
-    let answer = console::render_console(document, Settings { width, full }, room);
+    let measure = measure_asked(characters);
+    let answer = console::render_console(
+        document,
+        Settings {
+            width,
+            full,
+            measure,
+        },
+        room,
+    );
     told(answer, at)
 }
 

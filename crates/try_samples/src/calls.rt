@@ -4,6 +4,7 @@ use crate::counted;
 use crate::lines;
 use crate::lines::byte_at;
 use crate::lines::part;
+use console_rules::Measure;
 use console_rules::Settings;
 use document::Checked;
 use renderer::Rendered;
@@ -28,7 +29,15 @@ fn check_in(document: &[u8], room: &mut [u8]) -> Rendered {
 }
 
 fn console_in(document: &[u8], width: usize, full: bool, room: &mut [u8]) -> Rendered {
-    console::render_console(document, Settings { width, full }, room)
+    console::render_console(
+        document,
+        Settings {
+            width,
+            full,
+            measure: Measure::Bytes,
+        },
+        room,
+    )
 }
 
 // The call that a letter stands for. Where it stands for none, the answer is a text longer than any that can be wanted.

@@ -21,7 +21,7 @@ use Rattle.splitter.specs.Answers.{placedFrom, cursor}
 use Rattle.splitter.specs.declared.Code.the-variants as code
 use Rattle.splitter.specs.declared.Piece.the-variants.{Raw, Space}
 use Rattle.splitter.specs.declared.Step.the-variants.{Take}
-use Rattle.splitter.proofs.Before.{before-stop, before-go, before-none, space-ends, line-ends, neither-ends}
+use Rattle.splitter.proofs.Before.{before-stop, before-go, before-none, before-part, space-ends, line-ends, neither-ends}
 use Rattle.splitter.proofs.Words.{Reading, reading-start, reading-stop, reading-end, reading-one, reading-none}
 use Rattle.splitter.proofs.Steps.{placed-take}
 use Rattle.splitter.proofs.Answers.{plain-word, plain-space, answers-some}
@@ -35,6 +35,11 @@ getD-after x at to h = getD-drop at x (to - at) 0 ∙ ap (λ (k : ℕ). getD x k
 -- what ends a word is not above a space
 pub above-space : (b : ℕ) → 0x20 < b → isLineEndOrSpace b ≡ false
 above-space b h = neither-ends b (λ e. omega arith) (λ e. omega arith)
+
+-- a space is one character
+one-character : characters (0x20 ∷ []) ≡ 1
+unfolding if_then_else_
+one-character = refl
 
 -- The word or the space at a place, and whether it fits
 
@@ -141,6 +146,7 @@ module _ (x : List ℕ) (at len : ℕ) (old : List ℕ) where
       fits = λ h. absurd (omega arith);
       within = λ h. absurd (omega arith);
       narrow = λ h. absurd (omega arith);
+      counts = λ h. absurd (omega arith);
       next = λ h. absurd (omega arith);
     }
 
@@ -158,6 +164,7 @@ module _ (x : List ℕ) (at len : ℕ) (old : List ℕ) where
       fits = λ h. c .fits;
       within = λ h. c .within;
       narrow = λ h. c .narrow;
+      counts = λ h. ap characters (before-part isLineEndOrSpace x at to (λ i. e i .to)) ∙ sym (λ i. e i .width);
       next = λ h. word-next h;
     }
       where
@@ -215,6 +222,7 @@ module _ (x : List ℕ) (at len : ℕ) (old : List ℕ) where
         fits = λ _. omega arith;
         within = λ _. omega arith;
         narrow = λ _. omega arith;
+        counts = λ _. rw (z, one) one-character;
         next = λ _. rw (z, one)
             (placed-take x (cursor at code.No) (Space at) (cursor (at + 1) code.No)
             (answers-some x (cursor at code.No) code.No (Take (Space at) (cursor (at + 1) code.No)) h refl
@@ -231,5 +239,6 @@ module _ (x : List ℕ) (at len : ℕ) (old : List ℕ) where
     fits = λ h. absurd (omega arith);
     within = λ h. absurd (omega arith);
     narrow = λ h. absurd (omega arith);
+    counts = λ h. absurd (omega arith);
     next = λ h. absurd (omega arith);
   }

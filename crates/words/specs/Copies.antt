@@ -33,5 +33,6 @@ pub record Copies (x : List ℕ) (at len : ℕ) (old new : List ℕ) (w : Word) 
   pub fits : at < w .to → len + (w .to - at) ≤ length old
   pub within : at < w .to → w .to ≤ length x
   pub narrow : at < w .to → w .width ≤ w .to - at
+  pub counts : at < w .to → characters (part x at (w .to)) ≡ w .width
   pub next : at < w .to
       → placedFrom x (cursor at code.No) ≡ record { place = at; chunk = raw (part x at (w .to)) (w .width) } ∷ placedFrom x (cursor (w .to) code.No)

@@ -32,8 +32,9 @@ same-length c = c .before .before .before .records .inv .size
 
 returns : tie.Need-returns Inv-chunks μ-chunks Inv-records μ-records
 returns c =
+    let a = c .before .before .before .before .before .before .before .args in
     let s = c .before .before .before .records in
-    stands-refused _ _ _ _ (s .room) refusal.NoRoom (stand-over _ _ _ _ (s .room) (s .margins) (s .count) (s .m) (s .at) (s .inv) (c .if1 .taken))
+    stands-refused (now (a .document)) (a .set) (a .tab .0) (length (now (a .room))) (s .room) refusal.NoRoom (stand-over _ _ _ _ (s .room) (s .margins) (s .count) (s .m) (s .at) (s .inv) (c .if1 .taken))
 
 records-less : tie.Need-records-less Inv-chunks μ-chunks Inv-records μ-records
 records-less c =
@@ -135,12 +136,13 @@ same-length-2 c = c .before .before .before .before .before .put-piece .kept .0 
 
 returns-2 : tie.Need-returns-2 Inv-chunks μ-chunks Inv-records μ-records
 returns-2 c =
+    let a = c .before .before .before .before .before .before .before .before .before .before .before .before .before .before .before .before .before .before .before .before .before .before .before .before .before .before .before .before .before .before .before .before .before .args in
     let s = c .before .before .before .before .before .before .before .before .before .before .before .before .before .before .before .before .before .before .before .before .before .before .before .before .before .before .before .before .before .records in
     let v = c .before .before .before .before .before .before .before .before .before .before .before .before .before .before .before .before .chunks in
     let u = c .before .before .before .before .before .before .before .before .before .before .before .before .before .before .put-words in
     let i = write-words _ _ _ _ _ _ _ _ _ (v .room) (v .m) (cursor (v .from) (v .code)) (v .inv) (u .last .0) (u .result .mark) (u .result .at) (u .kept .0) (u .ensures) in
     let g = c .before .before .before .before .before .put-piece in
-    stands-refused _ _ _ _ (g .last .0) (refusal.BeyondMargin _)
+    stands-refused (now (a .document)) (a .set) (a .tab .0) (length (now (a .room))) (g .last .0) (refusal.BeyondMargin _)
     (body-deep _ _ _ _ (s .room) (s .margins) (s .count) (s .m) (s .at) (s .inv) (c .before .before .before .before .before .before .before .before .before .before .before .before .before .before .before .before .before .before .before .before .before .before .before .before .before .record-at .result) (c .before .before .before .before .before .before .before .before .before .before .before .before .before .before .before .before .before .before .before .before .before .before .before .before .before .record-at .ensures) (c .before .before .before .before .before .before .before .before .before .before .before .before .before .before .before .before .before .before .before .before .before .before .before .before .before .before .before .before .records-test .taken) (c .before .before .before .before .before .before .before .before .before .before .before .before .before .before .before .before .before .before .before .before .before .before .before .before .before .before .before .before .before .before .before .before .before .pre .0) _ (c .before .before .before .before .before .before .before .before .before .before .before .before .before .before .before .before .before .before .before .before .before .before .before .enum-told2 .given .1) (c .before .before .before .before .before .before .before .before .before .before .before .before .before .before .before .before .before .before .top-margin .result .0) (c .before .before .before .before .before .before .before .before .before .before .before .before .before .before .before .before .before .before .top-margin .ensures) (u .last .0) (u .result .mark) (cursor (u .result .at) (v .code)) i _ _
     (took _ (cursor (u .result .at) (v .code)) (c .before .before .before .before .before .before .before .before .before .before .step-at .result) _ _ (c .before .before .before .before .before .before .before .before .piece .given .1) (c .before .before .before .before .before .before .before .before .before .before .step-at .ensures)) _ (placed-deep (g .last .0) (take (s .count) (s .margins)) (g .result) _ _ (c .before .placed .given .1) (g .ensures .0 (take (s .count) (s .margins)))))
 
@@ -185,8 +187,9 @@ same-length-3 c = c .before .before .finish .kept .0 ∙ c .before .before .befo
 
 returns-3 : tie.Need-returns-3 Inv-chunks μ-chunks Inv-records μ-records
 returns-3 c =
+    let a = c .before .before .before .before .before .before .before .before .before .args in
     let s = c .before .before .before .before .before .records in
-    stands-done _ _ _ _ (s .room) (c .before .before .finish .last .0) (s .margins) (s .count) (s .m) (s .at) (c .before .before .finish .result) (s .inv) (c .before .before .before .before .records-test .left) (c .before .before .finish .ensures (take (s .count) (s .margins)))
+    stands-done (now (a .document)) (a .set) (a .tab .0) (length (now (a .room))) (s .room) (c .before .before .finish .last .0) (s .margins) (s .count) (s .m) (s .at) (c .before .before .finish .result) (s .inv) (c .before .before .before .before .records-test .left) (c .before .before .finish .ensures (take (s .count) (s .margins)))
 
 pub walk-spec : {M : Type 1} → statement M
 walk-spec =

@@ -5,24 +5,28 @@ use lib.ListN.{length}
 use Rattle.sefgrunn.proofs.sefgrunn_console.Statement.{statement}
 use Rattle.sefgrunn.proofs.sefgrunn_console.Tie as tie
 use Rattle.console_rules.specs.Console.{console}
-use Rattle.sefgrunn.specs.Numbers.{settings}
+use Rattle.console_rules.specs.declared.Settings.{Settings}
 use Rattle.sefgrunn.proofs.Numbers.{rendered-number, told-gives}
 use Rattle.console.proofs.Order.{demand3}
 
 returns : tie.Need-returns
 returns c =
-    let a = c .before .before .before .before .before .before .before .before .args in
+    let m = c .before .before .before .before .before .before .measure-asked in
+    let a = c .before .before .before .before .before .before .before .before .before .args in
     let r = c .before .before .before .before .render-console in
-    let x = console (settings (a .width) (a .full)) (length (now (a .room))) (now (a .document)) in
+    let set : Settings = record { width = a .width; full = a .full; measure = m .result } in
+    let x = console set (length (now (a .room))) (now (a .document)) in
     let n = rendered-number (r .result) x (r .ensures .0) in
     let number = c .told .ensures .0 ∙ n .0 in
     let at = c .told .ensures .1 ∙ n .1 in
-    (number, (at, (r .ensures .1 .0, demand3 (settings (a .width) (a .full)) (now (a .document)) (now (a .room)) _ _ (λ text e. told-gives x _ _ text number at e) (r .ensures .1 .0))))
+    rw (← m .ensures)
+    (number, (at, (r .ensures .1 .0, demand3 set (now (a .document)) (now (a .room)) _ _ (λ text e. told-gives x _ _ text number at e) (r .ensures .1 .0))))
 
 pub sefgrunn-console-spec : {M : Type 1} → statement M
 sefgrunn-console-spec =
     tie.close
     (tie.spec
+    (λ c κs. search needs)
     (λ c κs. search needs)
     (λ c κs. search needs)
     (λ c. search needs)
