@@ -59,6 +59,15 @@ terms (x ∷ ts) t = terms ts (term (x .kind) (x .body) t)
 unfoldable pub tabstop : List Token → ℕ
 tabstop ts = (terms ts (record { widest = 0; counting = false; counted = 0 })) .widest + 4
 
+-- 02, point 4: 'the start of that record', the first 'ItemTerm end whose count is 24', 'or the document's length when there is none': of some
+-- records, of which n is the length, after so much was counted
+unfoldable pub settledFrom : ℕ → List Token → Terms → ℕ
+settledFrom n [] t = n
+settledFrom n (x ∷ ts) t = if isEnd 4 (x .kind) && eqb (t .counted) 24 then x .place else settledFrom n ts (term (x .kind) (x .body) t)
+
+unfoldable pub settledAt : ℕ → List Token → ℕ
+settledAt n ts = settledFrom n ts (record { widest = 0; counting = false; counted = 0 })
+
 -- The adjacent gap.
 
 -- a Block start and a Block end come first

@@ -1,10 +1,11 @@
 // What the console looks up in the records before and beside its walk (src/buffer/console.rs): the tabstop, and the adjacent gap.
 ghost use mathlib.Core.Path.{_≡_};
-ghost use mathlib.Core.Bool.{false};
+ghost use mathlib.Core.Bool.{false, _&&_};
 ghost use Prim.Native.Nat.{_+_, _-_, _≤_, _<_, _^_};
+ghost use lib.Dec.{eqb};
 ghost use lib.ListN.{length};
-ghost use Rattle.records.specs.Records.{tokens, tokensFrom};
-ghost use Rattle.console_rules.specs.Console.{termStart, termEnd, term, tabstop, emptyBlock, gapAhead};
+ghost use Rattle.records.specs.Records.{tokens, tokensFrom, isEnd};
+ghost use Rattle.console_rules.specs.Console.{termStart, termEnd, term, tabstop, settledAt, emptyBlock, gapAhead};
 ghost use Rattle.console_tabstop.specs.Counted.{termsOf};
 use console_rules::Columns;
 use records::Block;
@@ -105,9 +106,26 @@ fn term_on(t: Terms, k: Kind, body: &[u8]) -> Terms
     }
 }
 
-// The tabstop of a document.
-pub fn tabstop_of(document: &[u8]) -> Columns
-    ensures { λ r. ⌜ (r .0 ≡ tabstop (tokens 0 0 (now (document .entry)))) × (r .0 ≤ 28) ⌝ }
+// Whether a record is an ItemTerm's end whose count is 24: no term can be wider and count.
+fn settles(t: Terms, k: Kind) -> bool
+    ensures { λ r. ⌜ r ≡ (isEnd 4 k && eqb (t .counted) 24) ⌝ }
+{
+    if records::is_end(k, 4) {
+        return t.counted == 24;
+    }
+    false
+}
+
+// The tabstop, and the start of the record that settled it, or the document's length.
+pub struct Tabstop {
+    pub columns: Columns,
+    pub at: usize,
+}
+
+// The search for the tabstop of a document, up to the first ItemTerm end whose count is 24.
+pub fn find_tabstop(document: &[u8]) -> Tabstop
+    ensures tabstop { λ r. ⌜ (r .columns .0 ≡ tabstop (tokens 0 0 (now (document .entry)))) × (r .columns .0 ≤ 28) ⌝ }
+    ensures place { λ r. ⌜ r .at ≡ settledAt (length (now (document .entry))) (tokens 0 0 (now (document .entry))) ⌝ }
 {
     let mut t = Terms {
         widest: 0,
@@ -117,13 +135,31 @@ pub fn tabstop_of(document: &[u8]) -> Columns
     let mut at: usize = 0;
     while at < document.len() {
         let h = records::record_at(document, at);
+        let place = at;
         let start = h.start;
         let stop = h.stop;
         let next = h.next;
         let k = h.kind;
+        if settles(t, k) {
+            return Tabstop {
+                columns: Columns(28),
+                at: place,
+            };
+        }
         t = term_on(t, k, &document[start..stop]);
         at = next;
     }
     let tab = t.widest + 4;
-    Columns(tab)
+    Tabstop {
+        columns: Columns(tab),
+        at: document.len(),
+    }
+}
+
+// The tabstop of a document.
+pub fn tabstop_of(document: &[u8]) -> Columns
+    ensures { λ r. ⌜ (r .0 ≡ tabstop (tokens 0 0 (now (document .entry)))) × (r .0 ≤ 28) ⌝ }
+{
+    let found = find_tabstop(document);
+    found.columns
 }
