@@ -1,18 +1,17 @@
 -- The records ahead, and the count of the tabstop. Assumes nothing.
-use mathlib.Core.Path.{_≡_, refl, sym, ap, _∙_}
-use mathlib.Core.Bool.{true, false, _&&_, false≢true}
-use mathlib.Core.Logic.{⊎-elim}
-use mathlib.Core.List.{List, [], _∷_}
+use mathlib.Core.Path.{_≡_, sym, ap, _∙_}
+use mathlib.Core.Bool.{true, false, _&&_}
+use mathlib.Core.List.{List, _∷_}
 use Prim.Native.Nat.{ℕ, _+_, _≤_, _<_}
 use native.Mathlib.Omega.{arith}
 use lib.Dec.{leb, ltb, eqb}
 use lib.ListN.{length}
-use borrow.Author.Tests.{leb-true, ltb-true, ltb-false, eqb-true, eq-eqb, ne-eqb, lt-ltb, le-ltb, le-leb, lt-leb}
+use borrow.Author.Tests.{leb-true, eq-eqb, ne-eqb, lt-ltb, le-ltb, le-leb, lt-leb}
 use Rattle.base.specs.Bytes.{part}
 use Rattle.base.specs.Choice.{if_then_else_}
-use Rattle.base.proofs.Choice.{pick, if-true, if-false, and-left, and-right, le-or-lt}
+use Rattle.base.proofs.Choice.{pick, if-true, if-false, and-right}
 use Rattle.utf8.specs.Utf8.{characters}
-use Rattle.records.specs.Records.{Token, index, tokensFrom, isStart, isEnd}
+use Rattle.records.specs.Records.{index, tokensFrom, isStart, isEnd}
 use Rattle.records.specs.Answers.{Read, tokenOf}
 use Rattle.records.specs.declared.Head.{Head}
 use Rattle.records.specs.declared.Style.{Style}
@@ -21,7 +20,7 @@ use Rattle.records.specs.declared.Kind.{Kind}
 use Rattle.records.specs.declared.Kind.the-variants as kind
 use Rattle.records.proofs.Tokens.{tokens-end}
 use Rattle.splitter.proofs.Answers.{count-short}
-use Rattle.console_rules.specs.Console.{Terms, termStart, termEnd, term, terms, settledFrom, emptyBlock, gapAhead}
+use Rattle.console_rules.specs.Console.{Terms, termStart, termEnd, term, terms, settles, settledFrom, emptyBlock, gapAhead}
 
 -- A record that was read comes first
 
@@ -46,11 +45,11 @@ module _ (s : List ℕ) (at : ℕ) (h : Head) (r : Read s at h) (inside : at < l
   terms-next t = sym (ap (λ ts. terms ts t) listed)
 
   -- the first record that settles the tabstop is this one, or it comes later
-  pub settled-here : (n : ℕ) (t : Terms) → isEnd 4 (h .kind) && eqb (t .counted) 24 ≡ true → settledFrom n (tokensFrom s at) t ≡ at
+  pub settled-here : (n : ℕ) (t : Terms) → settles (h .kind) t ≡ true → settledFrom n (tokensFrom s at) t ≡ at
   unfolding settledFrom
   settled-here n t e = ap (λ ts. settledFrom n ts t) listed ∙ if-true _ _ e
 
-  pub settled-later : (n : ℕ) (t : Terms) → isEnd 4 (h .kind) && eqb (t .counted) 24 ≡ false
+  pub settled-later : (n : ℕ) (t : Terms) → settles (h .kind) t ≡ false
       → settledFrom n (tokensFrom s at) t ≡ settledFrom n (tokensFrom s (h .next)) (term (h .kind) (part s (h .start) (h .stop)) t)
   unfolding settledFrom
   settled-later n t e = ap (λ ts. settledFrom n ts t) listed ∙ if-false _ _ e
@@ -138,44 +137,3 @@ term-bounds (kind.Text st) x t h = (h, pick (λ (c : ℕ). c ≤ t .counted + le
 term-bounds (kind.Start b) x t h = let u = start-bounds b t in (omega (arith, u .0), omega (arith, u .1))
 term-bounds (kind.End b) x t h = let u = end-bounds b t h in (u .0, omega (arith, u .1))
 term-bounds kind.Unknown x t h = (h, omega arith)
-
--- A term of 24 characters settles the tabstop: none that counts is wider.
-
-end-24 : (b : Block) (t : Terms) → t .widest ≡ 24 → (termEnd b t) .widest ≡ 24
-unfolding termEnd
-end-24 b t h = pick (λ (u : Terms). u .widest ≡ 24) (eqb (index b) 4) (λ e. sym (not-wider-than (t .widest) (t .counted) h)) (λ e. h)
-  where
-    not-wider-than : (w c : ℕ) → w ≡ 24 → 24 ≡ if ltb w c && leb c 24 then c else w
-    not-wider-than w c k = pick (λ (v : ℕ). 24 ≡ v) (ltb w c && leb c 24) (λ e. omega (arith, k, ltb-true w c (and-left (ltb w c) _ e), leb-true c 24 (and-right (ltb w c) _ e))) (λ e. sym k)
-
-start-24 : (b : Block) (t : Terms) → t .widest ≡ 24 → (termStart b t) .widest ≡ 24
-unfolding termStart
-start-24 b t h = pick (λ (u : Terms). u .widest ≡ 24) (eqb (index b) 4) (λ e. h) (λ e. h)
-
-term-24 : (k : Kind) (x : List ℕ) (t : Terms) → t .widest ≡ 24 → (term k x t) .widest ≡ 24
-unfolding term
-term-24 (kind.Text st) x t h = h
-term-24 (kind.Start b) x t h = start-24 b t h
-term-24 (kind.End b) x t h = end-24 b t h
-term-24 kind.Unknown x t h = h
-
-pub terms-24 : (ts : List Token) (t : Terms) → t .widest ≡ 24 → (terms ts t) .widest ≡ 24
-unfolding terms
-terms-24 [] t h = h
-terms-24 (x ∷ ts) t h = terms-24 ts (term (x .kind) (x .body) t) (term-24 (x .kind) (x .body) t h)
-
--- the count of 24 is the widest where none of 24 was met before, and stands there already where one was
-counted-24 : (w c : ℕ) → c ≡ 24 → w ≤ 24 → (if ltb w c && leb c 24 then c else w) ≡ 24
-counted-24 w c k h =
-    ⊎-elim (λ l. sym (not-wider w c (omega (arith, l, k))) ∙ (omega (arith, l, h))) (λ l. sym (wider w c (omega (arith, l, k)) (omega (arith, k))) ∙ k) (le-or-lt 24 w)
-
-end-settles : (b : Block) (t : Terms) → eqb (index b) 4 ≡ true → t .counted ≡ 24 → t .widest ≤ 24 → (termEnd b t) .widest ≡ 24
-unfolding termEnd
-end-settles b t e k h = ap (λ (u : Terms). u .widest) (if-true _ t e) ∙ counted-24 (t .widest) (t .counted) k h
-
-pub settles-24 : (k : Kind) (x : List ℕ) (t : Terms) → isEnd 4 k ≡ true → t .counted ≡ 24 → t .widest ≤ 24 → (term k x t) .widest ≡ 24
-unfolding term
-settles-24 (kind.Text st) x t e = absurd (false≢true e)
-settles-24 (kind.Start b) x t e = absurd (false≢true e)
-settles-24 (kind.End b) x t e = end-settles b t e
-settles-24 kind.Unknown x t e = absurd (false≢true e)

@@ -1,15 +1,17 @@
 // What the console looks up in the records before and beside its walk (src/buffer/console.rs): the tabstop, and the adjacent gap.
 ghost use mathlib.Core.Path.{_≡_};
-ghost use mathlib.Core.Bool.{false, _&&_};
+ghost use mathlib.Core.Bool.{false};
 ghost use Prim.Native.Nat.{_+_, _-_, _≤_, _<_, _^_};
-ghost use lib.Dec.{eqb};
 ghost use lib.ListN.{length};
-ghost use Rattle.records.specs.Records.{tokens, tokensFrom, isEnd};
-ghost use Rattle.console_rules.specs.Console.{termStart, termEnd, term, tabstop, settledAt, emptyBlock, gapAhead};
+ghost use Rattle.records.specs.Records.{tokens, tokensFrom};
+ghost use Rattle.console_rules.specs.Console.{termStart, termEnd, term, settles, tabstop, settledAt, tabstopIn, settledIn, emptyBlock, gapAhead};
+ghost use Rattle.console_tabstop.specs.Answers.{tabstopOf, settledOf};
 ghost use Rattle.console_tabstop.specs.Counted.{termsOf};
 use console_rules::Columns;
+use document::Checked;
 use records::Block;
 use records::Kind;
+use refusal::Refusal;
 
 // Whether the start and the end of a Block come first.
 fn empty_block(document: &[u8], at: usize) -> bool
@@ -106,9 +108,9 @@ fn term_on(t: Terms, k: Kind, body: &[u8]) -> Terms
     }
 }
 
-// Whether a record is an ItemTerm's end whose count is 24: no term can be wider and count.
+// Whether a record is an ItemTerm's end whose count is 24: no term that counts is wider.
 fn settles(t: Terms, k: Kind) -> bool
-    ensures { λ r. ⌜ r ≡ (isEnd 4 k && eqb (t .counted) 24) ⌝ }
+    ensures { λ r. ⌜ r ≡ settles k (termsOf t) ⌝ }
 {
     if records::is_end(k, 4) {
         return t.counted == 24;
@@ -116,16 +118,16 @@ fn settles(t: Terms, k: Kind) -> bool
     false
 }
 
-// The tabstop, and the start of the record that settled it, or the document's length.
+// The tabstop, and the start of the record that settles it, or the document's length.
 pub struct Tabstop {
     pub columns: Columns,
     pub at: usize,
 }
 
-// The search for the tabstop of a document, up to the first ItemTerm end whose count is 24.
-pub fn find_tabstop(document: &[u8]) -> Tabstop
+// The search for the tabstop, which stops at the record that settles it.
+fn find_tabstop(document: &[u8]) -> Tabstop
     ensures tabstop { λ r. ⌜ (r .columns .0 ≡ tabstop (tokens 0 0 (now (document .entry)))) × (r .columns .0 ≤ 28) ⌝ }
-    ensures place { λ r. ⌜ r .at ≡ settledAt (length (now (document .entry))) (tokens 0 0 (now (document .entry))) ⌝ }
+    ensures settled { λ r. ⌜ r .at ≡ settledAt (length (now (document .entry))) (tokens 0 0 (now (document .entry))) ⌝ }
 {
     let mut t = Terms {
         widest: 0,
@@ -135,7 +137,6 @@ pub fn find_tabstop(document: &[u8]) -> Tabstop
     let mut at: usize = 0;
     while at < document.len() {
         let h = records::record_at(document, at);
-        let place = at;
         let start = h.start;
         let stop = h.stop;
         let next = h.next;
@@ -143,7 +144,7 @@ pub fn find_tabstop(document: &[u8]) -> Tabstop
         if settles(t, k) {
             return Tabstop {
                 columns: Columns(28),
-                at: place,
+                at,
             };
         }
         t = term_on(t, k, &document[start..stop]);
@@ -162,4 +163,25 @@ pub fn tabstop_of(document: &[u8]) -> Columns
 {
     let found = find_tabstop(document);
     found.columns
+}
+
+// What the search answers in any bytes: what it finds in an accepted document, or the refusal.
+pub enum Searched {
+    Found(Tabstop),
+    Refused(Refusal),
+}
+
+// Refusals 1 to 8, then the search.
+pub fn search_tabstop(document: &[u8]) -> Searched
+    ensures tabstop { λ r. ⌜ tabstopOf r ≡ tabstopIn (now (document .entry)) ⌝ }
+    ensures settled { λ r. ⌜ settledOf r ≡ settledIn (now (document .entry)) ⌝ }
+{
+    let verdict = document::check(document);
+    match verdict {
+        Checked::Refused(a) => Searched::Refused(a),
+        Checked::Accepted => {
+            let found = find_tabstop(document);
+            Searched::Found(found)
+        }
+    }
 }

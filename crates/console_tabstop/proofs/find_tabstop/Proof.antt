@@ -1,22 +1,20 @@
 -- From the place reached the count so far gives what all records give from nothing, and so does the search for the first term that settles it;
 -- no term so far is wider than 24, and no more was counted than bytes were passed. What is left of the document falls.
 use mathlib.Core.Path.{_≡_, refl, sym, ap, _∙_}
-use mathlib.Core.Bool.{false, _&&_}
+use mathlib.Core.Bool.{false}
 use Prim.Native.Nat.{_+_, _-_, _≤_}
 use native.Mathlib.Omega.{arith}
 use borrow.Author.Needs.{needs}
-use borrow.Author.Tests.{eqb-true}
 use denote.Ref.{now}
-use lib.Dec.{eqb}
 use lib.ListN.{length, drop, length-take}
 use Rattle.console_tabstop.proofs.find_tabstop.Statement.{statement}
 use Rattle.console_tabstop.proofs.find_tabstop.Tie as tie
 use Rattle.base.specs.Bytes.{part}
-use Rattle.base.proofs.Choice.{and-left, and-right}
-use Rattle.records.specs.Records.{tokens, tokensFrom, isEnd}
+use Rattle.records.specs.Records.{tokens, tokensFrom}
 use Rattle.console_rules.specs.Console.{Terms, term, terms, tabstop, settledFrom, settledAt}
 use Rattle.console_tabstop.specs.Counted.{termsOf}
-use Rattle.console_tabstop.proofs.Scans.{terms-next, terms-none, term-bounds, settled-here, settled-later, settled-none, terms-24, settles-24}
+use Rattle.console_tabstop.proofs.Scans.{terms-next, terms-none, term-bounds, settled-here, settled-later, settled-none}
+use Rattle.console_tabstop.proofs.Settled.{terms-24, settling-24}
 
 abbrev none : Terms
 none = record { widest = 0; counting = false; counted = 0 }
@@ -42,17 +40,14 @@ returns c =
     let l = c .before .before .before .before .loop in
     let s = now (c .before .before .before .before .before .before .args .document) in
     let inside = c .before .before .before .loop-test .taken in
-    let e = sym (c .before .settles .ensures) ∙ c .if1 .taken in
-    let here = and-left (isEnd 4 (r .result .kind)) _ e in
-    let count = eqb-true (l .t .counted) 24 (and-right (isEnd 4 (r .result .kind)) _ e) in
+    let t = termsOf (l .t) in
     let body = part s (r .result .start) (r .result .stop) in
-    let widest = terms-24 (tokensFrom s (r .result .next)) (term (r .result .kind) body (termsOf (l .t)))
-    (settles-24 (r .result .kind) body (termsOf (l .t)) here count (l .inv .1)) in (
-      (
-        ap (λ (n : _). n + 4) (sym widest) ∙ ap (λ (u : Terms). u .widest + 4) (terms-next s (l .at) (r .result) (r .ensures) inside (termsOf (l .t)) ∙ l .inv .0),
-        omega arith,
-      ),
-      sym (settled-here s (l .at) (r .result) (r .ensures) inside (length s) (termsOf (l .t)) e) ∙ l .inv .4,
+    let here = sym (c .before .settles .ensures) ∙ c .if1 .taken in
+    let after = settling-24 (r .result .kind) body t here (l .inv .1) in
+    let widest = sym (terms-24 (tokensFrom s (r .result .next)) (term (r .result .kind) body t) after) in
+    let whole = terms-next s (l .at) (r .result) (r .ensures) inside t ∙ l .inv .0 in (
+      (ap (λ n. n + 4) widest ∙ ap (λ (u : Terms). u .widest + 4) whole, omega arith),
+      sym (settled-here s (l .at) (r .result) (r .ensures) inside (length s) t here) ∙ l .inv .4,
     )
 
 sub-term-on : tie.Need-sub-term-on Inv-loop μ-loop
