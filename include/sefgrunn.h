@@ -89,12 +89,6 @@ uint32_t sefgrunn_check(const uint8_t *document, size_t n, size_t *place);
 uint32_t sefgrunn_console(const uint8_t *document, size_t n, size_t width, bool full, bool characters, uint8_t *room, size_t room_len,
     size_t *at);
 
-/* The tabstop, on which console text lays out the bodies of a list: the characters of the widest ItemTerm that has at most 24 (0 where
- * there is none), plus 4. A term's start sets the count back to 0, its end stops it; a nested term's does so too. Reads n bytes at
- * document. Writes *tabstop, and *at: the start of the first ItemTerm end whose count is 24, after which no term changes the tabstop, or n
- * where there is none. After a refusal *tabstop is 0 and *at the place. Refusals 1 to 8. */
-uint32_t sefgrunn_tabstop(const uint8_t *document, size_t n, size_t *tabstop, size_t *at);
-
 /* What sefgrunn_next_chunk found. */
 enum sefgrunn_chunk {
     SEFGRUNN_CHUNK_NONE = 0,       /* no further chunk */
