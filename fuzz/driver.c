@@ -139,9 +139,9 @@ static struct fenced documents, rooms, places, lengths, more[3];
 
 /* ---- what was reached -------------------------------------------------------------------------------------------------------- */
 
-enum function { CHECK, CONSOLE, HTML, HTML_STRICT, MARKDOWN, ROFF, WRITE, OPEN, CLOSE, DOC, EM_DOC, NEXT_CHUNK, FUNCTIONS };
+enum function { CHECK, CONSOLE, HTML, HTML_STRICT, MARKDOWN, ROFF, WRITE, OPEN, CLOSE, DOC, EM_DOC, NEXT_CHUNK, TABSTOP, FUNCTIONS };
 static const char *const names[FUNCTIONS] = {"check", "console", "html", "html_strict", "markdown", "roff", "write", "open", "close",
-    "doc", "em_doc", "next_chunk"};
+    "doc", "em_doc", "next_chunk", "tabstop"};
 static unsigned long calls[FUNCTIONS], accepts[FUNCTIONS], numbers[14], inputs;
 
 enum { MOST_BLOCKS = 8192, OUTCOMES = 4096 };
@@ -249,6 +249,26 @@ static struct answer run_check(const uint8_t *document, size_t n)
     }
     must(answers[0].number == answers[1].number && answers[0].at == answers[1].at, "check: two answers");
     return answers[0];
+}
+
+static void run_tabstop(const uint8_t *document, size_t n, struct answer checked)
+{
+    struct { size_t tabstop, at; } got[2];
+    for (int p = ENDS_AT_FENCE; p <= STARTS_AT_FENCE; p++) {
+        const uint8_t *lent = lend(&documents, document, n, p);
+        size_t *tabstop = lend_number(&lengths, UNWRITTEN, p), *at = lend_number(&places, UNWRITTEN, p);
+        uint32_t number = sefgrunn_tabstop(lent, n, tabstop, at);
+        got[p].tabstop = *tabstop, got[p].at = *at;
+        outcome(TABSTOP, number, *at);
+        must(number == checked.number, "tabstop: not the check's number");
+        if (number != 0) {
+            must(*tabstop == 0 && *at == checked.at, "tabstop: after a refusal");
+        } else {
+            must(*tabstop >= 4 && *tabstop <= 28 && (*tabstop == 28) == (*at < n), "tabstop: what settles it");
+            must(*at == n || (n - *at >= 6 && memcmp(document + *at, "\0\0\0\0\4\2", 6) == 0), "tabstop: not at the end of a term");
+        }
+    }
+    must(got[0].tabstop == got[1].tabstop && got[0].at == got[1].at, "tabstop: two answers");
 }
 
 struct settings {
@@ -599,6 +619,7 @@ int LLVMFuzzerTestOneInput(const uint8_t *data, size_t n)
     uint64_t state = state_of(data, n);
     struct answer checked = run_check(data, n);
     inputs++;
+    run_tabstop(data, n, checked);
     for (enum function f = CONSOLE; f <= ROFF; f++) {
         struct settings s = {f, width(&state), below(&state, 3) != 0, below(&state, 4) == 0, below(&state, 2) == 0};
         try_render(s, data, n, checked, room_size(&state, n));

@@ -111,6 +111,12 @@ enum sefgrunn_chunk {
  * are 0. */
 uint32_t sefgrunn_next_chunk(const uint8_t *body, size_t n, size_t *at, uint32_t *ticks, size_t *start, size_t *length, size_t *width);
 
+/* The tabstop, on which console text lays out the bodies of a list: the characters of the widest ItemTerm that has at most 24 (0 where
+ * there is none), plus 4. A term's start sets the count back to 0, its end stops it; a nested term's does so too. Reads n bytes at
+ * document. Writes *tabstop, and *at: the start of the first ItemTerm end whose count is 24, after which no term changes the tabstop, or n
+ * where there is none. After a refusal *tabstop is 0 and *at the place. Refusals 1 to 8. */
+uint32_t sefgrunn_tabstop(const uint8_t *document, size_t n, size_t *tabstop, size_t *at);
+
 /* HTML, with or without the style sheet. As sefgrunn_console; refusals 1 to 8, 11 and 13. */
 uint32_t sefgrunn_html(const uint8_t *document, size_t n, bool full, bool css, uint8_t *room, size_t room_len, size_t *at);
 

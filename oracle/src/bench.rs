@@ -153,6 +153,28 @@ fn characters_times(document: &[u8]) -> Option<Times> {
     })
 }
 
+/// The search for the tabstop, which begins with the check; the port's check stands in for the Rust,
+/// which has no such function. `None` where the document is refused.
+fn tabstop_times(document: &[u8]) -> Option<Times> {
+    let run = |call| port(call, document, &mut []) == 0;
+    (run(Call::Check) && run(Call::Tabstop)).then(|| {
+        medians(
+            400,
+            || batch(BATCH, || assert!(run(Call::Tabstop))),
+            || batch(BATCH, || assert!(run(Call::Check))),
+        )
+    })
+}
+
+/// A term of 24 characters, which settles the tabstop.
+fn settling_term() -> Vec<u8> {
+    let mut term = Vec::new();
+    put_record(&mut term, 0x0104, b"");
+    put_record(&mut term, 0x0003, &[b't'; 24]);
+    put_record(&mut term, 0x0204, b"");
+    term
+}
+
 // ---------------------------------------------------------------------------------------------
 // The builder
 
@@ -246,6 +268,7 @@ fn row(what: &str, page: &str, bytes: usize, times: Option<Times>) {
 
 pub fn head() {
     println!("median ns of processor time of a call; the port checks the document and clears its room each time");
+    println!("where the Rust has no such call, what is timed in its place stands in brackets; tabstop: beside the port's check");
     println!(
         "{:<24} {:<20} {:>6} {:>9} {:>9} {:>6}",
         "call", "page", "bytes", "port", "rust", "ratio"
@@ -260,6 +283,14 @@ pub fn page(name: &str, document: &[u8]) -> Option<()> {
     let wide = render_times(CONSOLE, document, &doc, Some(65_536));
     row("console, room 65,536", name, bytes, wide);
     row("characters (rust: bytes)", name, bytes, characters_times(document));
+    let term = settling_term();
+    row("tabstop (rust: check)", name, bytes, tabstop_times(document));
+    for (what, whole) in [
+        ("tabstop, term first", [&term[..], document].concat()),
+        ("tabstop, term last", [document, &term[..]].concat()),
+    ] {
+        row(what, name, whole.len(), tabstop_times(&whole));
+    }
     for (what, renderer) in [
         ("console, room as needed", CONSOLE),
         ("html", HTML),

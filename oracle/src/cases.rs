@@ -14,6 +14,7 @@ pub enum Call {
         at: u64,
         ticks: u32,
     },
+    Tabstop,
 }
 
 /// A call with all that it reads and all that its room holds before it.
@@ -33,8 +34,8 @@ pub struct Case {
 pub struct Answer {
     /// 0 where the call is accepted, else the refusal's number; or which chunk there is
     pub number: u32,
-    /// the refusal's place, or the length of an accepted text; the cursor after a chunk; 0 for other
-    /// accepted calls
+    /// the refusal's place, or the length of an accepted text; the cursor after a chunk; what settles
+    /// the tabstop; 0 for other accepted calls
     pub at: u64,
     /// every byte of the room after the call
     pub room: Vec<u8>,
@@ -86,6 +87,11 @@ pub fn answer(case: &Case) -> Answer {
             put_chunk(&mut answer, (at, ticks), rules::next_chunk(&case.document, (at, ticks)));
             return answer;
         }
+        Call::Tabstop => {
+            let found = rules::tabstop_of(&case.document);
+            answer.numbers = vec![found.map_or(0, |(tabstop, _)| tabstop as u64)];
+            found.map(|(_, at)| at as u64)
+        }
     };
     match outcome {
         Ok(at) => answer.at = at,
@@ -124,6 +130,7 @@ fn header(call: Call) -> (u8, u64, bool, bool) {
         Call::Build(Operation::EmDoc) => (10, 0, false, false),
         Call::Split => (11, 0, false, false),
         Call::NextChunk { at, .. } => (12, at, false, false),
+        Call::Tabstop => (13, 0, false, false),
     }
 }
 
@@ -149,7 +156,7 @@ fn put(out: &mut Vec<u8>, number: u64) {
 /// ```text
 /// n    bytes of this case after this number
 /// u8   call: 0 check, 1 console, 2 html, 3 html_strict, 4 markdown, 5 roff,
-///      6 write, 7 open, 8 close, 9 doc, 10 em_doc, 11 split, 12 next_chunk
+///      6 write, 7 open, 8 close, 9 doc, 10 em_doc, 11 split, 12 next_chunk, 13 tabstop
 /// n    width (console), style (write), block (open, close) or place in the body (next_chunk); else 0
 /// u8   full (console, html, html_strict, markdown), ticks (next_chunk); else 0
 /// u8   css (html, html_strict), by characters (console); else 0
@@ -177,6 +184,8 @@ fn put(out: &mut Vec<u8>, number: u64) {
 ///   n    where the chunk begins in the body
 ///   n    length in bytes; 0 for 2 and 3
 ///   n    width; 0 for 2 and 3
+/// 13, whose place, where it is accepted, is that of the record that settles the tabstop:
+///   n    the tabstop; 0 after a refusal
 /// ```
 pub fn list(case: &Case, answer: &Answer, out: &mut Vec<u8>) {
     let mut body = Vec::new();

@@ -17,10 +17,11 @@ pub enum Subject {
     Builder,
     Split,
     NextChunk,
+    Tabstop,
 }
 
 impl Subject {
-    pub const ALL: [(Subject, &'static str); 9] = [
+    pub const ALL: [(Subject, &'static str); 10] = [
         (Subject::Check, "check"),
         (Subject::Console, "console"),
         (Subject::Html, "html"),
@@ -30,6 +31,7 @@ impl Subject {
         (Subject::Builder, "builder"),
         (Subject::Split, "split"),
         (Subject::NextChunk, "next_chunk"),
+        (Subject::Tabstop, "tabstop"),
     ];
 
     pub fn named(name: &str) -> Option<Subject> {
@@ -300,8 +302,28 @@ impl Maker<'_> {
         self.some_text();
     }
 
+    /// A term about the 24 characters that settle the tabstop, in one record or several, and maybe
+    /// terms in it, whose ends stop the count.
+    fn nested_terms(&mut self, depth: usize) {
+        let count = if self.rng.once_in(4) { self.rng.below(24) } else { self.rng.within(23, 25) };
+        let letter = self.rng.pick(if self.palette.ascii { &["t"] } else { &["t", "é", "漢"] });
+        let cut = if self.rng.once_in(2) { count } else { self.rng.below(count + 1) };
+        let inner = depth > 0 && self.rng.once_in(2);
+        let after = self.rng.pick(&["", "t", "tt"]);
+        self.around(ITEM_TERM, |m| {
+            m.text(&letter.repeat(cut));
+            if cut < count {
+                m.text(&letter.repeat(count - cut));
+            }
+            if inner {
+                m.nested_terms(depth - 1);
+                m.text(after);
+            }
+        });
+    }
+
     fn act(&mut self) {
-        match self.rng.below(29) {
+        match self.rng.below(30) {
             0..=5 => self.some_text(),
             // bodies that would split or escape otherwise if they were joined
             6 => {
@@ -432,6 +454,7 @@ impl Maker<'_> {
                 self.text("[y]");
             }
             25..=26 => self.past_the_margin(),
+            28 => self.nested_terms(2),
             // a line whose bytes and characters differ by far: a word, a code line, a line in ticks
             27 => {
                 let first = self.rng.pick(&["", " ", "\n ", "\n    ", "\n\n    ", "\n\n```\n"]);
@@ -459,6 +482,16 @@ fn far(rng: &mut Rng, palette: Palette) -> Vec<u8> {
     maker.past_the_margin();
     while !maker.open.is_empty() {
         maker.end();
+    }
+    maker.bytes
+}
+
+/// A valid document of terms, and little else.
+fn terms(rng: &mut Rng, palette: Palette) -> Vec<u8> {
+    let mut maker = Maker { rng, palette, bytes: Vec::new(), open: Vec::new(), most: FAR_BYTES };
+    for _ in 0..maker.rng.within(1, 4) {
+        maker.nested_terms(3);
+        maker.some_text();
     }
     maker.bytes
 }
@@ -591,6 +624,9 @@ fn document(rng: &mut Rng, subject: Subject, limits: Limits, faulty_once_in: usi
     }
     if subject == Subject::Console && limits.bytes >= FAR_BYTES && rng.once_in(12) {
         return far(rng, palette);
+    }
+    if subject == Subject::Tabstop && limits.bytes >= FAR_BYTES && rng.once_in(2) {
+        return terms(rng, palette);
     }
     if !rng.once_in(faulty_once_in) {
         let most = limits.one(rng);
@@ -812,9 +848,11 @@ fn stepping(rng: &mut Rng, limits: Limits) -> Case {
 pub fn case(subject: Subject, seed: u64, index: u64, limits: Limits) -> Case {
     let rng = &mut Rng::new(seed, index);
     match subject {
-        Subject::Check => {
-            let document = document(rng, subject, limits, 2);
-            Case { call: Call::Check, document, room: Vec::new(), length: 0 }
+        Subject::Check | Subject::Tabstop => {
+            let checks = subject == Subject::Check;
+            let document = document(rng, subject, limits, if checks { 2 } else { 4 });
+            let call = if checks { Call::Check } else { Call::Tabstop };
+            Case { call, document, room: Vec::new(), length: 0 }
         }
         Subject::Builder => building(rng, limits),
         Subject::Split => splitting(rng, limits),
@@ -859,7 +897,7 @@ pub fn numbers(subject: Subject, seed: u64, cases: u64) -> [u64; 14] {
 /// The numbers that a subject can answer.
 pub fn owed(subject: Subject) -> &'static [u32] {
     match subject {
-        Subject::Check => &[0, 1, 2, 3, 4, 5, 6, 7, 8],
+        Subject::Check | Subject::Tabstop => &[0, 1, 2, 3, 4, 5, 6, 7, 8],
         Subject::Console => &[0, 1, 2, 3, 4, 5, 6, 7, 8, 9, 10, 13],
         Subject::Html | Subject::HtmlStrict | Subject::Markdown => {
             &[0, 1, 2, 3, 4, 5, 6, 7, 8, 11, 13]

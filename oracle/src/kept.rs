@@ -300,6 +300,54 @@ fn confirm_outcome(
     Ok(())
 }
 
+/// The tabstop of some records, which may end inside blocks, as the kept Rust shows it: the column of a
+/// body behind them, less two. A paragraph with `full` off hides their text, so that no margin refuses
+/// it; the end of the bracket around them shows text again. TermRefs, brackets and starts without an end
+/// are left out: none of them counts for the tabstop.
+fn kept_tabstop(records: &[Record]) -> usize {
+    let mut open = Vec::new();
+    for (index, record) in records.iter().enumerate() {
+        match record.kind {
+            Kind::Start(_) => open.push(index),
+            Kind::End(_) => drop(open.pop()),
+            Kind::Text(_) => {}
+        }
+    }
+    let mut shown = vec![(Kind::Start(8), &b""[..]), (Kind::Text(1), b"\n\n")];
+    for (index, record) in records.iter().enumerate() {
+        if !matches!(record.kind, Kind::Start(8 | 9) | Kind::End(8 | 9)) && !open.contains(&index) {
+            shown.push((record.kind, record.body));
+        }
+    }
+    shown.push((Kind::End(8), b""));
+    shown.extend([(Kind::Start(5), &b""[..]), (Kind::Text(1), b"\n y"), (Kind::End(5), b"")]);
+    let shown: Vec<Record> =
+        shown.into_iter().map(|(kind, body)| Record { place: 0, kind, body }).collect();
+    let renderer = Renderer::Console { width: 10_000, full: false, characters: false };
+    let text = rendered(renderer, &rebuilt(&shown, |_, body| body.to_string()));
+    let text = text.expect("no text is far from its margin");
+    let line = text.lines().find(|line| line.ends_with('y')).expect("the body is shown");
+    line.len() - 3
+}
+
+fn confirm_tabstop(case: &Case, answer: &Answer) -> Result<(), String> {
+    let Ok(records) = rules::check(&case.document) else {
+        let refused = answer.number != 0 && answer.numbers == [0];
+        return if refused { Ok(()) } else { Err(format!("should be refused, is {answer:?}")) };
+    };
+    let (whole, at) = (kept_tabstop(&records), answer.at as usize);
+    let before = records.iter().take_while(|record| record.place < at).count();
+    let settled = match records.get(before) {
+        Some(record) => record.place == at && kept_tabstop(&records[..=before]) == 28,
+        None => at == case.document.len(),
+    };
+    let not_before = kept_tabstop(&records[..before]) < 28;
+    if answer.number != 0 || answer.numbers != [whole as u64] || !settled || !not_before {
+        return Err(format!("rules {answer:?}, kept Rust {whole}"));
+    }
+    Ok(())
+}
+
 fn confirm_build(operation: Operation, case: &Case, answer: &Answer) -> Result<(), String> {
     // What the kept Rust builds, where all that it is given can be read.
     let built = || -> Option<Vec<u8>> {
@@ -440,5 +488,6 @@ pub fn confirm(case: &Case, answer: &Answer) -> Result<(), String> {
         Call::Build(operation) => confirm_build(operation, case, answer),
         Call::Split => confirm_split(&case.document, &answer.chunks),
         Call::NextChunk { at, ticks } => confirm_next(case, at, ticks),
+        Call::Tabstop => confirm_tabstop(case, answer),
     }
 }

@@ -56,6 +56,7 @@ impl Stored {
     fn numbers(&self, call: Call) -> Vec<u64> {
         let count = match call {
             Call::NextChunk { .. } => 4,
+            Call::Tabstop => 1,
             _ => 0,
         };
         self.numbers[..count].iter().map(|&n| n as u64).collect()
@@ -154,6 +155,7 @@ pub(crate) fn number(call: Call, document: &[u8], room: &mut [u8], stored: &mut 
                 *first = ticks as usize;
                 number
             }
+            Call::Tabstop => c::sefgrunn_tabstop(d, n, first, at),
         }
     }
 }

@@ -460,23 +460,45 @@ fn walk(renderer: Renderer, document: &[u8], text: &mut Text, misread: Misreadin
 
 // Console
 
-/// The widest ItemTerm of at most 24 characters, plus 4. One count serves nested terms too.
-pub fn tabstop(records: &[Record]) -> usize {
-    let (mut widest, mut count, mut counting) = (0, 0, false);
+/// The most characters of a term that the tabstop goes by.
+const MOST_TERM: usize = 24;
+
+/// Each ItemTerm end, its place and its count: a nested term's start sets the count back to 0, its end
+/// stops it, and the outer end has that same count.
+fn term_counts(records: &[Record]) -> Vec<(usize, usize)> {
+    let (mut ends, mut count, mut counting) = (Vec::new(), 0, false);
     for record in records {
         match record.kind {
             Kind::Text(_) if counting => count += characters(record.body),
             Kind::Start(ITEM_TERM) => (counting, count) = (true, 0),
             Kind::End(ITEM_TERM) => {
                 counting = false;
-                if count <= 24 {
-                    widest = widest.max(count);
-                }
+                ends.push((record.place, count));
             }
             _ => {}
         }
     }
-    widest + 4
+    ends
+}
+
+/// The widest ItemTerm of at most 24 characters, plus 4.
+pub fn tabstop(records: &[Record]) -> usize {
+    let counts = term_counts(records).into_iter().map(|(_, count)| count);
+    counts.filter(|&count| count <= MOST_TERM).max().unwrap_or(0) + 4
+}
+
+/// 02, point 4: the start of the first ItemTerm end whose count is 24, or the document's length.
+fn settled(records: &[Record], length: usize) -> usize {
+    term_counts(records)
+        .into_iter()
+        .find(|&(_, count)| count == MOST_TERM)
+        .map_or(length, |(place, _)| place)
+}
+
+/// 02, point 4: the tabstop of a document, and where the search for it may stop.
+pub fn tabstop_of(document: &[u8]) -> Ruled<(usize, usize)> {
+    let records = check(document)?;
+    Ok((tabstop(&records), settled(&records, document.len())))
 }
 
 /// The index of the Section4 end after `start`, if a Block start and end follow it at once.

@@ -102,6 +102,7 @@ fn refuse(got: &mut Answer, case: &Case, refusal: Refusal) {
         Call::Render(_) => got.room.fill(0),
         _ => (got.room, got.length) = (case.room.clone(), case.length),
     }
+    got.numbers.fill(0);
 }
 
 /// A text where the room holds it, else 13.

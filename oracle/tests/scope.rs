@@ -397,6 +397,75 @@ fn characters_decide_where_10_is_met() {
     assert_eq!(shown(console(60), &document), "u".repeat(54) + "  é é");
 }
 
+// 02, point 4: what settles the tabstop
+
+/// The tabstop and the record that settles it.
+fn tabstop(document: &[u8]) -> (u64, u64) {
+    let answer = run(Call::Tabstop, document, vec![], 0);
+    assert_eq!(answer.number, 0);
+    (answer.numbers[0], answer.at)
+}
+
+#[test]
+fn a_term_of_24_characters_settles_the_tabstop() {
+    let term = |count: usize, letter: &str| {
+        made(|d| d.within(Block::ItemTerm, |d| d.text(&letter.repeat(count))).text("x"))
+    };
+    let length = |document: &[u8]| document.len() as u64;
+    assert_eq!(tabstop(&term(23, "t")), (27, length(&term(23, "t"))));
+    assert_eq!(tabstop(&term(24, "t")), (28, 6 + 6 + 24));
+    assert_eq!(tabstop(&term(25, "t")), (4, length(&term(25, "t"))));
+    // characters, not bytes
+    assert_eq!(tabstop(&term(24, "é")), (28, 6 + 6 + 48));
+    assert_eq!(tabstop(&term(12, "é")), (16, length(&term(12, "é"))));
+    // no term, an empty one, an empty document
+    assert_eq!(tabstop(&text("a")), (4, 7));
+    assert_eq!(tabstop(&term(0, "t")), (4, length(&term(0, "t"))));
+    assert_eq!(tabstop(b""), (4, 0));
+    // a term in several records, with blocks between them; the first of two counts
+    let pieces = [(0x0104, ""), (1, "tttttttt"), (0x010B, ""), (3, "tttttttt"), (0x020B, "")];
+    let document = records(&[&pieces[..], &[(1, "tttttttt"), (0x0204, "")]].concat());
+    assert_eq!(tabstop(&document), (28, length(&document) - 6));
+    let both = [&document[..], &document].concat();
+    assert_eq!(tabstop(&both), (28, length(&document) - 6));
+    // a wider one before it and a narrower one after it
+    let three = [term(25, "t"), term(24, "t"), term(3, "t")].concat();
+    assert_eq!(tabstop(&three), (28, length(&term(25, "t")) + 36));
+}
+
+#[test]
+fn nested_terms_share_one_count() {
+    let t = |count: usize| "t".repeat(count);
+    // the inner end stops the count, and the outer end tests that same count: the inner end is first
+    let (outer, inner) = (t(5), t(24));
+    let document = records(&[
+        (0x0104, ""),
+        (1, &outer),
+        (0x0104, ""),
+        (1, &inner),
+        (0x0204, ""),
+        (0x0204, ""),
+    ]);
+    assert_eq!(tabstop(&document), (28, 6 + 11 + 6 + 30));
+    // the outer term's own 24 characters are forgotten at the inner start, and not counted after its end
+    let nested = [(0x0104, ""), (1, &inner), (0x0104, ""), (1, "t"), (0x0204, ""), (1, &inner)];
+    let document = records(&[&nested[..], &[(0x0204, "")]].concat());
+    assert_eq!(tabstop(&document), (5, document.len() as u64));
+}
+
+#[test]
+fn tabstop_is_refused_as_the_check() {
+    let term = records(&[(0x0104, ""), (1, &"t".repeat(24)), (0x0204, "")]);
+    for fault in [&[1, 0][..], &[0, 0, 0, 0, 6, 0], &[0, 0, 0, 0, 11, 1], &[0, 0, 0, 0, 11, 2]] {
+        let document = [&term[..], fault].concat();
+        let answer = run(Call::Tabstop, &document, vec![], 0);
+        assert_eq!((answer.number, answer.at), check(&document));
+        assert_ne!(answer.number, 0);
+        assert_eq!(answer.numbers, [0]);
+    }
+    assert_eq!(run(Call::Tabstop, &[0; 32_769], vec![], 0).number, 1);
+}
+
 // The rows of the refusal table
 
 #[test]

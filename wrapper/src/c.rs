@@ -12,6 +12,12 @@ extern "C" {
         room_len: usize,
         at: *mut usize,
     ) -> u32;
+    pub fn sefgrunn_tabstop(
+        document: *const u8,
+        n: usize,
+        tabstop: *mut usize,
+        at: *mut usize,
+    ) -> u32;
     pub fn sefgrunn_next_chunk(
         body: *const u8,
         n: usize,

@@ -272,6 +272,24 @@ pub fn roff<'r>(document: &[u8], room: &'r mut [u8]) -> Result<&'r str, Refusal>
     text(room, answer)
 }
 
+/// Where console text puts the bodies of a list.
+#[derive(Debug, Clone, Copy, PartialEq, Eq)]
+pub struct Tabstop {
+    /// The characters of the widest ItemTerm that has at most 24, or 0 where there is none, plus 4.
+    /// One count serves nested terms: each start sets it back to 0, each end stops it.
+    pub columns: usize,
+    /// The start of the first ItemTerm end whose count is 24, after which no term changes the
+    /// tabstop; the document's length where there is none.
+    pub settled: usize,
+}
+
+/// The tabstop of a document. Refusals 1 to 8.
+pub fn tabstop(document: &[u8]) -> Result<Tabstop, Refusal> {
+    let (number, columns, at) = linked::tabstop(document);
+    accepted(number, at)?;
+    Ok(Tabstop { columns, settled: at })
+}
+
 /// The text in the first room that is large enough, up to [`MOST_ROOM`].
 fn grown(render: impl Fn(&mut [u8]) -> Result<usize, Refusal>) -> Result<String, Refusal> {
     let mut room = vec![0; FIRST_ROOM];

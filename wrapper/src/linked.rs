@@ -86,6 +86,15 @@ pub fn em_doc(room: &mut [u8], length: &mut usize, added: &[u8]) -> (u32, usize)
     (number, place)
 }
 
+/// The number, the tabstop, and what settles it or the place.
+pub fn tabstop(document: &[u8]) -> (u32, usize, usize) {
+    let (mut tabstop, mut at) = (0, 0);
+    let (d, n) = (document.as_ptr(), document.len());
+    // SAFETY: see above.
+    let number = unsafe { c::sefgrunn_tabstop(d, n, &mut tabstop, &mut at) };
+    (number, tabstop, at)
+}
+
 /// Which chunk there is, its start, length and width; the cursor is moved behind it.
 pub fn next_chunk(body: &[u8], at: &mut usize, ticks: &mut u32) -> (u32, usize, usize, usize) {
     let (mut start, mut length, mut width) = (0, 0, 0);

@@ -1,8 +1,8 @@
 //! The samples of document 01 ("01"), through the library, and what a room holds after a call.
 
 use sefgrunn::{
-    Block, Builder, Chunk, Html, Measure, Number, Piece, Refusal, Settings, Style, MOST_ROOM,
-    WIDTH_CODE, WIDTH_TICKED,
+    Block, Builder, Chunk, Html, Measure, Number, Piece, Refusal, Settings, Style, Tabstop,
+    MOST_ROOM, WIDTH_CODE, WIDTH_TICKED,
 };
 
 const PREAMBLE: &str = ".ie \\n(.g .ds Aq \\(aq\n.el .ds Aq '\n";
@@ -100,7 +100,12 @@ fn tabstop() {
         });
         let expected = format!("    {}\n{}y", "é".repeat(count), " ".repeat(spaces));
         assert_eq!(console(&document, 100), expected);
+        let settled = if count == 24 { 6 + 6 + 48 } else { document.len() };
+        assert_eq!(sefgrunn::tabstop(&document), Ok(Tabstop { columns: spaces - 2, settled }));
     }
+    assert_eq!(sefgrunn::tabstop(b""), Ok(Tabstop { columns: 4, settled: 0 }));
+    let cut = Refusal { number: Number::CutShort, place: 0 };
+    assert_eq!(sefgrunn::tabstop(&[1, 0]), Err(cut));
 }
 
 #[test]

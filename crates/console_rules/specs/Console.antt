@@ -59,6 +59,27 @@ terms (x ∷ ts) t = terms ts (term (x .kind) (x .body) t)
 unfoldable pub tabstop : List Token → ℕ
 tabstop ts = (terms ts (record { widest = 0; counting = false; counted = 0 })) .widest + 4
 
+-- 02, point 4: an 'ItemTerm end whose count is 24', where so much was counted before it
+abbrev pub settles : Kind → Terms → Bool
+settles k t = isEnd 4 k && eqb (t .counted) 24
+
+-- 'the start of that record', the first such one, 'or the document's length when there is none': among some records, before which so much was
+-- counted, of a document of n bytes
+unfoldable pub settledFrom : ℕ → List Token → Terms → ℕ
+settledFrom n [] t = n
+settledFrom n (x ∷ ts) t = if settles (x .kind) t then x .place else settledFrom n ts (term (x .kind) (x .body) t)
+
+-- .. among all of its records
+unfoldable pub settledAt : ℕ → List Token → ℕ
+settledAt n ts = settledFrom n ts (record { widest = 0; counting = false; counted = 0 })
+
+-- the tabstop of any bytes, and that place, where refusals 1 to 8 do not arise
+unfoldable pub tabstopIn : List ℕ → Result ℕ
+tabstopIn document = check document >>= λ _. gives (tabstop (tokens 0 0 document))
+
+unfoldable pub settledIn : List ℕ → Result ℕ
+settledIn document = check document >>= λ _. gives (settledAt (length document) (tokens 0 0 document))
+
 -- The adjacent gap.
 
 -- a Block start and a Block end come first

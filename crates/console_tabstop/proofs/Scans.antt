@@ -20,7 +20,7 @@ use Rattle.records.specs.declared.Kind.{Kind}
 use Rattle.records.specs.declared.Kind.the-variants as kind
 use Rattle.records.proofs.Tokens.{tokens-end}
 use Rattle.splitter.proofs.Answers.{count-short}
-use Rattle.console_rules.specs.Console.{Terms, termStart, termEnd, term, terms, emptyBlock, gapAhead}
+use Rattle.console_rules.specs.Console.{Terms, termStart, termEnd, term, terms, settles, settledFrom, emptyBlock, gapAhead}
 
 -- A record that was read comes first
 
@@ -44,6 +44,16 @@ module _ (s : List ℕ) (at : ℕ) (h : Head) (r : Read s at h) (inside : at < l
   unfolding terms
   terms-next t = sym (ap (λ ts. terms ts t) listed)
 
+  -- the first record that settles the tabstop is this one, or it comes later
+  pub settled-here : (n : ℕ) (t : Terms) → settles (h .kind) t ≡ true → settledFrom n (tokensFrom s at) t ≡ at
+  unfolding settledFrom
+  settled-here n t e = ap (λ ts. settledFrom n ts t) listed ∙ if-true _ _ e
+
+  pub settled-later : (n : ℕ) (t : Terms) → settles (h .kind) t ≡ false
+      → settledFrom n (tokensFrom s at) t ≡ settledFrom n (tokensFrom s (h .next)) (term (h .kind) (part s (h .start) (h .stop)) t)
+  unfolding settledFrom
+  settled-later n t e = ap (λ ts. settledFrom n ts t) listed ∙ if-false _ _ e
+
 pub empty-two : (s : List ℕ) (at : ℕ) (h g : Head) → Read s at h → at < length s → Read s (h .next) g → h .next < length s
     → emptyBlock (tokensFrom s at) ≡ (isStart 7 (h .kind) && isEnd 7 (g .kind))
 unfolding emptyBlock
@@ -62,6 +72,10 @@ module _ (s : List ℕ) (at : ℕ) (past : length s ≤ at) where
   pub terms-none : (t : Terms) → terms (tokensFrom s at) t ≡ t
   unfolding terms
   terms-none t = ap (λ ts. terms ts t) (tokens-end s at past)
+
+  pub settled-none : (n : ℕ) (t : Terms) → settledFrom n (tokensFrom s at) t ≡ n
+  unfolding settledFrom
+  settled-none n t = ap (λ ts. settledFrom n ts t) (tokens-end s at past)
 
 -- The count of the tabstop
 

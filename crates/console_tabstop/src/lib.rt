@@ -4,11 +4,14 @@ ghost use mathlib.Core.Bool.{false};
 ghost use Prim.Native.Nat.{_+_, _-_, _≤_, _<_, _^_};
 ghost use lib.ListN.{length};
 ghost use Rattle.records.specs.Records.{tokens, tokensFrom};
-ghost use Rattle.console_rules.specs.Console.{termStart, termEnd, term, tabstop, emptyBlock, gapAhead};
+ghost use Rattle.console_rules.specs.Console.{termStart, termEnd, term, settles, tabstop, settledAt, tabstopIn, settledIn, emptyBlock, gapAhead};
+ghost use Rattle.console_tabstop.specs.Answers.{tabstopOf, settledOf};
 ghost use Rattle.console_tabstop.specs.Counted.{termsOf};
 use console_rules::Columns;
+use document::Checked;
 use records::Block;
 use records::Kind;
+use refusal::Refusal;
 
 // Whether the start and the end of a Block come first.
 fn empty_block(document: &[u8], at: usize) -> bool
@@ -105,9 +108,26 @@ fn term_on(t: Terms, k: Kind, body: &[u8]) -> Terms
     }
 }
 
-// The tabstop of a document.
-pub fn tabstop_of(document: &[u8]) -> Columns
-    ensures { λ r. ⌜ (r .0 ≡ tabstop (tokens 0 0 (now (document .entry)))) × (r .0 ≤ 28) ⌝ }
+// Whether a record is an ItemTerm's end whose count is 24: no term that counts is wider.
+fn settles(t: Terms, k: Kind) -> bool
+    ensures { λ r. ⌜ r ≡ settles k (termsOf t) ⌝ }
+{
+    if records::is_end(k, 4) {
+        return t.counted == 24;
+    }
+    false
+}
+
+// The tabstop, and the start of the record that settles it, or the document's length.
+pub struct Tabstop {
+    pub columns: Columns,
+    pub at: usize,
+}
+
+// The search for the tabstop, which stops at the record that settles it.
+fn find_tabstop(document: &[u8]) -> Tabstop
+    ensures tabstop { λ r. ⌜ (r .columns .0 ≡ tabstop (tokens 0 0 (now (document .entry)))) × (r .columns .0 ≤ 28) ⌝ }
+    ensures settled { λ r. ⌜ r .at ≡ settledAt (length (now (document .entry))) (tokens 0 0 (now (document .entry))) ⌝ }
 {
     let mut t = Terms {
         widest: 0,
@@ -121,9 +141,47 @@ pub fn tabstop_of(document: &[u8]) -> Columns
         let stop = h.stop;
         let next = h.next;
         let k = h.kind;
+        if settles(t, k) {
+            return Tabstop {
+                columns: Columns(28),
+                at,
+            };
+        }
         t = term_on(t, k, &document[start..stop]);
         at = next;
     }
     let tab = t.widest + 4;
-    Columns(tab)
+    Tabstop {
+        columns: Columns(tab),
+        at: document.len(),
+    }
+}
+
+// The tabstop of a document.
+pub fn tabstop_of(document: &[u8]) -> Columns
+    ensures { λ r. ⌜ (r .0 ≡ tabstop (tokens 0 0 (now (document .entry)))) × (r .0 ≤ 28) ⌝ }
+{
+    let found = find_tabstop(document);
+    found.columns
+}
+
+// What the search answers in any bytes: what it finds in an accepted document, or the refusal.
+pub enum Searched {
+    Found(Tabstop),
+    Refused(Refusal),
+}
+
+// Refusals 1 to 8, then the search.
+pub fn search_tabstop(document: &[u8]) -> Searched
+    ensures tabstop { λ r. ⌜ tabstopOf r ≡ tabstopIn (now (document .entry)) ⌝ }
+    ensures settled { λ r. ⌜ settledOf r ≡ settledIn (now (document .entry)) ⌝ }
+{
+    let verdict = document::check(document);
+    match verdict {
+        Checked::Refused(a) => Searched::Refused(a),
+        Checked::Accepted => {
+            let found = find_tabstop(document);
+            Searched::Found(found)
+        }
+    }
 }

@@ -1,8 +1,9 @@
 // Reads a list of calls with the oracle's answers from standard input, makes each call and compares, and prints one line with the counts:
-// check, the renderers, the splitter and its step.
+// check, the renderers, the splitter and its step, the tabstop.
 ghost use Prim.Native.Nat.{_<_, _≤_};
 use console_rules::Measure;
 use console_rules::Settings;
+use console_tabstop::Searched;
 use document::Checked;
 use recorded::Call;
 use recorded::Next;
@@ -163,6 +164,32 @@ fn hands_out(call: Call, body: &[u8], answer: &[u8]) -> bool {
     recorded::past(width).len() == 0
 }
 
+// Whether the search for the tabstop answers as a case says.
+fn finds_tabstop(document: &[u8], answer: &[u8]) -> bool {
+    let number = recorded::number(answer);
+    let after = recorded::past(answer);
+    let at = recorded::number(after);
+    let tabstop = recorded::number(recorded::past(after));
+    let found = console_tabstop::search_tabstop(document);
+    match found {
+        Searched::Found(t) => {
+            if number != 0 {
+                return false;
+            }
+            if t.at != at {
+                return false;
+            }
+            t.columns.0 == tabstop
+        }
+        Searched::Refused(a) => {
+            if tabstop != 0 {
+                return false;
+            }
+            recorded::is_refusal(a, number, at)
+        }
+    }
+}
+
 // Whether a room holds a text and then zeros.
 fn holds(room: &[u8], text: &[u8]) -> bool {
     let mut i: usize = 0;
@@ -271,6 +298,9 @@ fn agrees(case: &[u8]) -> bool {
     if call.number == 12 {
         return hands_out(call, document, answer);
     }
+    if call.number == 13 {
+        return finds_tabstop(document, answer);
+    }
     false
 }
 
@@ -328,6 +358,7 @@ fn print_counts(counts: &[u64; 23]) {
     recorded::print_count(b", roff ", counts[5]);
     recorded::print_count(b", split ", counts[11]);
     recorded::print_count(b", next_chunk ", counts[12]);
+    recorded::print_count(b", tabstop ", counts[13]);
 }
 
 fn main() {

@@ -1,1 +1,2 @@
 pub mod SamplesHold
+pub mod TabstopsHold

@@ -28,7 +28,11 @@ use Rattle.buffer.specs.declared.Built.the-variants as built
 use Rattle.renderer.specs.Rendered.{answered}
 use Rattle.renderer.specs.declared.Rendered.{Rendered}
 use Rattle.renderer.specs.declared.Rendered.the-variants as rendered
-use Rattle.sefgrunn.specs.Numbers.{numberOf, placeOf, lengthOrPlace, lengthAfter, told, inStyle, inBlock}
+use Rattle.console_tabstop.specs.Answers.{tabstopOf, settledOf}
+use Rattle.console_tabstop.specs.declared.Tabstop.{Tabstop}
+use Rattle.console_tabstop.specs.declared.Searched.{Searched}
+use Rattle.console_tabstop.specs.declared.Searched.the-variants as searched
+use Rattle.sefgrunn.specs.Numbers.{numberOf, placeOf, lengthOrPlace, orZero, lengthAfter, told, inStyle, inBlock}
 
 module _ (c : Checked) (x : Result (List ℕ)) (e : verdictOf c [] ≡ x) where
   pub checked-accepted : (n p : ℕ) → c ≡ checked.Accepted → n ≡ 0 → p ≡ 0 → (n ≡ numberOf x) × (p ≡ placeOf x)
@@ -44,6 +48,21 @@ module _ (r : Rendered) where
   pub told-refused : (a : Refusal) (k p : ℕ) → r ≡ rendered.Refused a → k ≡ refusalNumber a → p ≡ refusalPlace a
       → (k ≡ numberOf (answered r)) × (p ≡ lengthOrPlace (answered r))
   told-refused a k p e f g = rw e (f, g)
+
+-- what the search for the tabstop answered
+module _ (r : Searched) (x y : Result ℕ) (e : tabstopOf r ≡ x) (f : settledOf r ≡ y) where
+  pub searched-found : (t : Tabstop) → r ≡ searched.Found t → (0 ≡ numberOf x) × ((t .columns .0 ≡ orZero x) × (t .at ≡ lengthOrPlace y))
+  searched-found t g =
+      let a : gives (t .columns .0) ≡ x = rw g at e in
+      let b : gives (t .at) ≡ y = rw g at f in
+      (ap numberOf a, (ap orZero a, ap lengthOrPlace b))
+
+  pub searched-refused : (a : Refusal) (k p : ℕ) → r ≡ searched.Refused a → k ≡ refusalNumber a → p ≡ refusalPlace a
+      → (k ≡ numberOf x) × ((0 ≡ orZero x) × (p ≡ lengthOrPlace y))
+  searched-refused a k p g h i =
+      let b : refused (refusalNumber a) (refusalPlace a) ≡ x = rw g at e in
+      let d : refused (refusalNumber a) (refusalPlace a) ≡ y = rw g at f in
+      (h ∙ ap numberOf b, (ap orZero b, i ∙ ap lengthOrPlace d))
 
 -- a text and its length are refused alike
 measured-number : (x : Result (List ℕ)) → numberOf (measured x) ≡ numberOf x

@@ -26,10 +26,15 @@ module _ {A : Type 0} where
   placeOf (gives x) = 0
   placeOf (refused n p) = p
 
--- a text's length, or the place
+-- a text's length, or a place that is asked for; else the refusal's place
 abbrev pub lengthOrPlace : Result ℕ → ℕ
 lengthOrPlace (gives n) = n
 lengthOrPlace (refused k p) = p
+
+-- what else a call stores: 0 after a refusal
+abbrev pub orZero : Result ℕ → ℕ
+orZero (gives n) = n
+orZero (refused k p) = 0
 
 -- the length of a document of m bytes after a call of the builder
 abbrev pub lengthAfter : ℕ → Result ℕ → ℕ

@@ -6,7 +6,7 @@ ghost use Rattle.base.specs.Result.{measured};
 ghost use Rattle.document.specs.Document.{check};
 ghost use Rattle.refusal.specs.Numbers.{refusalNumber, refusalPlace};
 ghost use Rattle.renderer.specs.Rendered.{answered, filled};
-ghost use Rattle.console_rules.specs.Console.{console};
+ghost use Rattle.console_rules.specs.Console.{tabstopIn, settledIn, console};
 ghost use Rattle.console.specs.Answers.{Demand3};
 ghost use Rattle.buffer.specs.Answers.{builtAs, kept};
 ghost use Rattle.buffer.specs.Builder.{addsDoc, addsEmDoc};
@@ -14,10 +14,11 @@ ghost use Rattle.next_chunk.specs.NextChunk.{nextChunk};
 ghost use Rattle.html_rules.specs.Html.{html};
 ghost use Rattle.html_rules.specs.Markdown.{markdown};
 ghost use Rattle.manpage.specs.Roff.{roff};
-ghost use Rattle.sefgrunn.specs.Numbers.{numberOf, placeOf, lengthOrPlace, lengthAfter, told, measureAsked, settings, writesIn, opensIn, closesIn};
+ghost use Rattle.sefgrunn.specs.Numbers.{numberOf, placeOf, lengthOrPlace, orZero, lengthAfter, told, measureAsked, settings, writesIn, opensIn, closesIn};
 use buffer::Built;
 use console_rules::Measure;
 use console_rules::Settings;
+use console_tabstop::Searched;
 use document::Checked;
 use records::Kind;
 use refusal::Refusal;
@@ -137,6 +138,27 @@ pub extern "C" fn sefgrunn_next_chunk(
     *length = next.length;
     *width = next.width;
     next.number
+}
+
+// The tabstop, and the start of the first ItemTerm end whose count is 24, or the document's length.
+#[no_mangle]
+pub extern "C" fn sefgrunn_tabstop(document: &[u8], tabstop: &mut usize, at: &mut usize) -> u32
+    ensures number { λ r. ⌜ r ≡ numberOf (tabstopIn (now (document .entry))) ⌝ }
+    ensures tabstop { λ _. ⌜ now (tabstop .exit) ≡ orZero (tabstopIn (now (document .entry))) ⌝ }
+    ensures at { λ _. ⌜ now (at .exit) ≡ lengthOrPlace (settledIn (now (document .entry))) ⌝ }
+{
+    let answer = console_tabstop::search_tabstop(document);
+    match answer {
+        Searched::Found(found) => {
+            *tabstop = found.columns.0;
+            *at = found.at;
+            0
+        }
+        Searched::Refused(a) => {
+            *tabstop = 0;
+            refused(a, at)
+        }
+    }
 }
 
 // `Doc::render_html`.
