@@ -1,5 +1,5 @@
 -- A body without line ends adds its escaped form to a strict page, and so is told apart from others. Assumes nothing.
-use Prim.Native.Nat.{ℕ, zero, suc, _-_}
+use Prim.Native.Nat.{ℕ, zero, suc, _+_, _-_}
 use mathlib.Core.Path.{_≡_, refl, sym, ap, _∙_}
 use mathlib.Core.Bool.{Bool, true, false, not, _||_, _&&_, false≢true}
 use mathlib.Core.List.{List, [], _∷_, _++_, append-assoc, append-nil, append-cancel-left}
@@ -19,11 +19,11 @@ use Rattle.records.specs.declared.Style.the-variants as style
 use Rattle.records.specs.declared.Kind.the-variants as kind
 use Rattle.splitter.specs.declared.Code.{Code}
 use Rattle.splitter.specs.declared.Code.the-variants as code
-use Rattle.splitter.specs.Split.{Chunk, raw, before, isLineEnd, isLineEndOrSpace, word, afterLineEnd, Step, step, chunks, split}
+use Rattle.splitter.specs.Split.{Chunk, raw, before, isLineEnd, isLineEndOrSpace, word, afterLineEnd, Step, step, Placed, placed, split}
 use Rattle.splitter.proofs.Before.{before-take}
 use Rattle.room.specs.Room.{extended}
 use Rattle.room.proofs.Laws.{extended-twice}
-use Rattle.renderer.specs.Walk.{page, withOut, withLay, write, body}
+use Rattle.renderer.specs.Walk.{page, withOut, withLay, write, anywhere, body}
 use Rattle.skip.specs.Counter.{hides}
 use Rattle.html_rules.specs.Marks.{escapedBy}
 use Rattle.html_rules.specs.Html.{State, plain, initial, opening, closing, styled, entity, escaped, change, chunk, turn}
@@ -115,14 +115,14 @@ module _ (room : ℕ) where
       ap (λ (t : State). t .out) (sym (gives-same (f .2))) ∙ sym (gives-same (g .1))
 
   module _ (full : Bool) where
-    abbrev walked : List Chunk → State → Result State
-    walked cs = body full (chunk room true full) cs
+    abbrev walked : List Placed → State → Result State
+    walked cs = body full (anywhere (chunk room true full)) cs
 
     -- after some bytes, the text of a chunk
-    text-written : (x y : List ℕ) (width : ℕ) (cs : List Chunk) (s : State)
-        → (write room x s >>= walked (raw y width ∷ cs)) ≡ (write room (x ++ escaped true y) s >>= walked cs)
+    text-written : (x y : List ℕ) (at width : ℕ) (cs : List Placed) (s : State)
+        → (write room x s >>= walked (record { place = at; chunk = raw y width } ∷ cs)) ≡ (write room (x ++ escaped true y) s >>= walked cs)
     unfolding body chunk if_then_else_
-    text-written x y width cs s =
+    text-written x y at width cs s =
         bind-assoc (write room x s) (write room (escaped true y)) (walked cs)
         ∙ ap (λ (r : Result State). r >>= walked cs) (write-twice x (escaped true y) s)
 
@@ -132,54 +132,55 @@ module _ (room : ℕ) where
     none-written x s = bind-end (write room x s) ∙ ap (λ (z : List ℕ). write room z s) (sym (append-nil x))
 
     -- after some bytes, the chunks of others from a place on
-    chunks-written : (x y : List ℕ) (pass : ℕ) (s : State) → free isLineEnd y ≡ true
-        → (write room x s >>= walked (chunks code.No pass y)) ≡ write room (x ++ escaped true (drop pass y)) s
-    unfolding chunks free escapedBy
-    chunks-written x [] zero s e = none-written x s
-    chunks-written x [] (suc pass) s e = none-written x s
-    chunks-written x (b ∷ y) (suc pass) s e = chunks-written x y pass s (and-right (not (isLineEnd b)) (free isLineEnd y) e)
-    chunks-written x (b ∷ y) zero s e =
+    chunks-written : (x y : List ℕ) (at pass : ℕ) (s : State) → free isLineEnd y ≡ true
+        → (write room x s >>= walked (placed at code.No pass y)) ≡ write room (x ++ escaped true (drop pass y)) s
+    unfolding placed free escapedBy
+    chunks-written x [] at zero s e = none-written x s
+    chunks-written x [] at (suc pass) s e = none-written x s
+    chunks-written x (b ∷ y) at (suc pass) s e = chunks-written x y (at + 1) pass s (and-right (not (isLineEnd b)) (free isLineEnd y) e)
+    chunks-written x (b ∷ y) at zero s e =
         let r = step code.No (b ∷ y) in
         let f = first-chunk b y (not-true (isLineEnd b) (and-left (not (isLineEnd b)) (free isLineEnd y) e)) in
         let t = f .text in
         let rest = drop (r .used - 1) y in
-        ap (λ (c : Chunk). write room x s >>= walked (c ∷ chunks (r .code) (r .used - 1) y)) (f .chunk)
-        ∙ ap (λ (c : Code). write room x s >>= walked (raw t (f .width) ∷ chunks c (r .used - 1) y)) (f .code)
-        ∙ text-written x t (f .width) (chunks code.No (r .used - 1) y) s
-        ∙ chunks-written (x ++ escaped true t) y (r .used - 1) s (and-right (not (isLineEnd b)) (free isLineEnd y) e)
+        let here = at + r .begins in
+        ap (λ (c : Chunk). write room x s >>= walked (record { place = here; chunk = c } ∷ placed (at + 1) (r .code) (r .used - 1) y)) (f .chunk)
+        ∙ ap (λ (c : Code). write room x s >>= walked (record { place = here; chunk = raw t (f .width) } ∷ placed (at + 1) c (r .used - 1) y)) (f .code)
+        ∙ text-written x t here (f .width) (placed (at + 1) code.No (r .used - 1) y) s
+        ∙ chunks-written (x ++ escaped true t) y (at + 1) (r .used - 1) s (and-right (not (isLineEnd b)) (free isLineEnd y) e)
         ∙ ap (λ (z : List ℕ). write room z s) (append-assoc x (escaped true t) (escaped true rest))
         ∙ ap (λ (z : List ℕ). write room (x ++ z) s) (sym (escaped-append t rest))
         ∙ ap (λ (z : List ℕ). write room (x ++ escaped true z) s) (f .whole)
 
     -- a text record, where it is not hidden
-    record-written : (place : ℕ) (st : Style) (x : List ℕ) (ts : List Token) (s : State)
+    record-written : (place start : ℕ) (st : Style) (x : List ℕ) (ts : List Token) (s : State)
         → free isLineEnd x ≡ true → hides (s .lay .skip) ≡ false
-        → turn room true full place (kind.Text st) x ts s ≡ write room (form (s .lay .style) st x) (withLay (styled st) s)
+        → turn room true full place start (kind.Text st) x ts s ≡ write room (form (s .lay .style) st x) (withLay (styled st) s)
     unfolding turn change split form
-    record-written place st x ts s e h = if-false _ _ h ∙ chunks-written (closing (s .lay .style) ++ opening st) x 0 (withLay (styled st) s) e
+    record-written place start st x ts s e h = if-false _ _ h ∙ chunks-written (closing (s .lay .style) ++ opening st) x 0 0 (withLay (styled st) s) e
 
 -- Bodies told apart
 
 without-line-ends : ToldApart (free isLineEnd)
-without-line-ends room place full st x y ts s a b e f h g k same =
+without-line-ends room place start full st x y ts s a b e f h g k same =
     let before = s .lay .style in
-    let u = write-gives room (form before st x) (withLay (styled st) s) a (sym (record-written room full place st x ts s e h) ∙ g) in
-    let v = write-gives room (form before st y) (withLay (styled st) s) b (sym (record-written room full place st y ts s f h) ∙ k) in
+    let u = write-gives room (form before st x) (withLay (styled st) s) a (sym (record-written room full place start st x ts s e h) ∙ g) in
+    let v = write-gives room (form before st y) (withLay (styled st) s) b (sym (record-written room full place start st y ts s f h) ∙ k) in
     sym (form-told before st x) ∙ ap readBack (append-cancel-left (s .out) _ _ (sym u ∙ same ∙ v)) ∙ form-told before st y
 
 -- `a⏎b` and `a b` in style Text, on an empty page
 line-end-as-space : ToldApart (λ _. true) → ⊥
-unfolding turn change write extended body chunk split chunks step afterLineEnd startsWith before if_then_else_ _>>=_ bytes encode escapedBy entity
+unfolding turn change write extended body chunk split placed step afterLineEnd startsWith before if_then_else_ _>>=_ bytes encode escapedBy entity
 line-end-as-space all =
     let after : State = page [] plain (bytes "a b") in
-    let e = all 3 0 true style.Text (bytes "a\nb") (bytes "a b") [] initial after after refl refl refl refl refl refl in
+    let e = all 3 0 6 true style.Text (bytes "a\nb") (bytes "a b") [] initial after after refl refl refl refl refl refl in
     false≢true (ap (λ (x : List ℕ). eqb (getD x 1 0) 0x20) e)
 
 pub bodies : Bodies
 bodies = record {
-  written = λ room place full. record-written room full place;
+  written = λ room place start full. record-written room full place start;
   told = form-told;
-  different = λ room place full st x y ts s a b e f. without-line-ends room place full st x y ts s a b (free-of-both x e) (free-of-both y f);
+  different = λ room place start full st x y ts s a b e f. without-line-ends room place start full st x y ts s a b (free-of-both x e) (free-of-both y f);
   withSpaces = without-line-ends;
   notAll = line-end-as-space;
 }

@@ -23,17 +23,17 @@ pub record Chunks : Type 0 where
 -- Bodies that pass a test are told apart: two of them that, as text of one style that is not hidden, add the same bytes to one strict page are the
 -- same body.
 abbrev pub ToldApart : (List ℕ → Bool) → Type 0
-ToldApart test = (room place : ℕ) (full : Bool) (st : Style) (x y : List ℕ) (ts : List Token) (s a b : State)
+ToldApart test = (room place start : ℕ) (full : Bool) (st : Style) (x y : List ℕ) (ts : List Token) (s a b : State)
     → test x ≡ true → test y ≡ true → hides (s .lay .skip) ≡ false
-    → turn room true full place (kind.Text st) x ts s ≡ gives a → turn room true full place (kind.Text st) y ts s ≡ gives b
+    → turn room true full place start (kind.Text st) x ts s ≡ gives a → turn room true full place start (kind.Text st) y ts s ≡ gives b
     → a .out ≡ b .out → x ≡ y
 
 -- Of a body.
 pub record Bodies : Type 0 where
   -- A text record that is not hidden and has no line end adds its escaped form to the page, or meets 13 ..
-  pub written : (room place : ℕ) (full : Bool) (st : Style) (x : List ℕ) (ts : List Token) (s : State)
+  pub written : (room place start : ℕ) (full : Bool) (st : Style) (x : List ℕ) (ts : List Token) (s : State)
       → free isLineEnd x ≡ true → hides (s .lay .skip) ≡ false
-      → turn room true full place (kind.Text st) x ts s ≡ write room (form (s .lay .style) st x) (withLay (styled st) s)
+      → turn room true full place start (kind.Text st) x ts s ≡ write room (form (s .lay .style) st x) (withLay (styled st) s)
   -- .. and the escaped form tells the body.
   pub told : (before st : Style) (x : List ℕ) → readBack (form before st x) ≡ x
   -- 'different bodies in one style, free of space and line end, have different escaped forms'
