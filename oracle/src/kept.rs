@@ -236,9 +236,9 @@ fn confirm_rendering(renderer: Renderer, case: &Case, answer: &Answer) -> Result
             Err("printing characters are not the printing order".into())
         }
         Renderer::Console { .. } => Ok(()),
-        Renderer::Html { full: true, css: false, strict: true } => confirm_strict(&records, text),
         // no other renderer trims, so its text only grows
         _ if free.most != text.len() => Err("longer than its text at some moment".into()),
+        Renderer::Html { full: true, css: false, strict: true } => confirm_strict(&records, text),
         _ => Ok(()),
     }
 }
