@@ -120,7 +120,8 @@ uint32_t sefgrunn_tabstop(const uint8_t *document, size_t n, size_t *tabstop, si
 /* HTML, with or without the style sheet. As sefgrunn_console; refusals 1 to 8, 11 and 13. */
 uint32_t sefgrunn_html(const uint8_t *document, size_t n, bool full, bool css, uint8_t *room, size_t room_len, size_t *at);
 
-/* HTML in which `&` becomes `&amp;`, except where it already opens `&amp;`, `&lt;` or `&gt;` within its chunk. As sefgrunn_html. */
+/* HTML in which every `&` of the text becomes `&amp;`, also one that opens `&amp;`, `&lt;` or `&gt;`: the page shows the text as it is.
+ * As sefgrunn_html. */
 uint32_t sefgrunn_html_strict(const uint8_t *document, size_t n, bool full, bool css, uint8_t *room, size_t room_len, size_t *at);
 
 /* Markdown. As sefgrunn_console; refusals 1 to 8, 11 and 13. */

@@ -58,17 +58,28 @@ fn rebuilt(records: &[Record], body: impl Fn(usize, &str) -> String) -> Doc {
 }
 
 /// Strict HTML has no counterpart in the Rust. Here it is the Rust's HTML of a document whose
-/// bodies were changed before: neither `&amp;` nor what an exception needs holds a space or a line
-/// end, so bodies and chunks have the same exceptions and the same bounds.
+/// bodies were changed before: `&amp;` has no space and no line end, so chunks have the same bounds.
 fn strict_body(body: &str) -> String {
-    let mut parts = body.split('&');
-    let mut out = parts.next().unwrap_or_default().to_string();
-    for part in parts {
-        let opens = part.starts_with("amp;") || part.starts_with("lt;") || part.starts_with("gt;");
-        out.push_str(if opens { "&" } else { "&amp;" });
-        out.push_str(part);
+    body.replace('&', "&amp;")
+}
+
+/// What a strict page of all text shows, its elements left out and its escapes read back: the printing
+/// characters of the bodies, and the mark before each Header.
+fn confirm_strict(records: &[Record], page: &[u8]) -> Result<(), String> {
+    let page = std::str::from_utf8(page).map_err(|e| e.to_string())?;
+    let shown = rules::shown_in_strict(page);
+    let mut expected = String::new();
+    for record in records {
+        match record.kind {
+            Kind::Text(_) => expected.push_str(&rules::printing(record.body)),
+            Kind::Start(0) => expected.push('#'),
+            _ => {}
+        }
     }
-    out
+    if rules::printing(shown.as_bytes()) != expected {
+        return Err(format!("a strict page shows {shown:?}"));
+    }
+    Ok(())
 }
 
 /// The text of the kept Rust, or its panic.
@@ -227,6 +238,7 @@ fn confirm_rendering(renderer: Renderer, case: &Case, answer: &Answer) -> Result
         Renderer::Console { .. } => Ok(()),
         // no other renderer trims, so its text only grows
         _ if free.most != text.len() => Err("longer than its text at some moment".into()),
+        Renderer::Html { full: true, css: false, strict: true } => confirm_strict(&records, text),
         _ => Ok(()),
     }
 }

@@ -744,21 +744,40 @@ const CSS: &str = "\n<style>\ndiv.bpaf-doc {\n    padding: 14px;\n    \
     div.bpaf-doc dl { margin-top: 0; padding-left: 1em; }\n\
     div.bpaf-doc  { padding-left: 1em; }\n</style>";
 
-/// A chunk in HTML. Strict: `&` too, except where it already opens one of the three within the
-/// chunk as it stood before.
+/// A chunk in HTML. Strict (02, point 5): every `&` too.
 fn html_chunk(chunk: &[u8], strict: bool) -> Vec<u8> {
     let mut out = Vec::new();
-    for (at, &byte) in chunk.iter().enumerate() {
-        let opens =
-            || ["&amp;", "&lt;", "&gt;"].iter().any(|e| chunk[at..].starts_with(e.as_bytes()));
+    for &byte in chunk {
         match byte {
             b'<' => out.extend(b"&lt;"),
             b'>' => out.extend(b"&gt;"),
-            b'&' if strict && !opens() => out.extend(b"&amp;"),
+            b'&' if strict => out.extend(b"&amp;"),
             _ => out.push(byte),
         }
     }
     out
+}
+
+/// What a strict page shows, with each `<br>` as a line end: its elements left out, then the three
+/// escapes read back. It is a reading of its own, which the pages written above must bear.
+pub fn shown_in_strict(page: &str) -> String {
+    let mut shown = String::new();
+    let mut rest = page;
+    while let Some(c) = rest.chars().next() {
+        let (read, taken) = match c {
+            '<' => {
+                let end = rest.find('>').map_or(rest.len(), |end| end + 1);
+                (if &rest[..end] == "<br>" { "\n" } else { "" }, end)
+            }
+            '&' if rest.starts_with("&amp;") => ("&", 5),
+            '&' if rest.starts_with("&lt;") => ("<", 4),
+            '&' if rest.starts_with("&gt;") => (">", 4),
+            _ => (&rest[..c.len_utf8()], c.len_utf8()),
+        };
+        shown.push_str(read);
+        rest = &rest[taken..];
+    }
+    shown
 }
 
 fn html(records: &[Record], full: bool, css: bool, strict: bool, text: &mut Text) -> Ruled<()> {

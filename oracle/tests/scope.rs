@@ -553,12 +553,39 @@ fn order_within_a_record() {
 fn strict_html() {
     assert_eq!(
         shown(STRICT, &text("& &amp; &lt; &gt; &am; &quot; &<")),
-        "&amp; &amp; &lt; &gt; &amp;am; &amp;quot; &amp;&lt;"
+        "&amp; &amp;amp; &amp;lt; &amp;gt; &amp;am; &amp;quot; &amp;&lt;"
     );
-    assert_eq!(shown(HTML, &text("& &amp; &<")), "& &amp; &&lt;");
-    // the exception is within the chunk, so not across records
+    // the crate's own mode is as it was
+    assert_eq!(shown(HTML, &text("& &amp; &lt; &<")), "& &amp; &lt; &&lt;");
     assert_eq!(shown(STRICT, &records(&[(1, "&"), (1, "amp;")])), "&amp;amp;");
-    assert_eq!(shown(STRICT, &text("&amp;lt;")), "&amp;lt;");
+    assert_eq!(shown(STRICT, &text("&amp;lt;")), "&amp;amp;lt;");
+    // at a chunk's end, in a code line, in ticks
+    assert_eq!(
+        shown(STRICT, &text("a& &\n    & &lt;\n\n```&\n&gt;")),
+        "a&amp; &amp;&amp; &amp;lt;<br>\n```&amp;&amp;gt;"
+    );
+}
+
+/// 02, point 5: different bodies in one style, free of space and line end, have different escaped
+/// forms; all rows of up to five of these.
+#[test]
+fn strict_html_tells_bodies_apart() {
+    const PIECES: [&str; 8] = ["&", "<", ">", ";", "a", "amp;", "lt;", "gt"];
+    let mut forms = std::collections::BTreeMap::new();
+    for count in 0..=5 {
+        for mut row in 0..PIECES.len().pow(count) {
+            let mut body = String::new();
+            for _ in 0..count {
+                body.push_str(PIECES[row % PIECES.len()]);
+                row /= PIECES.len();
+            }
+            let page = rules::render(STRICT, &text(&body), ROOM).outcome.unwrap();
+            let page = String::from_utf8(page).unwrap();
+            assert_eq!(rules::shown_in_strict(&page), body);
+            let before = forms.insert(page, body.clone());
+            assert!(before.is_none_or(|before| before == body), "{body}");
+        }
+    }
 }
 
 // What 01 leaves to its reader

@@ -238,8 +238,8 @@ pub fn html<'r>(document: &[u8], html: Html, room: &'r mut [u8]) -> Result<&'r s
     text(room, answer)
 }
 
-/// HTML in which `&` becomes `&amp;`, except where it already opens `&amp;`, `&lt;` or `&gt;`
-/// within its chunk. Refusals and room as for [`html`].
+/// HTML in which every `&` of the text becomes `&amp;`, also one that opens `&amp;`, `&lt;` or
+/// `&gt;`: the page shows the text as it is. Refusals and room as for [`html`].
 pub fn html_strict<'r>(
     document: &[u8],
     html: Html,

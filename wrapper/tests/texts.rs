@@ -119,7 +119,7 @@ fn markup() {
     assert_eq!(sefgrunn::html_string(&document, Html::default()).unwrap(), "& &amp; &am; &&lt;");
     assert_eq!(
         sefgrunn::html_strict_string(&document, Html::default()).unwrap(),
-        "&amp; &amp; &amp;am; &amp;&lt;"
+        "&amp; &amp;amp; &amp;am; &amp;&lt;"
     );
     let styled = sefgrunn::html_string(&document, Html { full: true, css: true }).unwrap();
     assert!(styled.starts_with("& &amp; &am; &&lt;\n<style>\n") && styled.ends_with("</style>"));

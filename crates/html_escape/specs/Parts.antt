@@ -7,8 +7,8 @@ use Rattle.html_rules.specs.Markdown.{bracket}
 use Rattle.html_escape.specs.declared.Escape.{Escape}
 use Rattle.html_escape.specs.declared.Escape.the-variants as escape
 
--- what stands for a byte before the others of its chunk
-abbrev pub entityOf : Escape → ℕ → List ℕ → List ℕ
+-- what stands for a byte
+abbrev pub entityOf : Escape → ℕ → List ℕ
 entityOf escape.Html = entity false
 entityOf escape.Strict = entity true
 entityOf escape.Mono = bracket

@@ -1,13 +1,11 @@
 // Escapes of HTML, strict HTML and Markdown (src/buffer/html.rs).
 ghost use mathlib.Core.Path.{_≡_};
 ghost use mathlib.Core.Bool.{false, true};
-ghost use mathlib.Core.List.{[]};
-ghost use Prim.Native.Nat.{_+_, _<_};
-ghost use lib.ListN.{length, drop, getD};
+ghost use lib.ListN.{length};
 ghost use Rattle.base.specs.Result.{_>>=_ as bind};
 ghost use Rattle.room.specs.Room.{seen, extended};
 ghost use Rattle.html_rules.specs.Marks.{escapedBy};
-ghost use Rattle.html_rules.specs.Html.{entity, opensEntity};
+ghost use Rattle.html_rules.specs.Html.{entity};
 ghost use Rattle.html_rules.specs.Markdown.{bracket};
 ghost use Rattle.html_escape.specs.Parts.{entityOf};
 
@@ -18,22 +16,9 @@ pub enum Escape {
     Mono,
 }
 
-// Whether the bytes after an `&`, which start at `at`, make it one that strict HTML leaves.
-fn opens_entity(text: &[u8], at: usize) -> bool
-    ensures { λ r. ⌜ r ≡ opensEntity (drop at (now (text .entry))) ⌝ }
-{
-    if base::starts_with(text, at, b"amp;") {
-        return true;
-    }
-    if base::starts_with(text, at, b"lt;") {
-        return true;
-    }
-    base::starts_with(text, at, b"gt;")
-}
-
 // A byte as HTML.
 fn put_entity(room: &mut [u8], len: usize, byte: u8) -> usize
-    ensures { λ r. ⌜ seen (now (room .exit)) r ≡ bind (seen (now (room .entry)) len) (extended (length (now (room .entry))) (entity false byte [])) ⌝ }
+    ensures { λ r. ⌜ seen (now (room .exit)) r ≡ bind (seen (now (room .entry)) len) (extended (length (now (room .entry))) (entity false byte)) ⌝ }
 {
     if byte == b'<' {
         return room::put_all(room, len, b"&lt;");
@@ -44,22 +29,19 @@ fn put_entity(room: &mut [u8], len: usize, byte: u8) -> usize
     room::put(room, len, byte)
 }
 
-// A byte as strict HTML; the bytes after it start at `at`.
-fn put_strict(room: &mut [u8], len: usize, byte: u8, text: &[u8], at: usize) -> usize
-    ensures { λ r. ⌜ seen (now (room .exit)) r ≡ bind (seen (now (room .entry)) len) (extended (length (now (room .entry))) (entity true byte (drop at (now (text .entry))))) ⌝ }
+// A byte as strict HTML.
+fn put_strict(room: &mut [u8], len: usize, byte: u8) -> usize
+    ensures { λ r. ⌜ seen (now (room .exit)) r ≡ bind (seen (now (room .entry)) len) (extended (length (now (room .entry))) (entity true byte)) ⌝ }
 {
-    if byte != b'&' {
-        return put_entity(room, len, byte);
+    if byte == b'&' {
+        return room::put_all(room, len, b"&amp;");
     }
-    if opens_entity(text, at) {
-        return room::put(room, len, byte);
-    }
-    room::put_all(room, len, b"&amp;")
+    put_entity(room, len, byte)
 }
 
 // A byte as Markdown inside Mono.
 fn put_bracket(room: &mut [u8], len: usize, byte: u8) -> usize
-    ensures { λ r. ⌜ seen (now (room .exit)) r ≡ bind (seen (now (room .entry)) len) (extended (length (now (room .entry))) (bracket byte [])) ⌝ }
+    ensures { λ r. ⌜ seen (now (room .exit)) r ≡ bind (seen (now (room .entry)) len) (extended (length (now (room .entry))) (bracket byte)) ⌝ }
 {
     if byte == b'[' {
         return room::put_all(room, len, b"\\[");
@@ -70,15 +52,13 @@ fn put_bracket(room: &mut [u8], len: usize, byte: u8) -> usize
     room::put(room, len, byte)
 }
 
-// The byte of a chunk at `i`.
-fn put_escape(room: &mut [u8], len: usize, text: &[u8], i: usize, how: Escape) -> usize
-    requires { ⌜ i < length (now text) ⌝ }
-    ensures { λ r. ⌜ seen (now (room .exit)) r ≡ bind (seen (now (room .entry)) len) (extended (length (now (room .entry))) (entityOf how (getD (now (text .entry)) i 0) (drop (i + 1) (now (text .entry))))) ⌝ }
+// A byte of a chunk.
+fn put_escape(room: &mut [u8], len: usize, byte: u8, how: Escape) -> usize
+    ensures { λ r. ⌜ seen (now (room .exit)) r ≡ bind (seen (now (room .entry)) len) (extended (length (now (room .entry))) (entityOf how byte)) ⌝ }
 {
-    let byte = text[i];
     match how {
         Escape::Html => put_entity(room, len, byte),
-        Escape::Strict => put_strict(room, len, byte, text, i + 1),
+        Escape::Strict => put_strict(room, len, byte),
         Escape::Mono => put_bracket(room, len, byte),
     }
 }
@@ -90,7 +70,7 @@ pub fn put_escaped(room: &mut [u8], len: usize, text: &[u8], how: Escape) -> usi
     let mut n = len;
     let mut i: usize = 0;
     while i < text.len() {
-        n = put_escape(room, n, text, i, how);
+        n = put_escape(room, n, text[i], how);
         i += 1;
     }
     n

@@ -1,10 +1,9 @@
--- HTML and strict HTML (01, 'Port order', src/buffer/html.rs): the text of a document, in a room of some bytes.
+-- HTML and strict HTML (01, 'Port order', src/buffer/html.rs; strict HTML by 02, point 5): the text of a document, in a room of some bytes.
 use Prim.Native.Nat.{ℕ}
-use mathlib.Core.Bool.{Bool, not, _&&_, _||_}
+use mathlib.Core.Bool.{Bool, _&&_}
 use mathlib.Core.List.{List, [], _∷_, _++_}
 use lib.Dec.{eqb}
 use Rattle.base.specs.Choice.{if_then_else_}
-use Rattle.base.specs.Bytes.{startsWith}
 use Rattle.base.specs.Result.{Result, gives, refused, _>>=_}
 use Rattle.base.specs.Stack.{top, pushed, popped}
 use Rattle.utf8.specs.Utf8.{bytes}
@@ -94,17 +93,13 @@ br = bytes "<br>\n"
 
 -- Text (render_html, `Chunk::Raw`).
 
--- strict HTML: 'where, within its chunk, it already opens `&amp;`, `&lt;` or `&gt;`', of the bytes after an `&`
-unfoldable pub opensEntity : List ℕ → Bool
-opensEntity s = startsWith (bytes "amp;") s || startsWith (bytes "lt;") s || startsWith (bytes "gt;") s
-
--- a byte before the others of its chunk: `replace('<', "&lt;").replace('>', "&gt;")`; strict HTML is 'as HTML, and `&` becomes
--- `&amp;`, except where ..'
-unfoldable pub entity : Bool → ℕ → List ℕ → List ℕ
-entity strict b s =
+-- what stands for a byte: `replace('<', "&lt;").replace('>', "&gt;")`; in strict HTML also 'every `&` of the text must become `&amp;`'
+-- (02, point 5), whatever bytes follow it
+unfoldable pub entity : Bool → ℕ → List ℕ
+entity strict b =
     if eqb b 0x3C then bytes "&lt;" else
     if eqb b 0x3E then bytes "&gt;" else
-    if strict && eqb b 0x26 && not (opensEntity s) then bytes "&amp;" else b ∷ []
+    if strict && eqb b 0x26 then bytes "&amp;" else b ∷ []
 
 abbrev pub escaped : Bool → List ℕ → List ℕ
 escaped strict x = escapedBy (entity strict) x

@@ -68,8 +68,8 @@ closing style.Metavar = bytes "`_"
 closing style.Invalid = bytes "**"
 
 -- a byte inside Mono: `replace('[', "\\[").replace(']', "\\]")`
-unfoldable pub bracket : ℕ → List ℕ → List ℕ
-bracket b s = if eqb b 0x5B then bytes "\\[" else if eqb b 0x5D then bytes "\\]" else b ∷ []
+unfoldable pub bracket : ℕ → List ℕ
+bracket b = if eqb b 0x5B then bytes "\\[" else if eqb b 0x5D then bytes "\\]" else b ∷ []
 
 abbrev pub bracketed : List ℕ → List ℕ
 bracketed x = escapedBy bracket x

@@ -13,7 +13,7 @@ use Rattle.renderer.specs.Walk.{empty}
 unfoldable pub separated : ℕ → List ℕ → List ℕ → Result (List ℕ)
 separated room mark out = if empty out || endsWith mark out then gives out else extended room mark out
 
--- a chunk's bytes, each replaced by what stands for it before the bytes after it (`replace` in render_html and render_markdown)
-unfoldable pub escapedBy : (ℕ → List ℕ → List ℕ) → List ℕ → List ℕ
+-- a chunk's bytes, each replaced by what stands for it (`replace` in render_html and render_markdown)
+unfoldable pub escapedBy : (ℕ → List ℕ) → List ℕ → List ℕ
 escapedBy entity [] = []
-escapedBy entity (b ∷ s) = entity b s ++ escapedBy entity s
+escapedBy entity (b ∷ s) = entity b ++ escapedBy entity s

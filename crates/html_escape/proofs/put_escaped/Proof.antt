@@ -11,6 +11,8 @@ use Rattle.room.specs.Room.{seen}
 use Rattle.html_escape.specs.Parts.{entityOf}
 use Rattle.html_escape.proofs.Escapes.{rest, escaped-more, escaped-done}
 
+-- What the room shows, and then the escapes of the bytes from `i` on, is what the room showed at first, and then the escapes of all bytes.
+-- The bytes that are left become fewer.
 abbrev Inv-loop : tie.InvT-loop
 Inv-loop room₀ len text how n₀ i₀ room n i =
     (i ≤ length text) × (length room ≡ length room₀) × ((seen room n >>= rest (entityOf how) (length room₀) text i)
@@ -25,12 +27,14 @@ loop-holds c = (omega arith, refl, refl)
 loop-again : tie.Need-loop-again Inv-loop μ-loop
 loop-again c = (
   omega arith,
-  c .before .before .put-escape .kept .0 ∙ c .before .before .before .before .before .loop .inv .1,
+  c .before .before .put-escape .kept .0 ∙ c .before .before .before .before .before .before .loop .inv .1,
   escaped-more
-      (entityOf (c .before .before .before .before .before .before .before .before .args .how)) _
-      (now (c .before .before .before .before .before .before .before .before .args .text)) (c .before .before .before .before .before .loop .i) _ _ _ _ _
-      (c .before .before .before .before .loop-test .taken) (c .before .before .before .before .before .loop .inv .1) (c .before .before .put-escape .ensures)
-      ∙ c .before .before .before .before .before .loop .inv .2,
+      (entityOf (c .before .before .before .before .before .before .before .before .before .args .how)) _
+      (now (c .before .before .before .before .before .before .before .before .before .args .text))
+      (c .before .before .before .before .before .before .loop .i) _ _ _ _ _
+      (c .before .before .before .before .before .loop-test .taken) (c .before .before .before .before .before .before .loop .inv .1)
+      (c .before .before .put-escape .ensures)
+      ∙ c .before .before .before .before .before .before .loop .inv .2,
 )
 
 same-length : tie.Need-same-length Inv-loop μ-loop
@@ -48,6 +52,7 @@ put-escaped-spec =
     Inv-loop
     μ-loop
     loop-holds
+    (λ c. search needs)
     (λ c κs. search needs)
     (λ c. search needs)
     (λ c. search needs)
