@@ -53,7 +53,7 @@ module _ (s : List ℕ) (at : ℕ) where
 
     done : (utf8 (drop at s) ≡ true → at < length s → next ≡ at → ⊥) → UppercasedAt s at cased
     done n = record {
-      fits = g .fits;
+      fits = omega (arith, g .size, g .fits);
       order = g .order;
       within = g .within;
       on = λ v h. ⊎-elim (λ (q : next ≡ at). absurd (n v h q)) (λ (q : next ≡ at → ⊥). omega (arith, g .order, q)) (eq-or-not next at);

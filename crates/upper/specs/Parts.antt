@@ -94,7 +94,7 @@ pub record Wrote (old new : List ℕ) (len most : ℕ) (x : List ℕ) (r : ℕ) 
 -- From `at` on, the upper case of a text is the bytes handed back and then that from `next` on; where text stands at `at`, `next` is further.
 -- How far it is, and the bytes past `len`, are left free.
 pub record UppercasedAt (s : List ℕ) (at : ℕ) (r : Uppercased) : Type 0 where
-  pub fits : r .len ≤ 128
+  pub fits : r .len ≤ length (r .bytes)
   pub order : at ≤ r .next
   pub within : at ≤ length s → r .next ≤ length s
   pub on : utf8 (drop at s) ≡ true → at < length s → at < r .next

@@ -165,13 +165,14 @@ fn far(c: u32) -> Mapped
     one(u)
 }
 
-fn to_ascii_uppercase(c: u32) -> u32
+// `u8::to_ascii_uppercase`
+pub fn to_ascii_uppercase(c: u8) -> u8
     ensures { λ r. ⌜ r ≡ asciiUpper c ⌝ }
 {
-    if c < 0x61 {
+    if c < b'a' {
         return c;
     }
-    if 0x7A < c {
+    if b'z' < c {
         return c;
     }
     c - 32
@@ -183,7 +184,7 @@ fn maps_to(from: &[u16], to: &[u16], c: u32) -> Mapped
     ensures { λ r. ⌜ charactersOf r ≡ mapsTo c ⌝ }
 {
     if c < 0x80 {
-        return one(to_ascii_uppercase(c));
+        return one(to_ascii_uppercase(c as u8) as u32);
     }
     if c < 0x10000 {
         return near(from, to, c as u16);

@@ -13,7 +13,9 @@ pub maps-to-spec : {M : Type 1} → statement M
 maps-to-spec =
     tie.close
     (tie.spec
+    (λ c. search needs)
     (λ c κs. search needs)
+    (λ c. search needs)
     (λ c κs. search needs)
     returns
     (λ c. search needs)

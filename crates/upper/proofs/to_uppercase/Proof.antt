@@ -54,7 +54,8 @@ loop-again : tie.Need-loop-again Inv-loop μ-loop
 loop-again c =
     let d = c .before .before .before .before .before .before .before in
     let p = c .before .put-all in
-    going-more _ _ (head d .loop .inv) (d .before .before .before .loop-test .taken) (here d) (p .kept .0) (p .ensures) (ap encodeAll (c .before .before .maps-to .ensures))
+    going-more _ _ (head d .loop .inv) (d .before .before .before .loop-test .taken) (here d) (p .kept .0) (p .ensures)
+    (ap encodeAll (c .before .before .maps-to .ensures))
 
 returns : tie.Need-returns Inv-loop μ-loop
 returns c = going-none _ _ (c .before .before .before .before .loop .inv) (sym (c .before .before .decode .ensures) ∙ c .enum-told .given .1)
