@@ -2,4 +2,5 @@ pub mod Capturing
 pub mod Blocks
 pub mod Walking
 pub mod Whole
+pub mod Encoding
 pub mod Samples

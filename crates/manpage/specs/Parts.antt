@@ -1,11 +1,11 @@
 -- What the functions inside this crate promise each other; no rule of 01 stands here.
 use Prim.Native.Nat.{ℕ}
-use mathlib.Core.Bool.{Bool, true, false}
+use mathlib.Core.Bool.{Bool, true, false, _&&_}
 use mathlib.Core.List.{List, [], _∷_, _++_}
 use lib.Dec.{leb, ltb, eqb}
 use Rattle.base.specs.Choice.{if_then_else_}
 use Rattle.base.specs.Result.{Result, gives, refused}
-use Rattle.utf8.specs.Utf8.{bytes}
+use Rattle.utf8.specs.Utf8.{utf8, bytes}
 use Rattle.records.specs.Records.{Token, tokensFrom, index}
 use Rattle.records.specs.declared.Block.{Block}
 use Rattle.records.specs.declared.Kind.{Kind}
@@ -53,6 +53,11 @@ recordText (kind.Text st) x = x
 recordText (kind.Start b) x = []
 recordText (kind.End b) x = []
 recordText kind.Unknown x = []
+
+-- the text of each record is UTF-8 by itself, as in a document that was accepted
+unfoldable pub textsValid : List Token → Bool
+textsValid [] = true
+textsValid (t ∷ ts) = utf8 (recordText (t .kind) (t .body)) && textsValid ts
 
 -- the text of the records that start before a place
 unfoldable pub textTo : ℕ → List Token → List ℕ
