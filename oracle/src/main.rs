@@ -8,7 +8,7 @@ use oracle::cases::{answer, list, pattern, Answer, Call, Case};
 use oracle::generate::{self, Limits, Subject};
 use oracle::kept::confirm;
 use oracle::port;
-use oracle::rules::{Misreading, Renderer};
+use oracle::rules::{self, Misreading, Renderer};
 use oracle::worthless::Worthless;
 
 const NOT_LINKED: &str =
@@ -17,14 +17,15 @@ const NOT_LINKED: &str =
 const USAGE: &str = "\
 usage: oracle answer console|html|html_strict|markdown|roff
               [--width N] [--full 0|1] [--characters 0|1] [--css 0|1] [--room N] < document
-       oracle record check|console|html|html_strict|markdown|roff|builder|split|next_chunk
-              |tabstop
+       oracle record check|console|html|html_strict|markdown|roff|headings|builder|split
+              |next_chunk|tabstop
               --seed S --cases N [--max-bytes B] > list
        oracle compare --seed S --cases N [--only SUBJECT,..]
        oracle selfcheck --seed S --cases N [--only SUBJECT,..]
        oracle reach --seed S --cases N
        oracle bench DOCUMENT..
        oracle growth DOCUMENT
+       oracle upper
 ";
 
 /// The room and width of 01's program.
@@ -118,6 +119,7 @@ fn main() -> ExitCode {
                 .and_then(|a| run_selfcheck(&a)),
             "bench" => Ok(run_bench(arguments)),
             "growth" => Arguments::read(arguments, &[]).and_then(|a| run_growth(&a)),
+            "upper" => Arguments::read(arguments, &[]).and_then(|a| run_upper(&a)),
             "reach" => Arguments::read(arguments, &["seed", "cases"]).and_then(|a| run_reach(&a)),
             _ => Err("a command is missing or unknown".into()),
         };
@@ -135,6 +137,18 @@ fn write_out(bytes: &[u8]) -> ExitCode {
             ExitCode::FAILURE
         }
     }
+}
+
+/// The upper-case mapping: the version of its data, then each mapped character and what it becomes.
+fn run_upper(arguments: &Arguments) -> Parsed<ExitCode> {
+    arguments.no_operand()?;
+    let (major, minor, update) = char::UNICODE_VERSION;
+    let mut out = format!("Unicode {major}.{minor}.{update}\n");
+    for (c, upper) in rules::mapped() {
+        let upper: Vec<String> = upper.chars().map(|u| format!("{:04X}", u as u32)).collect();
+        out += &format!("{:04X}; {}\n", c as u32, upper.join(" "));
+    }
+    Ok(write_out(out.as_bytes()))
 }
 
 /// Runs a benchmark on the document at a path; says whether it was read and accepted.
@@ -166,6 +180,7 @@ fn run_bench(documents: impl Iterator<Item = String>) -> ExitCode {
     for path in &documents {
         fine &= timed(path, bench::page);
     }
+    bench::headings();
     bench::building_head();
     for path in &documents {
         fine &= timed(path, bench::building);
