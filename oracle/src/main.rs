@@ -8,7 +8,7 @@ use oracle::cases::{answer, list, pattern, Answer, Call, Case};
 use oracle::generate::{self, Limits, Subject};
 use oracle::kept::confirm;
 use oracle::port;
-use oracle::rules::{self, Misreading, Renderer};
+use oracle::rules::{Misreading, Renderer};
 use oracle::worthless::Worthless;
 
 const NOT_LINKED: &str =
@@ -25,7 +25,6 @@ usage: oracle answer console|html|html_strict|markdown|roff
        oracle reach --seed S --cases N
        oracle bench DOCUMENT..
        oracle growth DOCUMENT
-       oracle upper
 ";
 
 /// The room and width of 01's program.
@@ -119,7 +118,6 @@ fn main() -> ExitCode {
                 .and_then(|a| run_selfcheck(&a)),
             "bench" => Ok(run_bench(arguments)),
             "growth" => Arguments::read(arguments, &[]).and_then(|a| run_growth(&a)),
-            "upper" => Arguments::read(arguments, &[]).and_then(|a| run_upper(&a)),
             "reach" => Arguments::read(arguments, &["seed", "cases"]).and_then(|a| run_reach(&a)),
             _ => Err("a command is missing or unknown".into()),
         };
@@ -137,18 +135,6 @@ fn write_out(bytes: &[u8]) -> ExitCode {
             ExitCode::FAILURE
         }
     }
-}
-
-/// The upper-case mapping: the version of its data, then each mapped character and what it becomes.
-fn run_upper(arguments: &Arguments) -> Parsed<ExitCode> {
-    arguments.no_operand()?;
-    let (major, minor, update) = char::UNICODE_VERSION;
-    let mut out = format!("Unicode {major}.{minor}.{update}\n");
-    for (c, upper) in rules::mapped() {
-        let upper: Vec<String> = upper.chars().map(|u| format!("{:04X}", u as u32)).collect();
-        out += &format!("{:04X}; {}\n", c as u32, upper.join(" "));
-    }
-    Ok(write_out(out.as_bytes()))
 }
 
 /// Runs a benchmark on the document at a path; says whether it was read and accepted.

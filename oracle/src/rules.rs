@@ -47,9 +47,6 @@ pub fn printing(text: &[u8]) -> String {
     text.chars().filter(|&c| !is_white_space(c)).collect()
 }
 
-/// The version of the Unicode Character Database whose upper-case mapping the port has.
-pub const UPPER_VERSION: (u8, u8, u8) = (17, 0, 0);
-
 /// 02, point 6: the upper-case mapping of UnicodeData.txt with the unconditional entries of
 /// SpecialCasing.txt, in the version that the compiler reports; a character without an entry maps to
 /// itself. The compiler's `char::to_uppercase` is that mapping.
