@@ -1,4 +1,5 @@
 pub mod Capturing
+pub mod Casing
 pub mod Blocks
 pub mod Walking
 pub mod Whole

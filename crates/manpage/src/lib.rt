@@ -8,6 +8,7 @@ ghost use lib.ListN.{length, drop};
 ghost use Rattle.base.specs.Result.{_>>=_ as bind, measured};
 ghost use Rattle.utf8.specs.Utf8.{utf8};
 ghost use Rattle.upper.specs.Upper.{upper};
+ghost use Rattle.upper.specs.Parts.{Columns};
 ghost use Rattle.records.specs.Records.{tokens, tokensFrom};
 ghost use Rattle.records.specs.declared.Kind.the-variants as kind;
 ghost use Rattle.room.specs.Room.{seen, extended};
@@ -18,7 +19,7 @@ ghost use Rattle.roff_escape.specs.Escape.{escape, lineStart};
 ghost use Rattle.roff_escape.specs.Composer.{control, text};
 ghost use Rattle.roff_escape.specs.Parts.{Pushed};
 ghost use Rattle.manpage.specs.Roff.{fontOf, subsection, started, ended, roffOn, roff};
-ghost use Rattle.manpage.specs.Parts.{argumentPieces, locals, Follows, isHeading, isText, isTermRef, textsValid, between, beginning, opening, closing};
+ghost use Rattle.manpage.specs.Parts.{argumentPieces, locals, Follows, CasedTo, isHeading, isText, isTermRef, textsValid, between, beginning, opening, closing};
 use document::Checked;
 use records::Block;
 use records::Head;
@@ -38,6 +39,13 @@ struct Captured {
     len: usize,
     fresh: bool,
     some: bool,
+}
+
+// Text as far as it was written: the length then, whether a line starts there, and the place up to which it was read.
+struct Cased {
+    len: usize,
+    fresh: bool,
+    next: usize,
 }
 
 // `From<Style> for Font`
@@ -92,9 +100,17 @@ fn begin_at(capture: bool, from: usize, here: usize) -> usize
     if capture { from } else { here }
 }
 
-// Text of a heading from a place on, in upper case by the table.
-fn escape_mapped(room: &mut [u8], len: usize, start: bool, bytes: &[u8], at: usize) -> Line
-    requires { ⌜ utf8 (drop at (now bytes)) ≡ true ⌝ }
+// Text of a heading from a place on, in upper case by the table, of which two columns are lent.
+fn escape_mapped(
+    room: &mut [u8],
+    len: usize,
+    start: bool,
+    characters: &[u16],
+    capitals: &[u16],
+    bytes: &[u8],
+    at: usize,
+) -> Line
+    requires { ⌜ Columns (now characters) (now capitals) × (utf8 (drop at (now bytes)) ≡ true) ⌝ }
     ensures text { λ r. ⌜ seen (now (room .exit)) (r .len) ≡ bind (seen (now (room .entry)) len) (extended (length (now (room .entry))) (escape mode.Spaces start (upper (drop at (now (bytes .entry)))))) ⌝ }
     ensures line { λ r. ⌜ r .fresh ≡ lineStart mode.Spaces start (upper (drop at (now (bytes .entry)))) ⌝ }
 {
@@ -102,7 +118,7 @@ fn escape_mapped(room: &mut [u8], len: usize, start: bool, bytes: &[u8], at: usi
     let mut fresh = start;
     let mut i = at;
     while i < bytes.len() {
-        let cased = upper::to_uppercase(bytes, i);
+        let cased = upper::to_uppercase(characters, capitals, bytes, i);
         let stop = cased.len;
         let mapped = cased.bytes;
         let line = escape::escape_bytes(room, n, Escape::Spaces, fresh, &mapped[..stop]);
@@ -113,11 +129,10 @@ fn escape_mapped(room: &mut [u8], len: usize, start: bool, bytes: &[u8], at: usi
     Line { len: n, fresh }
 }
 
-// Text of a heading, in upper case; the table is needed from the first byte beyond ASCII on.
-fn escape_upper(room: &mut [u8], len: usize, start: bool, bytes: &[u8]) -> Line
+// Text of a heading in upper case, up to the first byte beyond ASCII.
+fn escape_upper(room: &mut [u8], len: usize, start: bool, bytes: &[u8]) -> Cased
     requires { ⌜ utf8 (now bytes) ≡ true ⌝ }
-    ensures text { λ r. ⌜ seen (now (room .exit)) (r .len) ≡ bind (seen (now (room .entry)) len) (extended (length (now (room .entry))) (escape mode.Spaces start (upper (now (bytes .entry))))) ⌝ }
-    ensures line { λ r. ⌜ r .fresh ≡ lineStart mode.Spaces start (upper (now (bytes .entry))) ⌝ }
+    ensures { λ r. ⌜ CasedTo (now (room .entry)) len start (now (bytes .entry)) (now (room .exit)) r ⌝ }
 {
     let mut n = len;
     let mut fresh = start;
@@ -125,17 +140,86 @@ fn escape_upper(room: &mut [u8], len: usize, start: bool, bytes: &[u8]) -> Line
     while i < bytes.len() {
         let b = bytes[i];
         if 0x7F < b {
-            return escape_mapped(room, n, fresh, bytes, i);
+            return Cased {
+                len: n,
+                fresh,
+                next: i,
+            };
         }
         let c = upper::to_ascii_uppercase(b);
         n = escape::put_byte(room, n, Escape::Spaces, fresh, c);
         fresh = escape::starts_line(Escape::Spaces, c);
         i += 1;
     }
+    Cased {
+        len: n,
+        fresh,
+        next: i,
+    }
+}
+
+// Text of a heading in upper case, ASCII first and then by the table, of which two columns are lent.
+fn escape_cased(
+    room: &mut [u8],
+    len: usize,
+    start: bool,
+    characters: &[u16],
+    capitals: &[u16],
+    bytes: &[u8],
+) -> Line
+    requires { ⌜ Columns (now characters) (now capitals) × (utf8 (now bytes) ≡ true) ⌝ }
+    ensures text { λ r. ⌜ seen (now (room .exit)) (r .len) ≡ bind (seen (now (room .entry)) len) (extended (length (now (room .entry))) (escape mode.Spaces start (upper (now (bytes .entry))))) ⌝ }
+    ensures line { λ r. ⌜ r .fresh ≡ lineStart mode.Spaces start (upper (now (bytes .entry))) ⌝ }
+{
+    let a = escape_upper(room, len, start, bytes);
+    escape_mapped(room, a.len, a.fresh, characters, capitals, bytes, a.next)
+}
+
+// The rest of a record's text, from its first byte beyond ASCII on, and then the text between two places, all in upper case: the columns are
+// named here once for a heading, and lent.
+fn put_mapped(
+    room: &mut [u8],
+    len: usize,
+    start: bool,
+    bytes: &[u8],
+    i: usize,
+    document: &[u8],
+    from: usize,
+    to: usize,
+) -> Line
+    requires { ⌜ (utf8 (drop i (now bytes)) ≡ true) × (to ≤ length (now document)) × (textsValid (tokensFrom (now document) from) ≡ true) ⌝ }
+    ensures text { λ r. ⌜ seen (now (room .exit)) (r .len) ≡ bind (seen (now (room .entry)) len) (extended (length (now (room .entry))) (escape mode.Spaces start (upper (drop i (now (bytes .entry))) ++ upper (between (now (document .entry)) from to)))) ⌝ }
+    ensures line { λ r. ⌜ r .fresh ≡ lineStart mode.Spaces start (upper (drop i (now (bytes .entry))) ++ upper (between (now (document .entry)) from to)) ⌝ }
+{
+    let characters = upper::from_column();
+    let capitals = upper::to_column();
+    let first = escape_mapped(room, len, start, &characters, &capitals, bytes, i);
+    let mut n = first.len;
+    let mut fresh = first.fresh;
+    let mut at = from;
+    while at < to {
+        let h = records::record_at(document, at);
+        let begin = h.start;
+        let stop = h.stop;
+        let next = h.next;
+        if holds_text(h) {
+            let line = escape_cased(
+                room,
+                n,
+                fresh,
+                &characters,
+                &capitals,
+                &document[begin..stop],
+            );
+            n = line.len;
+            fresh = line.fresh;
+        }
+        at = next;
+    }
     Line { len: n, fresh }
 }
 
-// The text between two places in upper case, from its records read again.
+// The text between two places in upper case, from its records read again. From the first byte beyond ASCII on the table is needed.
 fn put_captured(
     room: &mut [u8],
     len: usize,
@@ -159,9 +243,26 @@ fn put_captured(
         let stop = h.stop;
         let next = h.next;
         if holds_text(h) {
-            let line = escape_upper(room, n, fresh, &document[begin..stop]);
-            n = line.len;
-            fresh = line.fresh;
+            let a = escape_upper(room, n, fresh, &document[begin..stop]);
+            if a.next < stop - begin {
+                let line = put_mapped(
+                    room,
+                    a.len,
+                    a.fresh,
+                    &document[begin..stop],
+                    a.next,
+                    document,
+                    next,
+                    to,
+                );
+                return Captured {
+                    len: line.len,
+                    fresh: line.fresh,
+                    some: true,
+                };
+            }
+            n = a.len;
+            fresh = a.fresh;
             some = true;
         }
         at = next;

@@ -13,7 +13,7 @@ use Rattle.base.specs.Choice.{if_then_else_, among}
 use Rattle.base.proofs.Choice.{if-true, if-false, and-left, and-right, and-both}
 use Rattle.upper.specs.Table.{Entry, table}
 use Rattle.upper.specs.Upper.{from, to, entryOf, mapsTo, ascending, inOrder}
-use Rattle.upper.specs.Parts.{near, far, fromColumn, toColumn, longerColumn, farFromColumn, farToColumn, Found, threeAt}
+use Rattle.upper.specs.Parts.{single, codes, near, far, fromColumn, toColumn, longerColumn, farFromColumn, farToColumn, Columns, Found, threeAt}
 use Rattle.upper.proofs.Tables.{none, is-before, rest-in-order, in-order, each-entry, no-entry, below-order, beyond-order, entry-below, entry-beyond}
 use Rattle.upper.proofs.Whole.{whole}
 
@@ -73,20 +73,21 @@ record Agrees (long : List ℕ) (e : Entry) (u : ℕ) : Type 0 where
   says : said long u ≡ to e
 
 agree-at : (long : List ℕ) (es : List Entry) (us : List ℕ) → agree long es us ≡ true → (k : ℕ) → k < length es
-    → (k < length us) × Agrees long (getD es k none) (getD us k 0)
+    → Agrees long (getD es k none) (getD us k 0)
 agree-at long [] us a k h = absurd (not-suc-le-zero h)
 agree-at long (e ∷ es) [] a k h = absurd (false≢true a)
 agree-at long (e ∷ es) (u ∷ us) a zero h =
-    let t = and-left (inside long u && same (said long u) (to e)) (agree long es us) a in (
-      omega arith,
-      record {
-        place = and-left (inside long u) (same (said long u) (to e)) t;
-        says = same-eq _ _ (and-right (inside long u) (same (said long u) (to e)) t);
-      },
-    )
+    let t = and-left (inside long u && same (said long u) (to e)) (agree long es us) a in
+    record {
+      place = and-left (inside long u) (same (said long u) (to e)) t;
+      says = same-eq _ _ (and-right (inside long u) (same (said long u) (to e)) t);
+    }
 agree-at long (e ∷ es) (u ∷ us) a (suc k) h =
-    let i = agree-at long es us (and-right (inside long u && same (said long u) (to e)) (agree long es us) a) k (le-of-suc-le-suc h) in
-    (omega (arith, i .0), i .1)
+    agree-at long es us (and-right (inside long u && same (said long u) (to e)) (agree long es us) a) k (le-of-suc-le-suc h)
+
+codes-length : (place : ℕ) (es : List Entry) → length (codes place es) ≡ length es
+codes-length place [] = refl
+codes-length place (e ∷ es) = ap suc (codes-length (place + (if single (to e) then 0 else 3)) es)
 
 not-coded : (u : ℕ) → (u < 0xD800) ⊎ (0xDFFF < u) → coded u ≡ false
 not-coded u h = ⊎-elim (λ (l : u < 0xD800). rw (lt-leb 0xD800 u l)) (λ (l : 0xDFFF < u). rw (lt-leb u 0xDFFF l) (and-false (leb 0xD800 u))) h
@@ -101,36 +102,42 @@ pub record NearRow (c u : ℕ) : Type 0 where
   pub several : 0xD800 ≤ u → u ≤ 0xDFFF → threeAt longerColumn (u - 0xD800) ≡ mapsTo c
 
 -- A character below U+10000, and where the search in the column `FROM` ended.
-module _ (c k : ℕ) (l : c < 0x10000) (xs ys : List ℕ) (p : xs ≡ fromColumn) (q : ys ≡ toColumn) (f : Found xs c k) where
+module _ (c k : ℕ) (l : c < 0x10000) (xs ys : List ℕ) (p : Columns xs ys) (f : Found xs c k) where
   near-map : mapsTo c ≡ entryOf near c
   unfolding mapsTo near
   near-map = entry-below 0x10000 table c whole l
 
   from-length : length xs ≡ length near
   unfolding fromColumn
-  from-length = ap length p ∙ length-map near from
+  from-length = ap length (p .0) ∙ length-map near from
+
+  to-length : length ys ≡ length near
+  unfolding toColumn
+  to-length = ap length (p .1) ∙ codes-length 0 near
 
   from-at : (j : ℕ) → getD xs j 0 ≡ from (getD near j none)
   unfolding fromColumn
-  from-at j = ap (λ (l : List ℕ). getD l j 0) p ∙ List·getD-map from near j none
+  from-at j = ap (λ (l : List ℕ). getD l j 0) (p .0) ∙ List·getD-map from near j none
 
-  pub near-none : length xs ≤ k → c ∷ [] ≡ mapsTo c
-  near-none h = sym (near-map ∙ no-entry near c (λ j g e. f .nowhere h j (rw from-length g) (from-at j ∙ e)))
+  pub near-none : length ys ≤ k → c ∷ [] ≡ mapsTo c
+  near-none h =
+      let n : length xs ≤ k = omega (arith, from-length, to-length) in
+      sym (near-map ∙ no-entry near c (λ j g e. f .nowhere (ap ascending (p .0) ∙ from-ascends) n j (rw from-length g) (from-at j ∙ e)))
 
-  module _ (h : k < length xs) where
-    entry : (k < length ys) × Agrees longerColumn (getD near k none) (getD ys k 0)
-    entry = rw q (agree-at longerColumn near toColumn near-agree k (rw (← from-length) h))
+  module _ (h : k < length ys) where
+    found : k < length near
+    found = rw (← to-length) h
+
+    entry : Agrees longerColumn (getD near k none) (getD ys k 0)
+    entry = rw (p .1) (agree-at longerColumn near toColumn near-agree k found)
 
     near-entry : mapsTo c ≡ said longerColumn (getD ys k 0)
-    near-entry = near-map ∙ entry-found near near-order c k (rw (← from-length) h) (sym (from-at k) ∙ f .here h) ∙ sym (entry .1 .says)
-
-    pub near-inside : k < length ys
-    near-inside = entry .0
+    near-entry = near-map ∙ entry-found near near-order c k found (sym (from-at k) ∙ f .here (rw from-length found)) ∙ sym (entry .says)
 
     pub near-row : NearRow c (getD ys k 0)
     near-row = record {
       one = λ n. sym (near-entry ∙ if-false _ _ (not-coded (getD ys k 0) n));
-      place = λ g m. leb-true _ _ (rw (if-true _ _ (is-coded (getD ys k 0) g m)) at (entry .1 .place));
+      place = λ g m. leb-true _ _ (rw (if-true _ _ (is-coded (getD ys k 0) g m)) at (entry .place));
       several = λ g m. sym (near-entry ∙ if-true _ _ (is-coded (getD ys k 0) g m));
     }
 
@@ -208,7 +215,7 @@ module _ (c : ℕ) (l : 0x10000 ≤ c) where
     far-from-at j = ap (λ (l : List ℕ). getD l j 0) p ∙ List·getD-map (λ e. low (from e)) far j none
 
     pub far-none : length xs ≤ k → c ∷ [] ≡ mapsTo c
-    far-none h = sym (far-map ∙ no-entry far c (λ j g e. f .nowhere h j (rw far-from-length g) (far-from-at j ∙ ap low e)))
+    far-none h = sym (far-map ∙ no-entry far c (λ j g e. f .nowhere (ap ascending p ∙ far-from-ascends) h j (rw far-from-length g) (far-from-at j ∙ ap low e)))
 
     pub far-one : (ys : List ℕ) → ys ≡ farToColumn → k < length xs → (0x10000 + getD ys k 0) ∷ [] ≡ mapsTo c
     unfolding farToColumn

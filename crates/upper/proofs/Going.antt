@@ -17,8 +17,6 @@ use Rattle.upper.proofs.Text.{upper-step}
 
 -- the text from `at` up to `next` stands in a buffer in upper case, as its first `len` bytes
 pub record Going (s : List ℕ) (at : ℕ) (bytes : List ℕ) (len next : ℕ) : Type 0 where
-  pub size : length bytes ≡ 128
-  pub fits : len ≤ 128
   pub order : at ≤ next
   pub within : at ≤ length s → next ≤ length s
   pub moved : next ≡ at → len ≡ 0
@@ -26,18 +24,16 @@ pub record Going (s : List ℕ) (at : ℕ) (bytes : List ℕ) (len next : ℕ) :
   pub text : upper (drop at s) ≡ take len bytes ++ upper (drop next s)
 
 module _ (s : List ℕ) (at : ℕ) where
-  pub going-first : (bytes : List ℕ) → length bytes ≡ 128 → Going s at bytes 0 at
-  going-first bytes e = record { size = e; fits = omega arith; order = omega arith; within = λ h. h; moved = λ _. refl; valid = refl; text = refl }
+  pub going-first : (bytes : List ℕ) → Going s at bytes 0 at
+  going-first bytes = record { order = omega arith; within = λ h. h; moved = λ _. refl; valid = refl; text = refl }
 
   module _ {bytes : List ℕ} {len next : ℕ} (g : Going s at bytes len next) where
     -- one character more
-    pub going-more : {new x : List ℕ} {r c after : ℕ} → len ≤ 116 → characterAt s next ≡ Char c after → length new ≡ length bytes
+    pub going-more : {new x : List ℕ} {r c after : ℕ} → characterAt s next ≡ Char c after
         → Wrote bytes new len 12 x r → x ≡ encodeAll (mapsTo c) → Going s at new r after
-    going-more {new} {x} {r} {c} {after} h e l w q =
+    going-more {new} {x} {r} {c} {after} e w q =
         let d = read-character s next c after e in
         record {
-          size = l ∙ g .size;
-          fits = omega (arith, w .within);
           order = omega (arith, g .order, d .later);
           within = λ _. d .room;
           moved = λ (p : after ≡ at). absurd (let z : ⊥ = omega (arith, g .order, d .later) in z);
@@ -53,7 +49,6 @@ module _ (s : List ℕ) (at : ℕ) where
 
     done : (utf8 (drop at s) ≡ true → at < length s → next ≡ at → ⊥) → UppercasedAt s at cased
     done n = record {
-      fits = omega (arith, g .size, g .fits);
       order = g .order;
       within = g .within;
       on = λ v h. ⊎-elim (λ (q : next ≡ at). absurd (n v h q)) (λ (q : next ≡ at → ⊥). omega (arith, g .order, q)) (eq-or-not next at);
@@ -62,7 +57,7 @@ module _ (s : List ℕ) (at : ℕ) where
     }
 
     -- no further character surely fits
-    pub going-full : 116 < len → UppercasedAt s at cased
+    pub going-full : 52 < len → UppercasedAt s at cased
     going-full h = done (λ v l q. omega (arith, g .moved q))
 
     -- none stands there

@@ -29,27 +29,27 @@ ascends (x ∷ xs) e zero (suc j) h l = first-least x xs e j (le-of-suc-le-suc l
 ascends (x ∷ xs) e (suc i) (suc j) h l =
     ascends xs (and-right (under x xs) (ascending xs) e) i j (le-of-suc-le-suc h) (le-of-suc-le-suc l)
 
--- what stands before lo is below c, and what stands from hi on is not
+-- in a list that ascends, what stands before lo is below c, and what stands from hi on is not
 pub record Between (xs : List ℕ) (c lo hi : ℕ) : Type 0 where
   pub order : lo ≤ hi
   pub inside : hi ≤ length xs
-  pub below : (k : ℕ) → k < lo → getD xs k 0 < c
-  pub from : (k : ℕ) → hi ≤ k → k < length xs → c ≤ getD xs k 0
+  pub below : ascending xs ≡ true → (k : ℕ) → k < lo → getD xs k 0 < c
+  pub from : ascending xs ≡ true → (k : ℕ) → hi ≤ k → k < length xs → c ≤ getD xs k 0
 
 pub at-first : (xs : List ℕ) (c : ℕ) → Between xs c 0 (length xs)
 at-first xs c = record {
   order = omega arith;
   inside = omega arith;
-  below = λ k h. absurd (not-suc-le-zero h);
-  from = λ k g h. let z : ⊥ = omega arith in absurd z;
+  below = λ a k h. absurd (not-suc-le-zero h);
+  from = λ a k g h. let z : ⊥ = omega arith in absurd z;
 }
 
-module _ (xs : List ℕ) (a : ascending xs ≡ true) (c lo hi : ℕ) (b : Between xs c lo hi) where
+module _ (xs : List ℕ) (c lo hi : ℕ) (b : Between xs c lo hi) where
   pub go-up : (m : ℕ) → m < hi → getD xs m 0 < c → Between xs c (m + 1) hi
   go-up m h l = record {
     order = omega arith;
     inside = b .inside;
-    below = λ k g. ⊎-elim (λ (q : k ≡ m). rw q l) (λ (q : k < m). let w = ascends xs a k m q (omega (arith, b .inside)) in omega arith)
+    below = λ a k g. ⊎-elim (λ (q : k ≡ m). rw q l) (λ (q : k < m). let w = ascends xs a k m q (omega (arith, b .inside)) in omega arith)
         (eq-or-lt-of-le (let z : k ≤ m = omega arith in z));
     from = b .from;
   }
@@ -59,20 +59,20 @@ module _ (xs : List ℕ) (a : ascending xs ≡ true) (c lo hi : ℕ) (b : Betwee
     order = g;
     inside = omega (arith, b .inside);
     below = b .below;
-    from = λ k p q. ⊎-elim (λ (e : m ≡ k). rw (← e) l) (λ (e : m < k). let w = ascends xs a m k e q in omega arith) (eq-or-lt-of-le p);
+    from = λ a k p q. ⊎-elim (λ (e : m ≡ k). rw (← e) l) (λ (e : m < k). let w = ascends xs a m k e q in omega arith) (eq-or-lt-of-le p);
   }
 
   -- once lo and hi have met
   pub met-here : lo < length xs → getD xs lo 0 ≡ c → Found xs c lo
-  met-here h e = record { inside = omega arith; here = λ _. e; nowhere = λ l. absurd (let z : ⊥ = omega arith in z) }
+  met-here h e = record { inside = omega arith; here = λ _. e; nowhere = λ _ l. absurd (let z : ⊥ = omega arith in z) }
 
   pub met-other : hi ≤ lo → lo < length xs → (getD xs lo 0 ≡ c → ⊥) → Found xs c (length xs)
   met-other z h n = record {
     inside = omega arith;
     here = λ l. absurd (let z : ⊥ = omega arith in z);
-    nowhere = λ _ k g e. ⊎-elim
-        (λ (p : lo ≤ k). ⊎-elim (λ (q : lo ≡ k). n (rw q e)) (λ (q : lo < k). omega (arith, ascends xs a lo k q g, b .from lo z h)) (eq-or-lt-of-le p))
-        (λ (p : k < lo). let w = b .below k p in omega arith)
+    nowhere = λ a _ k g e. ⊎-elim
+        (λ (p : lo ≤ k). ⊎-elim (λ (q : lo ≡ k). n (rw q e)) (λ (q : lo < k). omega (arith, ascends xs a lo k q g, b .from a lo z h)) (eq-or-lt-of-le p))
+        (λ (p : k < lo). let w = b .below a k p in omega arith)
         (le-or-lt lo k);
   }
 
@@ -80,5 +80,5 @@ module _ (xs : List ℕ) (a : ascending xs ≡ true) (c lo hi : ℕ) (b : Betwee
   met-end z = record {
     inside = omega arith;
     here = λ l. absurd (let z : ⊥ = omega arith in z);
-    nowhere = λ _ k g e. let w = b .below k (omega arith) in omega arith;
+    nowhere = λ a _ k g e. let w = b .below a k (omega arith) in omega arith;
   }

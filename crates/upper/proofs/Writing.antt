@@ -9,9 +9,8 @@ use lib.ListN.{length, take, drop, set}
 use lib.Seq.{length-take-le, take-append-add, take-append-le, sets-eq}
 use borrow.Author.Tests.{lt-ltb, le-ltb, ltb-true, leb-true, eq-eqb, ne-eqb}
 use Rattle.base.specs.Choice.{if_then_else_, among}
-use Rattle.base.proofs.Choice.{and-left, and-right}
+use Rattle.base.proofs.Choice.{and-right}
 use Rattle.utf8.specs.Utf8.{encode, encodeAll, scalar}
-use Rattle.upper.specs.Upper.{scalars}
 use Rattle.upper.specs.Parts.{charactersOf, Wrote}
 use Rattle.upper.specs.declared.Mapped.{Mapped}
 
@@ -110,15 +109,3 @@ module _ (m : Mapped) where
   bytes-of-three n o =
       append-assoc (encode (m .first)) (encode (m .second)) (encode (m .third))
       ∙ sym (ap encodeAll (three-of n o) ∙ ap (λ (l : List ℕ). encode (m .first) ++ (encode (m .second) ++ l)) (append-nil (encode (m .third))))
-
-  module _ (s : scalars (charactersOf m) ≡ true) where
-    pub first-scalar : scalar (m .first) ≡ true
-    first-scalar = and-left (scalar (m .first)) _ s
-
-    pub second-scalar : (m .second ≡ 0 → ⊥) → scalar (m .second) ≡ true
-    second-scalar n = and-left (scalar (m .second)) _ (and-right (scalar (m .first)) _ (sym (ap scalars (some-of n)) ∙ s))
-
-    pub third-scalar : (m .second ≡ 0 → ⊥) → (m .third ≡ 0 → ⊥) → scalar (m .third) ≡ true
-    third-scalar n o =
-        and-left (scalar (m .third)) true
-        (and-right (scalar (m .second)) _ (and-right (scalar (m .first)) _ (sym (ap scalars (three-of n o)) ∙ s)))

@@ -8,7 +8,7 @@ use lib.ListN.{length, getD, take, drop}
 use Rattle.base.specs.Choice.{if_then_else_}
 use Rattle.utf8.specs.Utf8.{utf8, encode}
 use Rattle.upper.specs.Table.{Entry, table}
-use Rattle.upper.specs.Upper.{from, to, upper}
+use Rattle.upper.specs.Upper.{from, to, upper, ascending}
 use Rattle.upper.specs.declared.Encoded.{Encoded}
 use Rattle.upper.specs.declared.Mapped.{Mapped}
 use Rattle.upper.specs.declared.Uppercased.{Uppercased}
@@ -61,11 +61,15 @@ farFromColumn = map (λ e. from e - 0x10000) far
 unfoldable pub farToColumn : List ℕ
 farToColumn = map (λ e. getD (to e) 0 0 - 0x10000) far
 
--- r is where c stands in a list, or its length where c does not
+-- the two columns that a caller lends: promises hold where they are these
+abbrev pub Columns : List ℕ → List ℕ → Type 0
+Columns from to = (from ≡ fromColumn) × (to ≡ toColumn)
+
+-- r is where c stands in a list, or its length where the list ascends and c does not stand in it
 pub record Found (xs : List ℕ) (c r : ℕ) : Type 0 where
   pub inside : r ≤ length xs
   pub here : r < length xs → getD xs r 0 ≡ c
-  pub nowhere : length xs ≤ r → (k : ℕ) → k < length xs → getD xs k 0 ≡ c → ⊥
+  pub nowhere : ascending xs ≡ true → length xs ≤ r → (k : ℕ) → k < length xs → getD xs k 0 ≡ c → ⊥
 
 -- a character, a second where that is not 0, and then a third where that is not 0
 abbrev pub threeOf : ℕ → ℕ → ℕ → List ℕ
@@ -73,6 +77,10 @@ threeOf a b c = a ∷ (if eqb b 0 then [] else b ∷ (if eqb c 0 then [] else c 
 
 abbrev pub charactersOf : Mapped → List ℕ
 charactersOf m = threeOf (m .first) (m .second) (m .third)
+
+-- all three numbers are code points, which have at most four bytes
+abbrev pub Points : Mapped → Type 0
+Points m = (m .first ≤ 0x10FFFF) × (m .second ≤ 0x10FFFF) × (m .third ≤ 0x10FFFF)
 
 -- the characters at a place of a column of threes
 abbrev pub threeAt : List ℕ → ℕ → List ℕ
@@ -94,7 +102,6 @@ pub record Wrote (old new : List ℕ) (len most : ℕ) (x : List ℕ) (r : ℕ) 
 -- From `at` on, the upper case of a text is the bytes handed back and then that from `next` on; where text stands at `at`, `next` is further.
 -- How far it is, and the bytes past `len`, are left free.
 pub record UppercasedAt (s : List ℕ) (at : ℕ) (r : Uppercased) : Type 0 where
-  pub fits : r .len ≤ length (r .bytes)
   pub order : at ≤ r .next
   pub within : at ≤ length s → r .next ≤ length s
   pub on : utf8 (drop at s) ≡ true → at < length s → at < r .next

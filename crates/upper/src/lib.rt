@@ -1,12 +1,11 @@
 // Upper case by the Unicode Character Database: the characters of a text, each looked up in a table (`str::to_uppercase`).
 ghost use mathlib.Core.Path.{_≡_};
-ghost use mathlib.Core.Bool.{true};
 ghost use mathlib.Core.List.{[], _∷_};
 ghost use Prim.Native.Nat.{_<_, _≤_, _+_, _%_};
 ghost use lib.ListN.{length};
-ghost use Rattle.utf8.specs.Utf8.{encodeAll, scalar};
-ghost use Rattle.upper.specs.Upper.{mapsTo, ascending, scalars, asciiUpper};
-ghost use Rattle.upper.specs.Parts.{fromColumn, toColumn, longerColumn, farFromColumn, farToColumn, Found, charactersOf, threeAt, bytesOf, EncodedAs, Wrote, UppercasedAt};
+ghost use Rattle.utf8.specs.Utf8.{encodeAll};
+ghost use Rattle.upper.specs.Upper.{mapsTo, asciiUpper};
+ghost use Rattle.upper.specs.Parts.{fromColumn, toColumn, longerColumn, farFromColumn, farToColumn, Columns, Found, Points, charactersOf, threeAt, bytesOf, EncodedAs, Wrote, UppercasedAt};
 
 mod table;
 
@@ -38,19 +37,19 @@ pub struct Encoded {
 
 // Some of a text in upper case, and the place up to which it was read.
 pub struct Uppercased {
-    pub bytes: [u8; 128],
+    pub bytes: [u8; 64],
     pub len: usize,
     pub next: usize,
 }
 
-// A column is built anew wherever it is named. These two are named once for many characters, and lent.
-fn from_column() -> [u16; NEAR]
+// A column is built anew wherever it is named. These two are named once for all text that a caller has, and lent.
+pub fn from_column() -> [u16; NEAR]
     ensures { λ r. ⌜ r ≡ fromColumn ⌝ }
 {
     FROM
 }
 
-fn to_column() -> [u16; NEAR]
+pub fn to_column() -> [u16; NEAR]
     ensures { λ r. ⌜ r ≡ toColumn ⌝ }
 {
     TO
@@ -77,7 +76,6 @@ fn far_to_column() -> [u16; FAR]
 
 // Where c stands in an ascending column, or the column's length: binary search.
 fn find(column: &[u16], c: u16) -> usize
-    requires { ⌜ ascending (now column) ≡ true ⌝ }
     ensures { λ r. ⌜ Found (now (column .entry)) c r ⌝ }
 {
     let mut lo: usize = 0;
@@ -106,7 +104,9 @@ fn wide(x: u16) -> u32
 
 // A character that maps to one.
 fn one(c: u32) -> Mapped
-    ensures { λ r. ⌜ charactersOf r ≡ c ∷ [] ⌝ }
+    requires { ⌜ c ≤ 0x10FFFF ⌝ }
+    ensures characters { λ r. ⌜ charactersOf r ≡ c ∷ [] ⌝ }
+    ensures points { λ r. ⌜ Points r ⌝ }
 {
     Mapped {
         first: c,
@@ -118,7 +118,8 @@ fn one(c: u32) -> Mapped
 // The characters at a place of the longer mappings.
 fn longer(place: usize) -> Mapped
     requires { ⌜ place + 3 ≤ length longerColumn ⌝ }
-    ensures { λ r. ⌜ charactersOf r ≡ threeAt longerColumn place ⌝ }
+    ensures characters { λ r. ⌜ charactersOf r ≡ threeAt longerColumn place ⌝ }
+    ensures points { λ r. ⌜ Points r ⌝ }
 {
     let column = longer_column();
     Mapped {
@@ -128,13 +129,13 @@ fn longer(place: usize) -> Mapped
     }
 }
 
-// What a character below U+10000 maps to, by the two columns.
+// What a character below U+10000 maps to, by the two columns. Whatever columns are lent, no place beyond the longer mappings is read.
 fn near(from: &[u16], to: &[u16], c: u16) -> Mapped
-    requires { ⌜ (now from ≡ fromColumn) × (now to ≡ toColumn) ⌝ }
-    ensures { λ r. ⌜ charactersOf r ≡ mapsTo c ⌝ }
+    ensures characters { λ r. ⌜ (Columns (now (from .entry)) (now (to .entry)) → charactersOf r ≡ mapsTo c) ⌝ }
+    ensures points { λ r. ⌜ Points r ⌝ }
 {
     let k = find(from, c);
-    if from.len() <= k {
+    if to.len() <= k {
         return one(wide(c));
     }
     let u = to[k];
@@ -144,13 +145,18 @@ fn near(from: &[u16], to: &[u16], c: u16) -> Mapped
     if 0xDFFF < u {
         return one(wide(u));
     }
-    longer((u - 0xD800) as usize)
+    let place = (u - 0xD800) as usize;
+    if LONG < place + 3 {
+        return one(wide(c));
+    }
+    longer(place)
 }
 
 // What a character from U+10000 on maps to.
 fn far(c: u32) -> Mapped
-    requires { ⌜ 0x10000 ≤ c ⌝ }
-    ensures { λ r. ⌜ charactersOf r ≡ mapsTo c ⌝ }
+    requires { ⌜ (0x10000 ≤ c) × (c ≤ 0x10FFFF) ⌝ }
+    ensures characters { λ r. ⌜ charactersOf r ≡ mapsTo c ⌝ }
+    ensures points { λ r. ⌜ Points r ⌝ }
 {
     if 0x1FFFF < c {
         return one(c);
@@ -178,10 +184,11 @@ pub fn to_ascii_uppercase(c: u8) -> u8
     c - 32
 }
 
-// What a character maps to: its entry of the table, or itself. The columns are lent.
+// What a character maps to: its entry of the table, or itself; the columns are lent.
 fn maps_to(from: &[u16], to: &[u16], c: u32) -> Mapped
-    requires { ⌜ (now from ≡ fromColumn) × (now to ≡ toColumn) ⌝ }
-    ensures { λ r. ⌜ charactersOf r ≡ mapsTo c ⌝ }
+    requires { ⌜ c ≤ 0x10FFFF ⌝ }
+    ensures characters { λ r. ⌜ (Columns (now (from .entry)) (now (to .entry)) → charactersOf r ≡ mapsTo c) ⌝ }
+    ensures points { λ r. ⌜ Points r ⌝ }
 {
     if c < 0x80 {
         return one(to_ascii_uppercase(c as u8) as u32);
@@ -201,7 +208,7 @@ fn continuation(c: u32) -> u8
 
 // The bytes of a character (table 3-6).
 fn encode(c: u32) -> Encoded
-    requires { ⌜ scalar c ≡ true ⌝ }
+    requires { ⌜ c ≤ 0x10FFFF ⌝ }
     ensures { λ r. ⌜ EncodedAs c r ⌝ }
 {
     if c < 0x80 {
@@ -254,7 +261,7 @@ fn put(out: &mut [u8], len: usize, e: Encoded) -> usize
 
 // The bytes of the characters that one maps to: at most three of at most four.
 fn put_all(out: &mut [u8], len: usize, m: Mapped) -> usize
-    requires { ⌜ (len + 12 ≤ length (now out)) × (scalars (charactersOf m) ≡ true) ⌝ }
+    requires { ⌜ (len + 12 ≤ length (now out)) × Points m ⌝ }
     ensures { λ r. ⌜ Wrote (now (out .entry)) (now (out .exit)) len 12 (encodeAll (charactersOf m)) r ⌝ }
 {
     let a = put(out, len, encode(m.first));
@@ -268,21 +275,20 @@ fn put_all(out: &mut [u8], len: usize, m: Mapped) -> usize
     put(out, b, encode(m.third))
 }
 
-// The text from a place on in upper case, as much of it as surely fits. It ends early only where no character stands. What stays free: how far
-// one call comes, and the bytes past `len`.
-pub fn to_uppercase(text: &[u8], at: usize) -> Uppercased
-    ensures { λ r. ⌜ UppercasedAt (now (text .entry)) at r ⌝ }
+// The text from a place on in upper case, as much of it as surely fits, by the columns of `from_column` and `to_column`. It ends early only where no
+// character stands. What stays free: how far one call comes, the bytes past `len`, and by other columns all but that `len` bytes are there.
+pub fn to_uppercase(from: &[u16], to: &[u16], text: &[u8], at: usize) -> Uppercased
+    ensures size { λ r. ⌜ r .len ≤ length (r .bytes) ⌝ }
+    ensures text { λ r. ⌜ (Columns (now (from .entry)) (now (to .entry)) → UppercasedAt (now (text .entry)) at r) ⌝ }
 {
-    let from = from_column();
-    let to = to_column();
-    let mut bytes: [u8; 128] = [0; 128];
+    let mut bytes: [u8; 64] = [0; 64];
     let mut len: usize = 0;
     let mut next = at;
-    while len <= 116 {
+    while len <= 52 {
         let d = utf8::decode(text, next);
         match d {
             Decoded::Char(c, after) => {
-                len = put_all(&mut bytes, len, maps_to(&from, &to, c));
+                len = put_all(&mut bytes, len, maps_to(from, to, c));
                 next = after;
             }
             Decoded::Nothing => {

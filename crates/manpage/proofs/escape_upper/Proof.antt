@@ -1,6 +1,6 @@
-use mathlib.Core.Path.{refl, sym, _∙_}
-use mathlib.Core.List.{[], append-nil}
-use Prim.Native.Nat.{_-_}
+use mathlib.Core.Bool.{Bool}
+use mathlib.Core.List.{List}
+use Prim.Native.Nat.{ℕ, _-_}
 use native.Mathlib.Omega.{arith}
 use borrow.Author.Needs.{needs}
 use denote.Ref.{now}
@@ -9,8 +9,9 @@ use Rattle.manpage.proofs.escape_upper.Statement.{statement}
 use Rattle.manpage.proofs.escape_upper.Tie as tie
 use Rattle.upper.specs.Upper.{upper}
 use Rattle.roff_escape.specs.declared.escape.Escape.the-variants as mode
-use Rattle.roff_escape.proofs.Escaping.{Escaped, escaped-start, escaped-part, escaped-byte, escaped-end}
-use Rattle.manpage.proofs.Capturing.{Valid-from, valid-past-ascii, upper-here, upper-end}
+use Rattle.roff_escape.proofs.Escaping.{Escaped, escaped-start, escaped-byte}
+use Rattle.manpage.specs.Parts.{CasedTo}
+use Rattle.manpage.proofs.Capturing.{Valid-from, valid-past-ascii, upper-here}
 
 -- Invariant: the text from i on is left to be escaped, in upper case, and is UTF-8. What falls is how many bytes it has.
 abbrev Inv-loop : tie.InvT-loop
@@ -25,24 +26,17 @@ loop-holds c =
     let a = c .before .before .args in
     (record { inside = omega arith; valid = c .before .before .pre }, escaped-start mode.Spaces (a .start) (upper (now (a .bytes))) (now (a .room)) (a .len))
 
-escape-mapped-requires : tie.Need-escape-mapped-requires Inv-loop μ-loop
-escape-mapped-requires c κs = c .before .before .before .before .loop .inv .0 .valid
+-- what went out up to i
+cased : {old room bytes : List ℕ} {len n i : ℕ} {start fresh : Bool} → Valid-from bytes i
+    → Escaped mode.Spaces start (upper bytes) old len room n fresh (upper (drop i bytes))
+    → CasedTo old len start bytes room (record { len = n; fresh = fresh; next = i })
+cased v s = record { inside = v .inside; valid = v .valid; text = s .text; line = s .line }
 
 same-length : tie.Need-same-length Inv-loop μ-loop
-same-length c = c .before .before .escape-mapped .kept .0 ∙ c .before .before .before .before .before .before .before .loop .inv .1 .size
+same-length c = c .before .before .before .loop .inv .1 .size
 
--- all that is left goes out at once
 returns : tie.Need-returns Inv-loop μ-loop
-returns c =
-    let a = c .before .before .before .before .before .before .before .before .before .before .args in
-    let l = c .before .before .before .before .before .before .before .loop in
-    let g = c .before .before .escape-mapped in
-    let x = upper (now (a .bytes)) in
-    let y = upper (drop (l .i) (now (a .bytes))) in
-    let z = sym (append-nil y) in
-    let p = escaped-part mode.Spaces (a .start) x (now (a .room)) (a .len) (l .inv .1) y [] z (g .last .0) (g .result .len) (g .kept .0) (g .ensures .0) in
-    let e = escaped-end mode.Spaces (a .start) x (now (a .room)) (a .len) p refl in
-    (e .0, g .ensures .1 ∙ e .1)
+returns c = let i = c .before .before .before .loop .inv in cased (i .0) (i .1)
 
 loop-again : tie.Need-loop-again Inv-loop μ-loop
 loop-again c =
@@ -62,10 +56,7 @@ same-length-2 : tie.Need-same-length-2 Inv-loop μ-loop
 same-length-2 c = c .before .loop .inv .1 .size
 
 returns-2 : tie.Need-returns-2 Inv-loop μ-loop
-returns-2 c =
-    let a = c .before .before .before .before .args in
-    let l = c .before .loop in
-    escaped-end mode.Spaces (a .start) (upper (now (a .bytes))) (now (a .room)) (a .len) (l .inv .1) (upper-end (now (a .bytes)) (l .i) (c .loop-test .left))
+returns-2 c = let i = c .before .loop .inv in cased (i .0) (i .1)
 
 pub escape-upper-spec : {M : Type 1} → statement M
 escape-upper-spec =
@@ -75,7 +66,6 @@ escape-upper-spec =
     μ-loop
     loop-holds
     (λ c. search needs)
-    escape-mapped-requires
     same-length
     returns
     (λ c κs. search needs)

@@ -4,7 +4,7 @@ use Prim.Native.Nat.{_-_}
 use native.Mathlib.Omega.{arith}
 use borrow.Author.Needs.{needs}
 use denote.Ref.{now}
-use lib.ListN.{length}
+use lib.Dec.{ltb}
 use Rattle.manpage.proofs.put_captured.Statement.{statement}
 use Rattle.manpage.proofs.put_captured.Tie as tie
 use Rattle.records.specs.Records.{tokensFrom}
@@ -12,9 +12,10 @@ use Rattle.renderer.specs.Walk.{empty}
 use Rattle.upper.specs.Upper.{upper}
 use Rattle.upper.proofs.Text.{upper-none}
 use Rattle.roff_escape.specs.declared.escape.Escape.the-variants as mode
-use Rattle.roff_escape.proofs.Escaping.{Escaped, escaped-start, escaped-part, escaped-end}
-use Rattle.manpage.specs.Parts.{textsValid, between}
+use Rattle.roff_escape.proofs.Escaping.{Escaped, escaped-start, escaped-end}
+use Rattle.manpage.specs.Parts.{isText, textsValid, between}
 use Rattle.manpage.proofs.Capturing.{Again, captured-part, captured-some, holds-valid, passed-over, between-none, further, valid-next, captured-all}
+use Rattle.manpage.proofs.Casing.{further-out, escaped-cased, escaped-all, escaped-rest}
 
 -- Invariant: of the text between the places that from `at` on is left, and whether any was met; from `at` on text is UTF-8. What falls is
 -- what is left of the document.
@@ -32,40 +33,65 @@ loop-holds c =
     let a = c .before .before .args in
     (escaped-start mode.Spaces (a .start) (upper (between (now (a .document)) (a .from) (a .to))) (now (a .room)) (a .len), refl, c .before .before .pre .1)
 
+-- the function's start, seen from the loop
+abbrev entry : tie.At-loop Inv-loop μ-loop → tie.Start Inv-loop μ-loop
+entry l = l .before .before .before
+
 -- the record at `at`
 again : (c : tie.After-record-at Inv-loop μ-loop)
-    → Again (now (c .before .before .before .before .before .args .document)) (c .before .before .loop .at) (c .record-at .result)
-    (c .before .before .before .before .before .args .to)
+    → Again (now (entry (c .before .before) .args .document)) (c .before .before .loop .at) (c .record-at .result) (entry (c .before .before) .args .to)
 again c = record {
   reads = c .record-at .ensures;
   low = c .before .loop-test .taken;
-  high = c .before .before .before .before .before .pre .0;
+  high = entry (c .before .before) .pre .0;
   valid = c .before .before .loop .inv .2;
 }
 
+-- it holds text
+holds : (c : tie.Then1 Inv-loop μ-loop) → let h = c .before .before .record-at .result in isText (h .kind) && ltb (h .start) (h .stop) ≡ true
+holds c = sym (c .before .holds-text .ensures) ∙ c .if1 .taken
+
 escape-upper-requires : tie.Need-escape-upper-requires Inv-loop μ-loop
-escape-upper-requires c κs =
-    holds-valid (again (c .before .before .before .before)) (sym (c .before .before .before .holds-text .ensures) ∙ c .before .before .if1 .taken)
+escape-upper-requires c κs = holds-valid (again (c .before .before .before .before)) (holds (c .before .before))
+
+put-mapped-requires : tie.Need-put-mapped-requires Inv-loop μ-loop
+put-mapped-requires c κs =
+    let u = c .before .before .before .before .before .before in
+    let r = u .before .before .before .before .before in
+    (u .escape-upper .ensures .valid, entry (r .before .before) .pre .0, valid-next (again r))
+
+same-length : tie.Need-same-length Inv-loop μ-loop
+same-length c =
+    let u = c .before .before .before .before .before .before .before .before .before in
+    c .before .before .put-mapped .kept .0 ∙ u .escape-upper .kept .0 ∙ u .before .before .before .before .before .before .before .loop .inv .0 .size
+
+-- from the first byte beyond ASCII on, all goes out by the table
+returns : tie.Need-returns Inv-loop μ-loop
+returns c =
+    let t = c .before .before .before .before .before .before .before .before .before .before .before .before in
+    let l = t .before .before .before .before .loop in
+    let g = again (t .before .before) in
+    let u = c .before .before .before .before .before .before .before .before .before .escape-upper in
+    let w = c .before .before .put-mapped in
+    let p = escaped-cased _ _ (further-out (captured-part g (holds t)) (l .inv .0)) (u .kept .0) (u .ensures) in
+    let e = escaped-rest (w .last .0) (w .result .len) p (w .kept .0) (w .ensures .0) (w .ensures .1) in
+    (e .0, (e .1, ap not (sym (captured-some g (holds t) (l .some)) ∙ l .inv .1)))
 
 loop-less : tie.Need-loop-less Inv-loop μ-loop
-loop-less c = let g = again (c .before .before .before .before .before .before .before) in omega (arith, g .low, further g)
+loop-less c = let g = again (c .before .before .before .before .before .before .before .before .before) in omega (arith, g .low, further g)
 
 loop-less-2 : tie.Need-loop-less-2 Inv-loop μ-loop
 loop-less-2 c = let g = again (c .before .before) in omega (arith, g .low, further g)
 
+-- all of it was ASCII
 loop-again : tie.Need-loop-again Inv-loop μ-loop
 loop-again c =
-    let a = c .before .before .before .before .before .before .before .before .before .before .before .before .args in
-    let l = c .before .before .before .before .before .before .before .before .before .loop in
-    let g = again (c .before .before .before .before .before .before .before) in
-    let w = c .before .before .escape-upper in
-    let h = sym (c .before .before .before .before .before .before .holds-text .ensures) ∙ c .before .before .before .before .before .if1 .taken in
-    rw (w .ensures .1) (
-      escaped-part mode.Spaces (a .start) (upper (between (now (a .document)) (a .from) (a .to))) (now (a .room)) (a .len) (l .inv .0) _ _ (captured-part g h)
-          (w .last .0) (w .result .len) (w .kept .0) (w .ensures .0),
-      sym (captured-some g h (l .some)) ∙ l .inv .1,
-      valid-next g,
-    )
+    let t = c .before .before .before .before .before .before .before in
+    let l = t .before .before .before .before .loop in
+    let g = again (t .before .before) in
+    let u = c .before .before .before .before .escape-upper in
+    let p = escaped-cased _ _ (further-out (captured-part g (holds t)) (l .inv .0)) (u .kept .0) (u .ensures) in
+    (escaped-all _ _ _ _ (c .if2 .left) p, sym (captured-some g (holds t) (l .some)) ∙ l .inv .1, valid-next g)
 
 loop-again-2 : tie.Need-loop-again-2 Inv-loop μ-loop
 loop-again-2 c =
@@ -74,11 +100,11 @@ loop-again-2 c =
     let e = passed-over g (sym (c .before .holds-text .ensures) ∙ c .if1 .left) in
     (rw (← e) (i .0), rw (← e) (i .1), valid-next g)
 
-same-length : tie.Need-same-length Inv-loop μ-loop
-same-length c = c .before .loop .inv .0 .size
+same-length-2 : tie.Need-same-length-2 Inv-loop μ-loop
+same-length-2 c = c .before .loop .inv .0 .size
 
-returns : tie.Need-returns Inv-loop μ-loop
-returns c =
+returns-2 : tie.Need-returns-2 Inv-loop μ-loop
+returns-2 c =
     let a = c .before .before .before .before .args in
     let l = c .before .loop in
     let z = between-none (now (a .document)) (l .at) (a .to) (c .loop-test .left) in
@@ -99,9 +125,16 @@ put-captured-spec =
     (λ c. search needs)
     (λ c. search needs)
     escape-upper-requires
+    (λ c. search needs)
+    (λ c. search needs)
+    (λ c. search needs)
+    (λ c. search needs)
+    put-mapped-requires
+    same-length
+    returns
     loop-less
     loop-again
     loop-less-2
     loop-again-2
-    same-length
-    returns)
+    same-length-2
+    returns-2)

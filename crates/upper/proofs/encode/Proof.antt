@@ -2,7 +2,7 @@ use native.Mathlib.Omega.{arith}
 use borrow.Author.Needs.{needs}
 use Rattle.upper.proofs.encode.Statement.{statement}
 use Rattle.upper.proofs.encode.Tie as tie
-use Rattle.upper.proofs.Writing.{encoded-1, encoded-2, encoded-3, encoded-4, scalar-most}
+use Rattle.upper.proofs.Writing.{encoded-1, encoded-2, encoded-3, encoded-4}
 
 returns : tie.Need-returns
 returns c = record { few = omega arith; bytes = encoded-1 _ (c .if1 .taken) }
@@ -17,7 +17,7 @@ returns-3 c =
     record { few = omega arith; bytes = rw (c .before .continuation2 .ensures, c .continuation3 .ensures) e }
 
 cast-t16 : tie.Need-cast-t16
-cast-t16 c = omega (arith, scalar-most _ (c .before .before .before .pre))
+cast-t16 c = omega (arith, c .before .before .before .pre)
 
 returns-4 : tie.Need-returns-4
 returns-4 c =

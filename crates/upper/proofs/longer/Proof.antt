@@ -35,8 +35,12 @@ array-read-wide-3 c = omega (arith, longer-size)
 returns : tie.Need-returns
 returns c =
     let f = c .before .before .before in
-    rw (c .before .before .wide .ensures .0, c .before .wide2 .ensures .0, c .wide3 .ensures .0)
-    (ap (λ (l : List ℕ). threeAt l (f .before .args .place)) (f .longer-column .ensures))
+    let a = c .before .before .wide .ensures in
+    let b = c .before .wide2 .ensures in
+    let d = c .wide3 .ensures in (
+      rw (a .0, b .0, d .0) (ap (λ (l : List ℕ). threeAt l (f .before .args .place)) (f .longer-column .ensures)),
+      (omega (arith, a .1), omega (arith, b .1), omega (arith, d .1)),
+    )
 
 pub longer-spec : {M : Type 1} → statement M
 longer-spec =

@@ -7,7 +7,10 @@ use Rattle.upper.proofs.maps_to.Tie as tie
 use Rattle.upper.proofs.Ascii.{ascii-maps}
 
 returns : tie.Need-returns
-returns c = c .one .ensures ∙ ap (λ (x : ℕ). x ∷ []) (c .before .to-ascii-uppercase .ensures) ∙ sym (ascii-maps _ (c .before .before .if1 .taken))
+returns c = (
+  λ _. c .one .ensures .0 ∙ ap (λ (x : ℕ). x ∷ []) (c .before .to-ascii-uppercase .ensures) ∙ sym (ascii-maps _ (c .before .before .if1 .taken)),
+  c .one .ensures .1,
+)
 
 pub maps-to-spec : {M : Type 1} → statement M
 maps-to-spec =

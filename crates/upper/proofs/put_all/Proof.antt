@@ -4,7 +4,6 @@ use borrow.Author.Needs.{needs}
 use Rattle.upper.proofs.put_all.Statement.{statement}
 use Rattle.upper.proofs.put_all.Tie as tie
 use Rattle.upper.proofs.Writing.{wrote-as, wrote-two, wrote-three, bytes-of-one, bytes-of-two, bytes-of-three}
-use Rattle.upper.proofs.Writing.{first-scalar, second-scalar, third-scalar}
 
 -- the function's entry, seen from where the second and the third character are tested
 abbrev entry-1 : tie.Else1 → tie.Start
@@ -14,7 +13,7 @@ abbrev entry-2 : tie.Else2 → tie.Start
 entry-2 c = entry-1 (c .before .before .before .before .before .before .before)
 
 encode-requires : tie.Need-encode-requires
-encode-requires c κs = first-scalar (c .before .before .args .m) (c .before .before .pre .1)
+encode-requires c κs = c .before .before .pre .1 .0
 
 returns : tie.Need-returns
 returns c =
@@ -22,9 +21,7 @@ returns c =
     wrote-as (p .put .ensures) (omega arith) (p .before .encode .ensures .bytes ∙ bytes-of-one (p .before .before .before .before .args .m) (c .if1 .taken))
 
 encode-requires-2 : tie.Need-encode-requires-2
-encode-requires-2 c κs =
-    let s = entry-1 (c .before) in
-    second-scalar (s .args .m) (s .pre .1) (c .before .if1 .left)
+encode-requires-2 c κs = entry-1 (c .before) .pre .1 .1
 
 returns-2 : tie.Need-returns-2
 returns-2 c =
@@ -35,9 +32,7 @@ returns-2 c =
     wrote-two (p .put .ensures) (p .before .encode .ensures .bytes) (q .put2 .ensures) (q .before .encode2 .ensures .bytes) b
 
 encode-requires-3 : tie.Need-encode-requires-3
-encode-requires-3 c κs =
-    let s = entry-2 (c .before) in
-    third-scalar (s .args .m) (s .pre .1) (c .before .before .before .before .before .before .before .before .if1 .left) (c .before .if2 .left)
+encode-requires-3 c κs = entry-2 (c .before) .pre .1 .2
 
 returns-3 : tie.Need-returns-3
 returns-3 c =
