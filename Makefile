@@ -1,7 +1,7 @@
 # Targets: test (everything that a change must pass), run (the console program on a sample page), compare (N cases beside the
 # oracle), bench (times beside the Rust), growth (times of pages from 1 to 32 KB), fuzz (SECONDS of calls on random inputs,
-# between guard pages), samples and record (make samples/ and the recorded lists again).
-.PHONY: test run compare bench growth fuzz samples record clean
+# between guard pages), samples, record and upper (make samples/, the recorded lists and the upper-case table again).
+.PHONY: test run compare bench growth fuzz samples record upper clean
 
 N ?= 1000000
 SEED ?= 1
@@ -30,6 +30,9 @@ samples:
 
 record:
 	@tools/record
+
+upper:
+	@cd oracle && cargo run --release --offline --quiet --example upper -- make ../crates/upper
 
 clean:
 	rm -rf target oracle/target wrapper/target

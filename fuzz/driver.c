@@ -165,7 +165,7 @@ static void outcome(enum function function, uint32_t number, size_t at)
 {
     unsigned power = 0;
 
-    must(number <= 13, "a number over 13");
+    must(number <= 13 && number != 12, "no number of a refusal");
     calls[function]++;
     accepts[function] += number == 0;
     numbers[number] += function != NEXT_CHUNK; /* whose number is no refusal */
@@ -335,8 +335,6 @@ static int may_give(struct settings s, struct answer checked, struct answer got)
         return s.function == CONSOLE;
     case 11:
         return s.function != CONSOLE;
-    case 12:
-        return s.function == ROFF;
     default:
         return got.number == 13 && got.at == 0;
     }
@@ -671,6 +669,7 @@ struct input {
 static const char *const pieces[] = {"a", "b", "of", "port", "-p", "--listen", "UPPER", "longer-word-to-fold", " ", " ", " ", " ", "\n",
     "\n\n", "\n\n\n", "\n ", "\n    ", "\n\n    ", "\n\n```", "\n\n```\n", "\n```\n", "\n```\n\n", "```", "`", "    ", "\n.", "\n'", "'",
     "\\", "-", ".", "<", ">", "&", "&amp;", "&lt;", "&gt;", "&am", "[", "]", "*", "_", "#", "\t", "\r", "\v", "\xC2\x85", "\xC2\xA0",
+    "\xC3\x9F", "\xCE\x90", "\xC7\x86", "\xF0\x9E\xA5\x83",
     "\xE1\x9A\x80", "\xE2\x80\x83", "\xE2\x80\xA8", "\xE3\x80\x80", "\xC3\xA9", "\xE6\xBC\xA2", "\xF0\x9F\x98\x80", "e\xCC\x81",
     "tttttttttttttttttttttttt", "uuuuuuuuuuuuuuuuuuuuuuuuuuu"};
 enum { PIECES = sizeof pieces / sizeof pieces[0] };

@@ -47,7 +47,7 @@ enum sefgrunn_refusal {
     SEFGRUNN_BEYOND_MARGIN = 10,     /* a chunk misses more than 50 columns to its margin (console); place of the chunk's
                                         first byte, or where an empty chunk would stand */
     SEFGRUNN_NO_FORM = 11,           /* Meta in HTML or Markdown, TermRef in roff; place of the record */
-    SEFGRUNN_HEADING_NOT_ASCII = 12, /* byte over 127 in a roff heading; place of its text record */
+    /* 12 was a byte over 127 in a roff heading. Headings have been upper-cased beyond ASCII since; the number is not used again. */
     SEFGRUNN_NO_ROOM = 13            /* no room; place 0 */
 };
 
@@ -127,7 +127,8 @@ uint32_t sefgrunn_html_strict(const uint8_t *document, size_t n, bool full, bool
 /* Markdown. As sefgrunn_console; refusals 1 to 8, 11 and 13. */
 uint32_t sefgrunn_markdown(const uint8_t *document, size_t n, bool full, uint8_t *room, size_t room_len, size_t *at);
 
-/* Roff, for man pages. As sefgrunn_console; refusals 1 to 8 and 11 to 13. The text is a page's body. Write two lines before it:
+/* Roff, for man pages. Headings are upper-cased by the full mapping of Unicode 17.0.0, in which some characters become two or three.
+ * As sefgrunn_console; refusals 1 to 8, 11 and 13. The text is a page's body. Write two lines before it:
  *
  *     .TH NAME 1
  *     .nh

@@ -35,7 +35,7 @@ static const char *meaning(uint32_t number)
         "the width is over 10,000",
         "text is more than 50 columns before its margin",
         "this form has no such block",
-        "a heading has a byte over 127",
+        "no such number",
         "no room",
     };
     return number < sizeof meanings / sizeof meanings[0] ? meanings[number] : "no such number";

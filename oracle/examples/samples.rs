@@ -435,7 +435,6 @@ mod tests {
             let expected = match name {
                 "balancer.doc" | "term-ref.doc" => [A, A, A, (11, first_ref)],
                 "meta.doc" => [A, (11, 0), (11, 0), A],
-                "heading.doc" => [A, A, A, (12, 6)],
                 "margin-54.doc" => [(10, 60), A, A, A],
                 "refused-6.doc" => [(6, 0); 4],
                 _ => [A; 4],

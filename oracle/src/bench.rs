@@ -12,7 +12,7 @@ use crate::buffer::{Color, Token};
 use crate::cases::Call;
 use crate::port::{number, Stored};
 use crate::rules::{self, Kind, Operation, Record, Renderer};
-use crate::stored::{decode, put_record, Block, Ending, Style, MOST_BYTES};
+use crate::stored::{decode, put_record, Block, Draft, Ending, Style, MOST_BYTES};
 use crate::Doc;
 
 const CONSOLE: Renderer = Renderer::Console { width: 100, full: true, characters: false };
@@ -275,6 +275,27 @@ pub fn head() {
     );
 }
 
+/// Roff of headings in ASCII, and of headings whose characters are mapped beyond it.
+pub fn headings() {
+    for (what, text) in [
+        ("roff, ASCII headings", "Options for listening and tunnels"),
+        ("roff, other headings", "Paramètres d’écoute, größere Übung, τέλος"),
+    ] {
+        let mut draft = Draft::new();
+        for _ in 0..100 {
+            draft.within(Block::Header, |d| d.text(text));
+        }
+        let document = draft.stored();
+        let (doc, _) = read(&document).expect("it is a document");
+        row(
+            what,
+            "100 headings",
+            document.len(),
+            render_times(Renderer::Roff, &document, &doc, None),
+        );
+    }
+}
+
 /// The rows of one page; `None` where it is refused.
 pub fn page(name: &str, document: &[u8]) -> Option<()> {
     let (doc, records) = read(document)?;
@@ -391,7 +412,6 @@ pub fn growth(document: &[u8]) -> Option<()> {
 #[cfg(test)]
 mod tests {
     use super::*;
-    use crate::stored::Draft;
 
     /// Pages have about the size asked for and are accepted, from records that are fewer or more.
     #[test]

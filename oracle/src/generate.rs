@@ -1,6 +1,8 @@
 //! Seeded cases: documents valid, damaged and random, settings, rooms near what a text needs, and
 //! builder calls. A case is a function of subject, seed, index and limits alone.
 
+use std::sync::OnceLock;
+
 use crate::cases::{answer, pattern, Call, Case};
 use crate::rules::{self, Misreading, Operation, Renderer};
 use crate::stored::{put_record, MOST_BYTES, MOST_OPEN};
@@ -14,6 +16,8 @@ pub enum Subject {
     HtmlStrict,
     Markdown,
     Roff,
+    /// every scalar value in a heading, as roff
+    Headings,
     Builder,
     Split,
     NextChunk,
@@ -21,13 +25,14 @@ pub enum Subject {
 }
 
 impl Subject {
-    pub const ALL: [(Subject, &'static str); 10] = [
+    pub const ALL: [(Subject, &'static str); 11] = [
         (Subject::Check, "check"),
         (Subject::Console, "console"),
         (Subject::Html, "html"),
         (Subject::HtmlStrict, "html_strict"),
         (Subject::Markdown, "markdown"),
         (Subject::Roff, "roff"),
+        (Subject::Headings, "headings"),
         (Subject::Builder, "builder"),
         (Subject::Split, "split"),
         (Subject::NextChunk, "next_chunk"),
@@ -175,6 +180,20 @@ fn body(rng: &mut Rng, ascii: bool) -> String {
     out
 }
 
+/// Characters that an upper-case mapping may get wrong: mapped ones, those that grow, any scalar value.
+fn heading(rng: &mut Rng) -> String {
+    static MAPPED: OnceLock<Vec<char>> = OnceLock::new();
+    let mapped = MAPPED.get_or_init(|| rules::mapped().map(|(c, _)| c).collect());
+    let one = |rng: &mut Rng| match rng.below(8) {
+        0..=2 => rng.pick(mapped),
+        3 => rng.pick(&['ß', 'ŉ', 'ΐ', 'ﬃ', 'ᾳ', 'և', 'ς', 'ǆ', 'ǅ', 'ı', 'ÿ', 'ﬀ']),
+        4 => char::from_u32(rng.below(0x11_0000) as u32).unwrap_or('é'),
+        5 => rng.pick(&[mapped[0], mapped[mapped.len() - 1], 'À', 'é', '京', '\u{10FFFF}']),
+        _ => rng.pick(&['a', 'z', ' ', '\n', '-', '\\', '.', '\'', '"']),
+    };
+    (0..rng.below(8)).map(|_| one(rng)).collect()
+}
+
 /// A term of 0 to 30 characters, often about the 24 that the tabstop admits.
 fn term(rng: &mut Rng, ascii: bool) -> String {
     let count = if rng.once_in(3) { rng.within(22, 27) } else { rng.below(31) };
@@ -206,7 +225,7 @@ impl Palette {
     fn of(subject: Subject, rng: &mut Rng) -> Self {
         match subject {
             Subject::Roff => {
-                Palette { ascii: !rng.once_in(3), term_refs: rng.once_in(8), metas: rng.once_in(2) }
+                Palette { ascii: rng.once_in(3), term_refs: rng.once_in(8), metas: rng.once_in(2) }
             }
             Subject::Html | Subject::HtmlStrict | Subject::Markdown => {
                 Palette { ascii: rng.once_in(3), term_refs: true, metas: rng.once_in(4) }
@@ -408,8 +427,10 @@ impl Maker<'_> {
             20 => {
                 let (outer, inner) = (self.rng.below(4), self.rng.below(4));
                 let nested = self.rng.once_in(3);
+                let text = if self.palette.ascii { String::new() } else { heading(self.rng) };
                 self.around(outer, |m| {
                     m.some_text();
+                    m.text(&text);
                     if nested {
                         m.around(inner, Self::some_text);
                         m.some_text();
@@ -690,6 +711,37 @@ fn rendering(rng: &mut Rng, subject: Subject, limits: Limits) -> Case {
     Case { call: Call::Render(renderer), document, room, length: 0 }
 }
 
+/// Scalar values in one heading.
+const HEADING_VALUES: usize = 512;
+/// Cases after which every scalar value was in a heading.
+pub const HEADING_CASES: u64 = (0x11_0000 - 0x800) / HEADING_VALUES as u64;
+
+/// A heading of the scalar values of this index, cut into several records, as roff.
+fn heading_of_all(rng: &mut Rng, index: u64) -> Case {
+    let from = (index % HEADING_CASES) as usize * HEADING_VALUES;
+    // surrogates are no scalar values
+    let scalar = |n: usize| char::from_u32(if n < 0xD800 { n } else { n + 0x800 } as u32);
+    let values: Vec<char> = (from..from + HEADING_VALUES).filter_map(scalar).collect();
+    let block = rng.below(4) as u16;
+    let mut document = Vec::new();
+    put_record(&mut document, 0x0100 + block, b"");
+    let mut rest = &values[..];
+    while !rest.is_empty() {
+        let (part, after) = rest.split_at(rng.within(1, rest.len()));
+        put_record(&mut document, rng.within(1, 5) as u16, String::from_iter(part).as_bytes());
+        rest = after;
+    }
+    put_record(&mut document, 0x0200 + block, b"");
+    let need = rules::render(Renderer::Roff, &document, usize::MAX).most;
+    // mostly all of it, and else 13 where the heading grows
+    let room = match rng.below(4) {
+        0 => need.saturating_sub(rng.below(HEADING_VALUES)),
+        _ => need + rng.below(3),
+    };
+    let room = pattern(0, room).collect();
+    Case { call: Call::Render(Renderer::Roff), document, room, length: 0 }
+}
+
 /// The document so far of a builder call.
 fn so_far(rng: &mut Rng, palette: Palette, limits: Limits) -> Vec<u8> {
     let most = limits.one(rng);
@@ -855,6 +907,7 @@ pub fn case(subject: Subject, seed: u64, index: u64, limits: Limits) -> Case {
             Case { call, document, room: Vec::new(), length: 0 }
         }
         Subject::Builder => building(rng, limits),
+        Subject::Headings => heading_of_all(rng, index),
         Subject::Split => splitting(rng, limits),
         Subject::NextChunk => stepping(rng, limits),
         _ => rendering(rng, subject, limits),
@@ -902,7 +955,8 @@ pub fn owed(subject: Subject) -> &'static [u32] {
         Subject::Html | Subject::HtmlStrict | Subject::Markdown => {
             &[0, 1, 2, 3, 4, 5, 6, 7, 8, 11, 13]
         }
-        Subject::Roff => &[0, 1, 2, 3, 4, 5, 6, 7, 8, 11, 12, 13],
+        Subject::Roff => &[0, 1, 2, 3, 4, 5, 6, 7, 8, 11, 13],
+        Subject::Headings => &[0, 13],
         Subject::Builder => &[0, 1, 2, 3, 4, 5, 6, 7, 8, 13],
         Subject::Split => &[0],
         // which chunk it is
@@ -943,6 +997,20 @@ mod tests {
                 }
             }
         }
+    }
+
+    /// Every scalar value stands in a heading, and the kept Rust agrees on each.
+    #[test]
+    fn headings_of_every_scalar_value() {
+        let mut seen = 0;
+        for index in 0..HEADING_CASES {
+            let case = case(Subject::Headings, 1, index, Limits::COMPARED);
+            let answer = answer(&case);
+            confirm(&case, &answer).unwrap();
+            let records = rules::check(&case.document).unwrap();
+            seen += records.iter().map(|r| rules::characters(r.body)).sum::<usize>();
+        }
+        assert_eq!(seen, ('\0'..=char::MAX).count());
     }
 
     /// 01's misreadings are told apart within far fewer than 20,000 cases, in lists too.
@@ -992,7 +1060,8 @@ mod tests {
     #[test]
     fn recorded_cases_keep_their_limits() {
         for (subject, name) in Subject::ALL {
-            for index in 0..300 {
+            // each of its documents has its own size
+            for index in if subject == Subject::Headings { 0..0 } else { 0..300 } {
                 let case = case(subject, 11, index, Limits { bytes: 100, ..Limits::RECORDED });
                 assert!(case.document.len() <= 140, "{name}: {}", case.document.len());
             }

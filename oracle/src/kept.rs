@@ -183,21 +183,6 @@ fn confirm_margin(renderer: Renderer, records: &[Record], place: usize) -> Resul
     Ok(())
 }
 
-/// The text record with the first byte over 127 that `render_roff` captures for a heading: between
-/// the start of a heading and the next end of one.
-fn captured_beyond_ascii(records: &[Record]) -> Option<usize> {
-    let mut capture = false;
-    for record in records {
-        match record.kind {
-            Kind::Start(0..=3) => capture = true,
-            Kind::End(0..=3) => capture = false,
-            Kind::Text(_) if capture && !record.body.is_ascii() => return Some(record.place),
-            _ => {}
-        }
-    }
-    None
-}
-
 fn confirm_rendering(renderer: Renderer, case: &Case, answer: &Answer) -> Result<(), String> {
     let free = rules::render(renderer, &case.document, usize::MAX);
 
@@ -290,21 +275,14 @@ fn confirm_outcome(
     let outcome = rendered(renderer, &doc);
     let todo = if renderer == Renderer::Roff { 9 } else { 10 };
     let todo = records.iter().find(|r| r.kind == Kind::Start(todo)).map(|r| r.place);
-    let captured = if renderer == Renderer::Roff { captured_beyond_ascii(records) } else { None };
     match (ruled, &outcome) {
-        (Ok(text), Ok(kept)) if text == kept.as_bytes() && captured.is_none() => {}
+        (Ok(text), Ok(kept)) if text == kept.as_bytes() => {}
         (Err(Refusal { number: 10, place }), Err(message)) if is_padding_panic(message) => {
             confirm_margin(renderer, records, *place)?;
         }
         (Err(Refusal { number: 11, place }), Err(message)) if is_todo_panic(message) => {
-            if todo != Some(*place) || captured.is_some_and(|at| at < *place) {
-                return Err(format!("11 at {place}, first such block {todo:?}, 12 {captured:?}"));
-            }
-        }
-        // 12: the Rust upper-cases beyond ASCII, so there is no text to compare
-        (Err(Refusal { number: 12, place }), _) => {
-            if captured != Some(*place) || todo.is_some_and(|at| at < *place) {
-                return Err(format!("12 at {place}, first such text {captured:?}, 11 {todo:?}"));
+            if todo != Some(*place) {
+                return Err(format!("11 at {place}, first such block {todo:?}"));
             }
         }
         _ => return Err(format!("rules {ruled:?}, kept Rust {outcome:?}")),

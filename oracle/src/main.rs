@@ -17,8 +17,8 @@ const NOT_LINKED: &str =
 const USAGE: &str = "\
 usage: oracle answer console|html|html_strict|markdown|roff
               [--width N] [--full 0|1] [--characters 0|1] [--css 0|1] [--room N] < document
-       oracle record check|console|html|html_strict|markdown|roff|builder|split|next_chunk
-              |tabstop
+       oracle record check|console|html|html_strict|markdown|roff|headings|builder|split
+              |next_chunk|tabstop
               --seed S --cases N [--max-bytes B] > list
        oracle compare --seed S --cases N [--only SUBJECT,..]
        oracle selfcheck --seed S --cases N [--only SUBJECT,..]
@@ -166,6 +166,7 @@ fn run_bench(documents: impl Iterator<Item = String>) -> ExitCode {
     for path in &documents {
         fine &= timed(path, bench::page);
     }
+    bench::headings();
     bench::building_head();
     for path in &documents {
         fine &= timed(path, bench::building);

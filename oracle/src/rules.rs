@@ -47,6 +47,24 @@ pub fn printing(text: &[u8]) -> String {
     text.chars().filter(|&c| !is_white_space(c)).collect()
 }
 
+/// 02, point 6: the upper-case mapping of UnicodeData.txt with the unconditional entries of
+/// SpecialCasing.txt, in the version that the compiler reports; a character without an entry maps to
+/// itself. The compiler's `char::to_uppercase` is that mapping.
+pub fn upper(c: char) -> String {
+    c.to_uppercase().collect()
+}
+
+/// A text in upper case, character by character.
+fn upper_text(text: &[u8]) -> Vec<u8> {
+    let text = std::str::from_utf8(text).expect("bodies that are UTF-8, joined");
+    text.chars().map(upper).collect::<String>().into_bytes()
+}
+
+/// Each mapped character, ascending.
+pub fn mapped() -> impl Iterator<Item = (char, String)> {
+    ('\0'..=char::MAX).map(|c| (c, upper(c))).filter(|(c, upper)| *upper != c.to_string())
+}
+
 // ---------------------------------------------------------------------------------------------
 // Records, refusals 1 to 8
 
@@ -1050,12 +1068,7 @@ fn roff(records: &[Record], text: &mut Text) -> Ruled<()> {
     let mut no_newline = false;
     for record in records {
         match record.kind {
-            Kind::Text(_) if capturing => {
-                if !record.body.is_ascii() {
-                    return refused(12, record.place);
-                }
-                heading.extend_from_slice(record.body);
-            }
+            Kind::Text(_) if capturing => heading.extend_from_slice(record.body),
             Kind::Text(style) => {
                 if style == EMPHASIS {
                     lines.control("SS", None)?;
@@ -1082,9 +1095,8 @@ fn roff(records: &[Record], text: &mut Text) -> Ruled<()> {
             Kind::End(block) => match block {
                 HEADER | SECTION2 | SECTION3 | SECTION4 => {
                     capturing = false;
-                    heading.make_ascii_uppercase();
                     let name = if block == HEADER { "SH" } else { "SS" };
-                    lines.control(name, Some(&heading))?;
+                    lines.control(name, Some(&upper_text(&heading)))?;
                     heading.clear();
                 }
                 ITEM_TERM => {

@@ -39,7 +39,7 @@ impl Worthless {
     /// text as well.
     pub fn concerns(self, subject: Subject) -> bool {
         use Subject::*;
-        let renders = matches!(subject, Console | Html | HtmlStrict | Markdown | Roff);
+        let renders = matches!(subject, Console | Html | HtmlStrict | Markdown | Roff | Headings);
         match self {
             Worthless::RefusesAll => !matches!(subject, Split | NextChunk),
             Worthless::OneStoredPage | Worthless::ClearedRoomLengthZero => renders,

@@ -497,7 +497,7 @@ fn refusal_9_comes_after_1() {
 }
 
 #[test]
-fn refusals_10_to_13() {
+fn refusals_10_11_and_13() {
     let document = made(|d| nested(d, &[Block::ItemBody; 9], "x"));
     assert_eq!(refusal(console(100), &document, ROOM), (10, 60));
     let meta = [0, 0, 0, 0, 0x0A, 1, 0, 0, 0, 0, 0x0A, 2];
@@ -508,29 +508,78 @@ fn refusals_10_to_13() {
     assert_eq!(shown(ROFF, &meta), PREAMBLE.to_string() + ".nf\n.fi\n");
     let term_ref = made(|d| d.text("a").within(Block::TermRef, |d| d));
     assert_eq!(refusal(ROFF, &term_ref, ROOM), (11, 7));
-    let heading = made(|d| d.within(Block::Header, |d| d.text("é")));
-    assert_eq!(refusal(ROFF, &heading, ROOM), (12, 6));
     assert_eq!(refusal(console(100), &text("a"), 0), (13, 0));
 }
 
-/// The first captured text with a byte over 127, not one outside a heading, a later one or one of a heading around it.
+// 02, point 6: headings beyond ASCII
+
+/// A heading's line, without the preamble.
+fn heading(body: &str) -> String {
+    let shown = shown(ROFF, &made(|d| d.within(Block::Header, |d| d.text(body))));
+    shown.strip_prefix(PREAMBLE).unwrap().to_string()
+}
+
 #[test]
-fn refusal_12_is_at_the_first_captured_byte() {
-    let document = records(&[(1, "é"), (0x0100, ""), (1, "a"), (3, "é"), (1, "é"), (0x0200, "")]);
-    assert_eq!(refusal(ROFF, &document, ROOM), (12, 21));
-    // a character without an upper-case form is refused too
-    let document = records(&[(0x0100, ""), (1, "京"), (0x0200, "")]);
-    assert_eq!(refusal(ROFF, &document, ROOM), (12, 6));
-    // the end of an inner heading ends capture, so what follows in the outer one is text
+fn headings_beyond_ascii() {
+    assert_eq!(heading("é"), ".SH É\n");
+    assert_eq!(heading("Aperçu général"), ".SH APERÇU\\ GÉNÉRAL\n");
+    // no entry: the character itself; also what is upper case already
+    assert_eq!(heading("京1À"), ".SH 京1À\n");
+    // some grow
+    assert_eq!(heading("ß"), ".SH SS\n");
+    assert_eq!(heading("ΐ"), ".SH \u{399}\u{308}\u{301}\n");
+    assert_eq!(heading("ﬃ"), ".SH FFI\n");
+    // no conditions: both small sigmas, a dotless and a dotted i; title case too
+    assert_eq!(heading("σς ıi ǅ"), ".SH ΣΣ\\ II\\ Ǆ\n");
+    // the first entry beyond ASCII and the last of all
+    assert_eq!(heading("µ"), ".SH Μ\n");
+    let (last, upper) = rules::mapped().last().unwrap();
+    assert_eq!(heading(&last.to_string()), format!(".SH {upper}\n"));
+}
+
+/// A heading cut over several records and styles; text outside headings, also after an inner heading's
+/// end, is not changed. 12 is not given any more.
+#[test]
+fn headings_over_records() {
+    let document = records(&[(1, "é"), (0x0100, ""), (1, "a"), (3, "é"), (1, "ß"), (0x0200, "")]);
+    assert_eq!(shown(ROFF, &document), PREAMBLE.to_string() + "\\fRé\\fP\n.SH AÉSS\n");
     let document = records(&[(0x0100, ""), (0x0101, ""), (0x0201, ""), (1, "é"), (0x0200, "")]);
     assert_eq!(shown(ROFF, &document), PREAMBLE.to_string() + ".SS \"\"\n\\fRé\\fP\n.SH \"\"\n");
-    // 11 and 12 in the order of their records
-    let term_ref = [(0x0109, ""), (0x0209, "")];
+    // a TermRef after such a heading is refused as anywhere
     let heading = [(0x0100, ""), (1, "é"), (0x0200, "")];
-    let document = records(&[&term_ref[..], &heading].concat());
-    assert_eq!(refusal(ROFF, &document, ROOM), (11, 0));
-    let document = records(&[&heading[..], &term_ref].concat());
-    assert_eq!(refusal(ROFF, &document, ROOM), (12, 6));
+    let document = records(&[&heading[..], &[(0x0109, ""), (0x0209, "")]].concat());
+    assert_eq!(refusal(ROFF, &document, ROOM), (11, 20));
+}
+
+/// 13 is met as the longer heading is written.
+#[test]
+fn headings_grow_at_the_edge_of_the_room() {
+    // `ŉ` has two bytes, its upper case, an apostrophe of two bytes and N, has three
+    let document = made(|d| d.within(Block::Header, |d| d.text("ŉ")));
+    let need = PREAMBLE.len() + ".SH ".len() + "\u{2BC}N".len() + 1;
+    assert_eq!(render(ROFF, &document, need).number, 0);
+    assert_eq!(refusal(ROFF, &document, need - 1), (13, 0));
+}
+
+/// The compiler's mapping is that of the port's version, and bpaf's `str::to_uppercase` is its
+/// `char::to_uppercase` on each character: no condition looks at neighbours. (`to_lowercase` does, for a
+/// sigma at a word's end.)
+#[test]
+fn upper_case_goes_by_characters() {
+    let grown = rules::mapped().filter(|(_, upper)| upper.chars().count() > 1).count();
+    // a compiler of another version may have others; the example `upper` then says so
+    if char::UNICODE_VERSION == (17, 0, 0) {
+        assert_eq!((rules::mapped().count(), grown), (1_580, 102));
+    }
+    assert!(rules::mapped().all(|(_, upper)| upper.chars().count() <= 3));
+    for c in '\0'..=char::MAX {
+        assert_eq!(c.to_string().to_uppercase(), rules::upper(c));
+    }
+    for neighbours in ["ας", "ΑΣ ς", "i\u{307}", "\u{345}α", "ΐσς.", "ŉß"] {
+        let each: String = neighbours.chars().map(rules::upper).collect();
+        assert_eq!(neighbours.to_uppercase(), each);
+    }
+    assert_eq!("ΑΣ".to_lowercase(), "ας");
 }
 
 #[test]

@@ -69,15 +69,14 @@ pub enum Number {
     BeyondMargin = 10,
     /// Meta in HTML or Markdown, TermRef in roff. Place of the record.
     NoForm = 11,
-    /// A roff heading has a byte over 127. Place of its text record.
-    HeadingNotAscii = 12,
+    // 12 is not used again.
     /// The room is too small. Place 0.
     NoRoom = 13,
 }
 
 impl Number {
     /// All of them, in order.
-    pub const ALL: [Number; 13] = [
+    pub const ALL: [Number; 12] = [
         Number::TooLong,
         Number::CutShort,
         Number::UnknownKind,
@@ -89,11 +88,10 @@ impl Number {
         Number::TooWide,
         Number::BeyondMargin,
         Number::NoForm,
-        Number::HeadingNotAscii,
         Number::NoRoom,
     ];
 
-    /// 1 to 13.
+    /// 1 to 13, without 12.
     pub fn get(self) -> u32 {
         self as u32
     }
@@ -111,7 +109,6 @@ impl Number {
             Number::TooWide => "the width is over 10,000",
             Number::BeyondMargin => "text is more than 50 columns before its margin",
             Number::NoForm => "this form has no such block",
-            Number::HeadingNotAscii => "a heading has a byte over 127",
             Number::NoRoom => "no room",
         }
     }
@@ -140,7 +137,7 @@ impl fmt::Display for Refusal {
 
 impl Error for Refusal {}
 
-/// What the library answers: 0, or a number from 1 to 13.
+/// What the library answers: 0, or the number of a refusal.
 fn accepted(number: u32, place: usize) -> Result<(), Refusal> {
     if number == 0 {
         return Ok(());
@@ -255,7 +252,10 @@ pub fn markdown<'r>(document: &[u8], full: bool, room: &'r mut [u8]) -> Result<&
     text(room, answer)
 }
 
-/// Roff, for man pages. Refusals 1 to 8 and 11 to 13. The room as for [`console`].
+/// Roff, for man pages. Refusals 1 to 8, 11 and 13. The room as for [`console`].
+///
+/// Headings are upper-cased by the full mapping of Unicode 17.0.0, in which some characters become two
+/// or three: `ß` becomes `SS`.
 ///
 /// The text is a page's body. Write two lines before it, a title and one that turns hyphenation off:
 ///
@@ -548,8 +548,9 @@ mod tests {
 
     #[test]
     fn numbers_are_those_of_the_header() {
-        for (index, number) in Number::ALL.into_iter().enumerate() {
-            assert_eq!(number.get() as usize, index + 1);
+        let numbers: Vec<u32> = Number::ALL.map(Number::get).to_vec();
+        assert_eq!(numbers, (1..=13).filter(|&number| number != 12).collect::<Vec<u32>>());
+        for number in Number::ALL {
             assert_eq!(accepted(number.get(), 7), Err(Refusal { number, place: 7 }));
         }
         assert_eq!(accepted(0, 7), Ok(()));
@@ -561,7 +562,8 @@ mod tests {
             Number::ALL.map(|number| Refusal { number, place: 3 }.to_string()).to_vec();
         assert_eq!(said[5], "refused 6 at 3: an end is not of the innermost open block");
         for (index, text) in said.iter().enumerate() {
-            assert!(text.starts_with(&format!("refused {} at 3: ", index + 1)), "{text}");
+            let number = Number::ALL[index].get();
+            assert!(text.starts_with(&format!("refused {number} at 3: ")), "{text}");
             assert!(!said[..index]
                 .iter()
                 .any(|other| other.split(": ").nth(1) == text.split(": ").nth(1)));
@@ -571,6 +573,6 @@ mod tests {
     #[test]
     #[should_panic(expected = "no number of a refusal")]
     fn no_other_number_is_passed_on() {
-        let _ = accepted(14, 0);
+        let _ = accepted(12, 0);
     }
 }

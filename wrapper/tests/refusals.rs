@@ -64,8 +64,6 @@ fn of_renderers() {
     assert_eq!(sefgrunn::markdown_string(&meta, true), refusal(Number::NoForm, 0));
     let term_ref = nested(&[Block::Mono, Block::TermRef], "x");
     assert_eq!(sefgrunn::roff_string(&term_ref), refusal(Number::NoForm, 6));
-    let heading = nested(&[Block::Header], "é");
-    assert_eq!(sefgrunn::roff_string(&heading), refusal(Number::HeadingNotAscii, 6));
 }
 
 /// Asserts that a call is refused and changes nothing.

@@ -135,6 +135,12 @@ fn man_pages() {
         b.open(Block::Block)?.close(Block::Block)
     });
     assert_eq!(sefgrunn::roff_string(&document).unwrap(), format!("{PREAMBLE}.SH A\\ .PP\n"));
+    for (heading, upper) in [("é", "É"), ("ß", "SS"), ("ΐ", "\u{399}\u{308}\u{301}"), ("京", "京")]
+    {
+        let document = nested(&[Block::Header], Style::Text, heading);
+        let shown = sefgrunn::roff_string(&document).unwrap();
+        assert_eq!(shown, format!("{PREAMBLE}.SH {upper}\n"));
+    }
 }
 
 /// The chunk lists of bpaf's splitter, with their places, and bodies that are not UTF-8.

@@ -3,19 +3,18 @@ use Prim.Native.Nat.{ℕ, suc, _+_, _-_, _≤_, _<_}
 use mathlib.Core.Path.{_≡_, refl, sym, ap, _∙_}
 use mathlib.Core.Bool.{Bool, true, false, not, _&&_, false≢true}
 use mathlib.Core.Logic.{⊎-elim}
-use mathlib.Core.List.{List, [], _∷_, _++_, map, map-append}
+use mathlib.Core.List.{List, [], _∷_, _++_}
 use lib.Dec.{ltb}
 use lib.ListN.{length, drop, getD, drop-of-length-le}
 use lib.Seq.{drop-cons}
-use native.Mathlib.Numerals.{add-one}
 use native.Mathlib.Omega.{arith}
-use borrow.Author.Tests.{le-leb, lt-leb, lt-ltb, le-ltb, ltb-true, ltb-false}
+use borrow.Author.Tests.{lt-ltb, le-ltb, ltb-true, ltb-false}
 use Rattle.base.specs.Bytes.{part}
 use Rattle.base.specs.Choice.{if_then_else_}
 use Rattle.base.specs.Result.{_>>=_}
-use Rattle.base.proofs.Choice.{if-true, if-false, and-left, and-right, le-or-lt}
+use Rattle.base.proofs.Choice.{if-true, if-false, pick, and-left, and-right, le-or-lt}
 use Rattle.base.proofs.Parts.{part-none}
-use Rattle.records.specs.Records.{tokenAt}
+use Rattle.records.specs.Records.{Token, tokenAt, tokensFrom}
 use Rattle.records.specs.Answers.{Read}
 use Rattle.records.specs.declared.Head.{Head}
 use Rattle.records.specs.declared.Kind.{Kind}
@@ -24,54 +23,39 @@ use Rattle.records.proofs.Tokens.{tokens-at, tokens-end}
 use Rattle.records.proofs.Reading.{read-next}
 use Rattle.renderer.specs.Walk.{empty}
 use Rattle.room.specs.Room.{seen, extended}
-use Rattle.utf8.specs.Utf8.{encode, bytes}
+use Rattle.utf8.specs.Utf8.{utf8, encode, bytes}
+use Rattle.utf8.proofs.Text.{Valid, valid-both}
+use Rattle.utf8.proofs.Laws.{one-at}
+use Rattle.upper.specs.Upper.{upper, asciiUpper}
+use Rattle.upper.proofs.Text.{upper-none, upper-both, upper-ascii, upper-empty}
 use Rattle.roff_escape.specs.declared.escape.Escape.the-variants as mode
 use Rattle.roff_escape.specs.declared.roff.Mark.{Mark}
 use Rattle.roff_escape.specs.Escape.{escape, lineStart}
 use Rattle.roff_escape.specs.Monoid.{piece, escapeAll, lineAfter}
 use Rattle.roff_escape.specs.Composer.{argument}
 use Rattle.roff_escape.specs.Parts.{Pushed}
-use Rattle.roff_escape.proofs.Escaping.{puts, from-here}
+use Rattle.roff_escape.proofs.Escaping.{puts}
 use Rattle.roff_escape.proofs.Composing.{piece-put, pushed-then, pushed-same}
-use Rattle.manpage.specs.Roff.{ascii, upperByte, upper}
-use Rattle.manpage.specs.Parts.{argumentPieces, isText, recordText, textTo, between, beginning}
-
--- 12
-
-module _ (s : List ℕ) (i : ℕ) where
-  pub ascii-on : i < length s → getD s i 0 ≤ 127 → ascii (drop i s) ≡ ascii (drop (i + 1) s)
-  unfolding ascii
-  ascii-on h k = rw (add-one, drop-cons s i 0 h, le-leb (getD s i 0) 127 k)
-
-  pub ascii-over : i < length s → 127 < getD s i 0 → ascii (drop i s) ≡ false
-  unfolding ascii
-  ascii-over h k = rw (drop-cons s i 0 h, lt-leb (getD s i 0) 127 k)
-
-  pub ascii-end : length s ≤ i → ascii (drop i s) ≡ true
-  unfolding ascii
-  ascii-end h = rw (drop-of-length-le s h)
+use Rattle.manpage.specs.Parts.{argumentPieces, isText, recordText, textsValid, textTo, between, beginning}
 
 -- Upper case
 
-module _ (c : ℕ) where
-  pub upper-low : c < 0x61 → c ≡ upperByte c
-  unfolding upperByte if_then_else_
-  upper-low h = rw (lt-leb 0x61 c h)
+-- a place in a text, from which on it is UTF-8
+pub record Valid-from (s : List ℕ) (i : ℕ) : Type 0 where
+  pub inside : i ≤ length s
+  pub valid : Valid (drop i s)
 
-  pub upper-high : 0x61 ≤ c → 0x7A < c → c ≡ upperByte c
-  unfolding upperByte if_then_else_
-  upper-high g h = rw (le-leb 0x61 c g, lt-leb c 0x7A h)
+-- an ASCII character is passed over as one byte
+module _ {s : List ℕ} {i : ℕ} (o : Valid-from s i) (h : i < length s) (l : getD s i 0 ≤ 0x7F) where
+  pub valid-past-ascii : Valid-from s (i + 1)
+  valid-past-ascii = record { inside = omega arith; valid = sym (one-at s i h (omega arith)) ∙ o .valid }
 
-  pub upper-letter : 0x61 ≤ c → c ≤ 0x7A → c - 32 ≡ upperByte c
-  unfolding upperByte if_then_else_
-  upper-letter g h = rw (le-leb 0x61 c g, le-leb c 0x7A h)
+  pub upper-here : (c : ℕ) → c ≡ asciiUpper (getD s i 0) → upper (drop i s) ≡ c ∷ upper (drop (i + 1) s)
+  upper-here c e = upper-ascii s i h (omega arith) ∙ ap (λ (k : ℕ). k ∷ upper (drop (i + 1) s)) (sym e)
 
--- a text from a place on, and in two parts
-pub upper-from-here : (s : List ℕ) (i c : ℕ) → i < length s → c ≡ upperByte (getD s i 0) → upper (drop i s) ≡ c ∷ upper (drop (i + 1) s)
-upper-from-here s i c h e = ap upper (from-here s i h) ∙ ap (λ (k : ℕ). k ∷ upper (drop (i + 1) s)) (sym e)
-
-pub upper-append : (x y : List ℕ) → upper (x ++ y) ≡ upper x ++ upper y
-upper-append x y = map-append upperByte x y
+-- nothing is left at the end
+pub upper-end : (s : List ℕ) (i : ℕ) → length s ≤ i → upper (drop i s) ≡ []
+upper-end s i h = ap upper (drop-of-length-le s h) ∙ upper-none
 
 -- Where capture began
 
@@ -90,6 +74,14 @@ module _ {document : List ℕ} {at : ℕ} {h : Head} (r : Read document at h) (l
   pub between-record : (to : ℕ) → at < to → between document at to ≡ recordText (h .kind) (part document (h .start) (h .stop)) ++ between document (h .next) to
   unfolding textTo
   between-record to k = ap (textTo to) (read-next r l) ∙ if-true _ _ (lt-ltb at to k)
+
+  -- in UTF-8, as are those after it
+  pub valid-record : textsValid (tokensFrom document at) ≡ true
+      → Valid (recordText (h .kind) (part document (h .start) (h .stop))) × (textsValid (tokensFrom document (h .next)) ≡ true)
+  unfolding textsValid
+  valid-record v =
+      let w = sym (ap textsValid (read-next r l)) ∙ v in
+      (and-left _ (textsValid (tokensFrom document (h .next))) w, and-right (utf8 (recordText (h .kind) (part document (h .start) (h .stop)))) _ w)
 
 -- none stands before a place that is passed
 pub between-none : (document : List ℕ) (from to : ℕ) → to ≤ from → between document from to ≡ []
@@ -121,37 +113,60 @@ never : (b : Bool) → b && false ≡ false
 never true = refl
 never false = refl
 
+-- text of records in UTF-8 is UTF-8
+pub valid-texts : (to : ℕ) (ts : List Token) → textsValid ts ≡ true → Valid (textTo to ts)
+unfolding textsValid textTo
+valid-texts to [] v = refl
+valid-texts to (t ∷ ts) v =
+    pick (λ (x : List ℕ). Valid x) (ltb (t .place) to)
+    (λ _. valid-both (recordText (t .kind) (t .body)) (textTo to ts) (and-left _ (textsValid ts) v)
+    (valid-texts to ts (and-right (utf8 (recordText (t .kind) (t .body))) _ v)))
+    (λ _. refl)
+
 -- Reading again
 
-module _ {document : List ℕ} {at : ℕ} {h : Head} (r : Read document at h) (to : ℕ) (low : at < to) (high : to ≤ length document) where
+-- a record before a place, from which on text is UTF-8
+pub record Again (document : List ℕ) (at : ℕ) (h : Head) (to : ℕ) : Type 0 where
+  pub reads : Read document at h
+  pub low : at < to
+  pub high : to ≤ length document
+  pub valid : textsValid (tokensFrom document at) ≡ true
+
+module _ {document : List ℕ} {at : ℕ} {h : Head} {to : ℕ} (g : Again document at h to) where
   inside : at < length document
-  inside = omega arith
+  inside = omega (arith, g .low, g .high)
 
   pub further : at < h .next
-  further = omega (arith, r .low inside, r .order)
+  further = omega (arith, g .reads .low inside, g .reads .order)
+
+  pub valid-next : textsValid (tokensFrom document (h .next)) ≡ true
+  valid-next = valid-record (g .reads) inside (g .valid) .1
 
   -- a record with text
   module _ (holds : isText (h .kind) && ltb (h .start) (h .stop) ≡ true) where
+    pub holds-valid : Valid (part document (h .start) (h .stop))
+    holds-valid = ap utf8 (sym (text-all (h .kind) (part document (h .start) (h .stop)) (and-left _ _ holds))) ∙ valid-record (g .reads) inside (g .valid) .0
+
     holds-part : between document at to ≡ part document (h .start) (h .stop) ++ between document (h .next) to
     holds-part =
-        between-record r inside to low
+        between-record (g .reads) inside to (g .low)
         ∙ ap (λ (x : List ℕ). x ++ between document (h .next) to) (text-all (h .kind) (part document (h .start) (h .stop)) (and-left _ _ holds))
 
     pub captured-part : upper (between document at to) ≡ upper (part document (h .start) (h .stop)) ++ upper (between document (h .next) to)
-    captured-part = ap upper holds-part ∙ upper-append (part document (h .start) (h .stop)) (between document (h .next) to)
+    captured-part = ap upper holds-part ∙ upper-both (part document (h .start) (h .stop)) (between document (h .next) to) holds-valid
 
     pub captured-some : (some : Bool) → not some && empty (between document at to) ≡ false
     captured-some some =
         ap (λ (b : Bool). not some && b)
         (ap empty holds-part
         ∙ empty-part document (h .start) (h .stop) (between document (h .next) to) (ltb-true _ _ (and-right (isText (h .kind)) _ holds))
-        (omega (arith, r .high, r .ends)))
+        (omega (arith, g .reads .high, g .reads .ends)))
         ∙ never (not some)
 
   -- a record with none
   pub passed-over : isText (h .kind) && ltb (h .start) (h .stop) ≡ false → between document at to ≡ between document (h .next) to
   passed-over e =
-      between-record r inside to low
+      between-record (g .reads) inside to (g .low)
       ∙ ap (λ (x : List ℕ). x ++ between document (h .next) to) (text-none document (h .kind) (h .start) (h .stop) e)
 
 -- whether there was any
@@ -162,10 +177,15 @@ captured-all false x y z e = ap (λ (l : List ℕ). not (empty l)) (sym z) ∙ a
 
 -- The argument
 
-argument-some : (x : List ℕ) → not (empty x) ≡ true → argument (upper x) ≡ upper x
-unfolding argument empty
-argument-some [] e = absurd (false≢true e)
-argument-some (c ∷ x) e = refl
+argument-of : (x : List ℕ) → (x ≡ [] → ⊥) → argument x ≡ x
+unfolding argument
+argument-of [] n = absurd (n refl)
+argument-of (c ∷ x) n = refl
+
+-- text that is not empty is not so in upper case either
+argument-some : (x : List ℕ) → Valid x → not (empty x) ≡ true → argument (upper x) ≡ upper x
+unfolding empty
+argument-some x v e = argument-of (upper x) (λ (z : upper x ≡ []). false≢true (ap (λ (y : List ℕ). not (empty y)) (sym (upper-empty x v z)) ∙ e))
 
 none-captured : (x : List ℕ) → not (empty x) ≡ false → x ≡ []
 unfolding empty
@@ -177,11 +197,11 @@ module _ (x old mid new : List ℕ) (m a c : Mark) (same : length mid ≡ length
     (wrote : seen new (c .len) ≡ (seen mid (a .len) >>= extended (length mid) (escape mode.Spaces (a .fresh) (upper x))))
     (line : c .fresh ≡ lineStart mode.Spaces (a .fresh) (upper x)) (strip : c .strip ≡ a .strip) (some : Bool) (any : some ≡ not (empty x)) where
   -- the captured text
-  pub argument-text : some ≡ true → Pushed (argumentPieces (upper x)) old m new c
+  pub argument-text : Valid x → some ≡ true → Pushed (argumentPieces (upper x)) old m new c
   unfolding argumentPieces bytes encode if_then_else_
-  argument-text e =
+  argument-text v e =
       let w = piece-put mode.Spaces (upper x) mid new (a .len) (c .len) (a .fresh) (c .fresh) refl wrote line in
-      pushed-same (ap (λ (y : List ℕ). piece mode.Unescaped (0x20 ∷ []) ∷ piece mode.Spaces y ∷ []) (argument-some x (sym any ∙ e)))
+      pushed-same (ap (λ (y : List ℕ). piece mode.Unescaped (0x20 ∷ []) ∷ piece mode.Spaces y ∷ []) (argument-some x v (sym any ∙ e)))
       (pushed-then same space (record { text = w .0; line = w .1; strip = strip }))
 
   -- nothing was written, and then two quotes
@@ -189,11 +209,11 @@ module _ (x old mid new : List ℕ) (m a c : Mark) (same : length mid ≡ length
       → Pushed (piece mode.Spaces (0x22 ∷ 0x22 ∷ []) ∷ []) new c last r → Pushed (argumentPieces (upper x)) old m last r
   unfolding argumentPieces argument escape lineStart escapeAll lineAfter bytes encode if_then_else_
   argument-none e last r k q =
-      let z = none-captured x (sym any ∙ e) in
+      let u = ap upper (none-captured x (sym any ∙ e)) ∙ upper-none in
       let nothing : Pushed [] mid a new c = record {
-        text = puts mid new (a .len) (c .len) _ _ (ap (λ (y : List ℕ). escape mode.Spaces (a .fresh) (upper y)) (sym z)) wrote;
-        line = line ∙ ap (λ (y : List ℕ). lineStart mode.Spaces (a .fresh) (upper y)) z;
+        text = puts mid new (a .len) (c .len) _ _ (ap (escape mode.Spaces (a .fresh)) (sym u)) wrote;
+        line = line ∙ ap (lineStart mode.Spaces (a .fresh)) u;
         strip = strip;
       } in
-      pushed-same (ap (λ (y : List ℕ). argumentPieces (upper y)) z)
+      pushed-same (ap argumentPieces u)
       (pushed-then (k ∙ same) (pushed-then same space nothing) q)

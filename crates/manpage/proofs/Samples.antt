@@ -1,5 +1,5 @@
--- Documents and their roff, by computation: the samples of 01, a heading in a heading, the escapes, and each refusal of the walk.
--- Assumes nothing.
+-- Documents and their roff, by computation: the samples of 01, a heading in a heading, headings beyond ASCII, the escapes, and each
+-- refusal of the walk. Assumes nothing.
 use mathlib.Core.Path.{_≡_, refl}
 use mathlib.Core.List.{List, [], _∷_, _++_, map}
 use Prim.Native.Nat.{ℕ}
@@ -8,6 +8,8 @@ use Rattle.base.specs.Choice.{if_then_else_}
 use Rattle.base.specs.Result.{Result, gives, refused, _>>=_}
 use Rattle.base.specs.Stack.{top, pushed, popped}
 use Rattle.utf8.specs.Utf8.{table, rowOf, encode, bytes}
+use Rattle.upper.specs.Table.{table as mappings}
+use Rattle.upper.specs.Upper.{mapsTo, upper}
 use Rattle.records.specs.Records.{little, styles, blocks, kindOf, size, tokenAt, tokens, fits}
 use Rattle.document.specs.Document.{opens, closes, bodiless, accept, first, reads, openBlocks, short, closed, check}
 use Rattle.records.specs.Stored.{littleBytes, stored, text, start, end, around}
@@ -18,7 +20,7 @@ use Rattle.renderer.specs.Walk.{walk}
 use Rattle.roff_escape.specs.Escape.{guard, backslash, replaced, specialByte, spacesByte, escapeByte, escape, lineStart, preamble}
 use Rattle.roff_escape.specs.Monoid.{writes, begun, newLine, put, push, pushes}
 use Rattle.roff_escape.specs.Composer.{fontEscape, argument, linebreak, control0, control, plaintext, text as roffText}
-use Rattle.manpage.specs.Roff.{ascii, captures, upperByte, heading, subsection, started, ended, token, turn, roff}
+use Rattle.manpage.specs.Roff.{captures, heading, subsection, started, ended, token, turn, roff}
 
 -- a document, a room, and what is answered there
 pub record Sample : Type 0 where
@@ -41,9 +43,11 @@ samples =
     ∷ shows (around block.ItemTerm (text style.Emphasis (bytes "a\nb"))) ".TP\n.SS\n\\fBa b\\fP\n"
     ∷ refuses (around block.TermRef []) 34 13 0
     ∷ refuses (around block.TermRef []) 35 11 0
-    ∷ refuses (around block.Header (text style.Text (bytes "é"))) 35 12 6
+    ∷ shows (around block.Header (text style.Text (bytes "été, ") ++ text style.Literal (bytes "ß"))) ".SH ÉTÉ,\\ SS\n"
+    ∷ shows (around block.Section2 (text style.Text (bytes "ŉ"))) ".SS ʼN\n"
+    ∷ refuses (around block.Section2 (text style.Text (bytes "ŉ"))) 42 13 0
     ∷ []
 
 pub samples-hold : map (λ (s : Sample). roff (s .room) (s .document)) samples ≡ map (λ (s : Sample). s .answer) samples
-unfolding samples if_then_else_ _>>=_ top pushed popped table rowOf encode bytes little styles blocks kindOf size tokenAt tokens fits opens closes bodiless accept first reads openBlocks short closed check littleBytes stored text start end around extended walk guard backslash replaced specialByte spacesByte escapeByte escape lineStart preamble writes begun newLine put push pushes fontEscape argument linebreak control0 control plaintext roffText ascii captures upperByte heading subsection started ended token turn roff
+unfolding samples if_then_else_ _>>=_ top pushed popped table rowOf encode bytes little styles blocks kindOf size tokenAt tokens fits opens closes bodiless accept first reads openBlocks short closed check littleBytes stored text start end around extended walk guard backslash replaced specialByte spacesByte escapeByte escape lineStart preamble writes begun newLine put push pushes fontEscape argument linebreak control0 control plaintext roffText mappings mapsTo upper captures heading subsection started ended token turn roff
 samples-hold = refl

@@ -38,9 +38,9 @@ use Rattle.roff_escape.specs.Composer.{text}
 use Rattle.roff_escape.specs.Parts.{Followed, Pushed}
 use Rattle.roff_escape.proofs.Buffer.{pushes-writes}
 use Rattle.roff_escape.proofs.Composing.{pushed-none}
-use Rattle.manpage.specs.Roff.{Locals, initial, Outcome, ascii, captures, fontOf, subsection, started, ended, token, State, state, turn, roffOn, roff}
-use Rattle.manpage.specs.Parts.{locals, Follows, isHeading, isTermRef, recordText, between, beginning, opening, closing, closed}
-use Rattle.manpage.proofs.Capturing.{between-record, between-none}
+use Rattle.manpage.specs.Roff.{Locals, initial, Outcome, captures, fontOf, subsection, started, ended, token, State, state, turn, roffOn, roff}
+use Rattle.manpage.specs.Parts.{locals, Follows, isHeading, isTermRef, recordText, textsValid, between, beginning, opening, closing, closed}
+use Rattle.manpage.proofs.Capturing.{between-record, valid-record, between-none}
 use Rattle.manpage.proofs.Blocks.{started-gives, ended-gives, started-refused, ended-refused}
 
 -- Text from one place to a further one goes by another between them.
@@ -156,17 +156,21 @@ answer-refused limit document room a e n k = record {
   inside = tt;
 }
 
--- Before a record: what is captured is the text from where capture began up to here.
+-- Before a record: what is captured is the text from where capture began up to here; from there on, and from here on, text is UTF-8.
 pub record On (limit : ℕ) (document room : List ℕ) (m : Mark) (on : Bool) (from at : ℕ) : Type 0 where
   pub same : length room ≡ limit
+  pub ahead : textsValid (tokensFrom document at) ≡ true
+  pub behind : textsValid (tokensFrom document (beginning on from at)) ≡ true
   pub chain : Chain document (beginning on from at) at
   pub leads : Leads (whole limit document) (records (turn limit) document at) (marked room m (locals m (between document (beginning on from at) at) on))
 
-pub on-start : (limit : ℕ) (document room : List ℕ) (m : Mark) → length room ≡ limit → seen room (m .len) ≡ extended limit preamble []
-    → (m .fresh ≡ true) × (m .strip ≡ false) → On limit document room m false 0 0
+pub on-start : (limit : ℕ) (document room : List ℕ) (m : Mark) → textsValid (tokens 0 0 document) ≡ true → length room ≡ limit
+    → seen room (m .len) ≡ extended limit preamble [] → (m .fresh ≡ true) × (m .strip ≡ false) → On limit document room m false 0 0
 unfolding beginning if_then_else_ marked begun writes _>>=_
-on-start limit document room m k e f = record {
+on-start limit document room m v k e f = record {
   same = k;
+  ahead = v;
+  behind = v;
   chain = chain-here document 0;
   leads = rw (e, f .0, f .1, between-none document 0 0 (le-refl 0))
       (sym (bind-assoc (extended limit preamble []) _ _) ∙ bind-assoc (extended limit preamble []) _ (λ w. walk (turn limit) (tokens 0 0 document) (state initial w)));
@@ -188,6 +192,8 @@ pub record Taken (limit : ℕ) (document room : List ℕ) (m : Mark) (on : Bool)
   pub same : length room ≡ limit
   pub inside : at < length document
   pub reads : Read document at h
+  pub ahead : textsValid (tokensFrom document at) ≡ true
+  pub behind : textsValid (tokensFrom document f) ≡ true
   pub chain : Chain document f at
   pub none : on ≡ false → between document f at ≡ []
   pub leads : Leads (whole limit document) (records (turn limit) document at) (marked room m (locals m (between document f at) on))
@@ -198,6 +204,8 @@ taken {limit} {document} {room} {m} {on} {from} {at} o r l f e = record {
   same = o .same;
   inside = l;
   reads = r;
+  ahead = o .ahead;
+  behind = subst (λ (x : ℕ). textsValid (tokensFrom document x) ≡ true) (sym e) (o .behind);
   chain = subst (λ (x : ℕ). Chain document x at) (sym e) (o .chain);
   none = λ q. ap (λ (x : ℕ). between document x at) e ∙ idle document on from at q;
   leads = subst (λ (x : ℕ). Leads (whole limit document) (records (turn limit) document at) (marked room m (locals m (between document x at) on))) (sym e) (o .leads);
@@ -214,12 +222,21 @@ module _ {limit : ℕ} {document room : List ℕ} {m : Mark} {on : Bool} {f at :
   abbrev here : Locals
   here = locals m (between document f at) on
 
+  ahead-on : textsValid (tokensFrom document (h .next)) ≡ true
+  ahead-on = valid-record (t .reads) (t .inside) (t .ahead) .1
+
+  behind-on : (on′ : Bool) → textsValid (tokensFrom document (beginning on′ f (h .next))) ≡ true
+  unfolding beginning
+  behind-on on′ = pick (λ (x : ℕ). textsValid (tokensFrom document x) ≡ true) on′ (λ _. t .behind) (λ _. ahead-on)
+
   -- a record's token was followed
   on-next : (room′ : List ℕ) (m′ : Mark) (on′ : Bool) (q : Outcome) → length room′ ≡ length room → token at (h .kind) body here ≡ gives q
       → Followed (q .pushed) (q .after .strip) room m room′ m′ → q .after .kept ≡ between document (beginning on′ f (h .next)) (h .next)
       → q .after .capture ≡ on′ → On limit document room′ m′ on′ f (h .next)
   on-next room′ m′ on′ q k e w kept c = record {
     same = k ∙ t .same;
+    ahead = ahead-on;
+    behind = behind-on on′;
     chain = chain-on (t .reads) (t .inside) f (t .chain) on′;
     leads = leads-on (whole limit document) (records (turn limit) document at) (marked room m here) (t .leads)
         (turned (turn limit) document at h) (records (turn limit) document (h .next)) (marked room′ m′ _) (walk-record (turn limit) document at h (t .reads) (t .inside))
@@ -279,14 +296,14 @@ module _ {limit : ℕ} {document room : List ℕ} {m : Mark} {on : Bool} {f at :
         on-next room′ m′ on _ same (as-kind (kind.Text st) _ e (if-false _ _ q)) w
         (t .none q ∙ sym (idle document on f (h .next) q)) refl
 
-  pub on-captured : {st : Style} → h .kind ≡ kind.Text st → on ≡ true → ascii body ≡ true → On limit document room m on f (h .next)
+  pub on-captured : {st : Style} → h .kind ≡ kind.Text st → on ≡ true → On limit document room m on f (h .next)
   unfolding token captures beginning
-  on-captured {st} e q a =
-      on-next room m on _ refl (as-kind (kind.Text st) _ e (if-true _ _ q ∙ if-true _ _ a)) (pushed-none room m)
+  on-captured {st} e q =
+      on-next room m on _ refl (as-kind (kind.Text st) _ e (if-true _ _ q)) (pushed-none room m)
       (sym (ap (λ (x : ℕ). between document x (h .next)) (if-true _ _ q) ∙ between-next (t .reads) (t .inside) f (t .chain)
       ∙ ap (λ (k : Kind). between document f at ++ recordText k body) e)) refl
 
-  -- 11 and 12, where no refusal by 13 was met before
+  -- 11, where no refusal by 13 was met before
 
   refuses : (n p : ℕ) → m .len ≤ length room → token at (h .kind) body here ≡ refused n p → whole limit document ≡ refused n p
   unfolding turn _>>=_
@@ -297,10 +314,6 @@ module _ {limit : ℕ} {document room : List ℕ} {m : Mark} {on : Bool} {f at :
 
   pub refused-11 : m .len ≤ length room → isTermRef (h .kind) ≡ true → whole limit document ≡ refused 11 at
   refused-11 i e = refuses 11 at i (token-refused at (h .kind) body here e)
-
-  pub refused-12 : {st : Style} → m .len ≤ length room → h .kind ≡ kind.Text st → on ≡ true → ascii body ≡ false → whole limit document ≡ refused 12 at
-  unfolding token captures
-  refused-12 {st} i e q a = refuses 12 at i (as-kind (kind.Text st) _ e (if-true _ _ q ∙ if-false _ _ a))
 
 module _ {limit : ℕ} {document room : List ℕ} {m : Mark} {on : Bool} {from at : ℕ} (o : On limit document room m on from at) where
   abbrev now-locals : Locals

@@ -19,7 +19,7 @@ module _ (room : ℕ) where
   abbrev ends : State → Result (List ℕ)
   ends s = gives (s .written .out)
 
-  -- after a write, the records from some locals on: their pieces, or 13; then the refusal by 11 or 12, if one is met
+  -- after a write, the records from some locals on: their pieces, or 13; then the refusal by 11, if one is met
   abbrev Written-on : List Token → Type 0
   Written-on ts =
       (l : Locals) (a : List ℕ) (start : Bool) (w : Written)
@@ -53,7 +53,7 @@ module _ (room : ℕ) where
   walk-written (t ∷ ts) l a start w = first-written t ts (walk-written ts) l a start w (token (t .place) (t .kind) (t .body) l) refl
 
   -- The text of any records in any room: the preamble and then `escape` of the whole buffer, or 13 where that is longer than the room; or else
-  -- the refusal by 11 or 12, up to which the pieces were pushed.
+  -- the refusal by 11, up to which the pieces were pushed.
   pub roff-law : (ts : List Token) → roffOn room ts ≡ (extended room (rendered (pieces ts)) [] >>= λ x. passed ts initial >>= λ _. gives x)
   unfolding begun rendered
   roff-law ts = sym (bind-assoc (begun room) _ ends) ∙ walk-written ts initial preamble true (record { out = []; fresh = true })

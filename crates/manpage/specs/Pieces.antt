@@ -10,7 +10,7 @@ abbrev pub pushedBy : Result Outcome → (Outcome → List Piece) → List Piece
 pushedBy (gives o) f = f o
 pushedBy (refused n p) f = []
 
--- 'for token in self.tokens': the pieces of some records from some locals on, up to the end or to the first refusal by 11 or 12
+-- 'for token in self.tokens': the pieces of some records from some locals on, up to the end or to the first refusal by 11
 unfoldable pub collected : List Token → Locals → List Piece
 collected [] l = []
 collected (t ∷ ts) l = pushedBy (token (t .place) (t .kind) (t .body) l) (λ o. o .pushed ++ collected ts (o .after))

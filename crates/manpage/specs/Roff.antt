@@ -1,11 +1,11 @@
 -- Roff: the text of a document, in a room of some bytes (src/buffer/manpage.rs).
-use Prim.Native.Nat.{ℕ, _-_}
-use mathlib.Core.Bool.{Bool, true, false, _&&_}
-use mathlib.Core.List.{List, [], _∷_, _++_, map}
-use lib.Dec.{leb}
-use Rattle.base.specs.Choice.{if_then_else_, among}
+use Prim.Native.Nat.{ℕ}
+use mathlib.Core.Bool.{Bool, true, false}
+use mathlib.Core.List.{List, [], _++_}
+use Rattle.base.specs.Choice.{if_then_else_}
 use Rattle.base.specs.Result.{Result, gives, refused, _>>=_}
 use Rattle.utf8.specs.Utf8.{bytes}
+use Rattle.upper.specs.Upper.{upper}
 use Rattle.records.specs.Records.{tokens, Token}
 use Rattle.records.specs.declared.Style.{Style}
 use Rattle.records.specs.declared.Style.the-variants as style
@@ -58,23 +58,12 @@ pushing ps l = gives (record { pushed = ps; after = l })
 
 -- Headings
 
--- not refusal 12, 'byte over 127 in captured roff heading text'
-unfoldable pub ascii : List ℕ → Bool
-ascii [] = true
-ascii (c ∷ x) = leb c 127 && ascii x
+-- 'Headings are captured': the text of a record
+unfoldable pub captures : List ℕ → Locals → Result Outcome
+captures x l = pushing [] (kept (l .kept ++ x) l)
 
--- 'Headings are captured': the text of the record at place p, or 12, 'being met as its text record is read'
-unfoldable pub captures : ℕ → List ℕ → Locals → Result Outcome
-captures p x l = if ascii x then pushing [] (kept (l .kept ++ x) l) else refused 12 p
-
--- 'ASCII upper-cased': a byte, and a text
-unfoldable pub upperByte : ℕ → ℕ
-upperByte c = if among 0x61 0x7A c then c - 32 else c
-
-abbrev pub upper : List ℕ → List ℕ
-upper x = map upperByte x
-
--- 'written at their end', which ends all capture: 'An inner heading's end also ends capture for the outer'
+-- 'written at their end' in upper case, by the whole mapping of 02, point 6; which ends all capture: 'An inner heading's end also ends
+-- capture for the outer'
 unfoldable pub heading : List ℕ → Locals → Result Outcome
 heading name l = pushing (control name (upper (l .kept))) (kept [] (capture false l))
 
@@ -120,7 +109,7 @@ ended p block.Mono l = pushing [] l
 
 -- `match token`: text is captured, or pushed in its font
 unfoldable pub token : ℕ → Kind → List ℕ → Locals → Result Outcome
-token p (kind.Text st) x l = if l .capture then captures p x l else pushing (subsection st ++ text (l .strip) (fontOf st) x) l
+token p (kind.Text st) x l = if l .capture then captures x l else pushing (subsection st ++ text (l .strip) (fontOf st) x) l
 token p (kind.Start b) x l = started p b l
 token p (kind.End b) x l = ended p b l
 token p kind.Unknown x l = pushing [] l

@@ -4,9 +4,12 @@ ghost use mathlib.Core.Bool.{Bool, true, false, not, _&&_};
 ghost use mathlib.Core.List.{List, _++_};
 ghost use Prim.Native.Nat.{ℕ, _≤_};
 ghost use lib.Dec.{ltb};
-ghost use lib.ListN.{length};
+ghost use lib.ListN.{length, drop};
 ghost use Rattle.base.specs.Result.{_>>=_ as bind, measured};
-ghost use Rattle.records.specs.Records.{tokens};
+ghost use Rattle.utf8.specs.Utf8.{utf8};
+ghost use Rattle.upper.specs.Upper.{upper};
+ghost use Rattle.upper.specs.Parts.{Columns};
+ghost use Rattle.records.specs.Records.{tokens, tokensFrom};
 ghost use Rattle.records.specs.declared.Kind.the-variants as kind;
 ghost use Rattle.room.specs.Room.{seen, extended};
 ghost use Rattle.renderer.specs.Walk.{empty};
@@ -15,8 +18,8 @@ ghost use Rattle.roff_escape.specs.declared.escape.Escape.the-variants as mode;
 ghost use Rattle.roff_escape.specs.Escape.{escape, lineStart};
 ghost use Rattle.roff_escape.specs.Composer.{control, text};
 ghost use Rattle.roff_escape.specs.Parts.{Pushed};
-ghost use Rattle.manpage.specs.Roff.{ascii, upperByte, upper, fontOf, subsection, started, ended, roffOn, roff};
-ghost use Rattle.manpage.specs.Parts.{argumentPieces, locals, Follows, isHeading, isText, isTermRef, between, beginning, opening, closing};
+ghost use Rattle.manpage.specs.Roff.{fontOf, subsection, started, ended, roffOn, roff};
+ghost use Rattle.manpage.specs.Parts.{argumentPieces, locals, Follows, CasedTo, isHeading, isText, isTermRef, textsValid, between, beginning, opening, closing};
 use document::Checked;
 use records::Block;
 use records::Head;
@@ -36,6 +39,13 @@ struct Captured {
     len: usize,
     fresh: bool,
     some: bool,
+}
+
+// Text as far as it was written: the length then, whether a line starts there, and the place up to which it was read.
+struct Cased {
+    len: usize,
+    fresh: bool,
+    next: usize,
 }
 
 // `From<Style> for Font`
@@ -90,51 +100,126 @@ fn begin_at(capture: bool, from: usize, here: usize) -> usize
     if capture { from } else { here }
 }
 
-// Whether text is ASCII: a heading that is not is refused by 12.
-fn is_ascii(bytes: &[u8]) -> bool
-    ensures { λ r. ⌜ r ≡ ascii (now (bytes .entry)) ⌝ }
+// Text of a heading from a place on, in upper case by the table, of which two columns are lent.
+fn escape_mapped(
+    room: &mut [u8],
+    len: usize,
+    start: bool,
+    characters: &[u16],
+    capitals: &[u16],
+    bytes: &[u8],
+    at: usize,
+) -> Line
+    requires { ⌜ Columns (now characters) (now capitals) × (utf8 (drop at (now bytes)) ≡ true) ⌝ }
+    ensures text { λ r. ⌜ seen (now (room .exit)) (r .len) ≡ bind (seen (now (room .entry)) len) (extended (length (now (room .entry))) (escape mode.Spaces start (upper (drop at (now (bytes .entry)))))) ⌝ }
+    ensures line { λ r. ⌜ r .fresh ≡ lineStart mode.Spaces start (upper (drop at (now (bytes .entry)))) ⌝ }
 {
-    let mut i: usize = 0;
+    let mut n = len;
+    let mut fresh = start;
+    let mut i = at;
     while i < bytes.len() {
-        if 127 < bytes[i] {
-            return false;
-        }
-        i += 1;
+        let cased = upper::to_uppercase(characters, capitals, bytes, i);
+        let stop = cased.len;
+        let mapped = cased.bytes;
+        let line = escape::escape_bytes(room, n, Escape::Spaces, fresh, &mapped[..stop]);
+        n = line.len;
+        fresh = line.fresh;
+        i = cased.next;
     }
-    true
+    Line { len: n, fresh }
 }
 
-// 'ASCII upper-cased'
-fn to_upper(c: u8) -> u8
-    ensures { λ r. ⌜ r ≡ upperByte c ⌝ }
-{
-    if c < b'a' {
-        return c;
-    }
-    if b'z' < c {
-        return c;
-    }
-    c - 32
-}
-
-// Some bytes of a heading, upper-cased.
-fn escape_upper(room: &mut [u8], len: usize, start: bool, bytes: &[u8]) -> Line
-    ensures text { λ r. ⌜ seen (now (room .exit)) (r .len) ≡ bind (seen (now (room .entry)) len) (extended (length (now (room .entry))) (escape mode.Spaces start (upper (now (bytes .entry))))) ⌝ }
-    ensures line { λ r. ⌜ r .fresh ≡ lineStart mode.Spaces start (upper (now (bytes .entry))) ⌝ }
+// Text of a heading in upper case, up to the first byte beyond ASCII.
+fn escape_upper(room: &mut [u8], len: usize, start: bool, bytes: &[u8]) -> Cased
+    requires { ⌜ utf8 (now bytes) ≡ true ⌝ }
+    ensures { λ r. ⌜ CasedTo (now (room .entry)) len start (now (bytes .entry)) (now (room .exit)) r ⌝ }
 {
     let mut n = len;
     let mut fresh = start;
     let mut i: usize = 0;
     while i < bytes.len() {
-        let c = to_upper(bytes[i]);
+        let b = bytes[i];
+        if 0x7F < b {
+            return Cased {
+                len: n,
+                fresh,
+                next: i,
+            };
+        }
+        let c = upper::to_ascii_uppercase(b);
         n = escape::put_byte(room, n, Escape::Spaces, fresh, c);
         fresh = escape::starts_line(Escape::Spaces, c);
         i += 1;
     }
+    Cased {
+        len: n,
+        fresh,
+        next: i,
+    }
+}
+
+// Text of a heading in upper case, ASCII first and then by the table, of which two columns are lent.
+fn escape_cased(
+    room: &mut [u8],
+    len: usize,
+    start: bool,
+    characters: &[u16],
+    capitals: &[u16],
+    bytes: &[u8],
+) -> Line
+    requires { ⌜ Columns (now characters) (now capitals) × (utf8 (now bytes) ≡ true) ⌝ }
+    ensures text { λ r. ⌜ seen (now (room .exit)) (r .len) ≡ bind (seen (now (room .entry)) len) (extended (length (now (room .entry))) (escape mode.Spaces start (upper (now (bytes .entry))))) ⌝ }
+    ensures line { λ r. ⌜ r .fresh ≡ lineStart mode.Spaces start (upper (now (bytes .entry))) ⌝ }
+{
+    let a = escape_upper(room, len, start, bytes);
+    escape_mapped(room, a.len, a.fresh, characters, capitals, bytes, a.next)
+}
+
+// The rest of a record's text, from its first byte beyond ASCII on, and then the text between two places, all in upper case: the columns are
+// named here once for a heading, and lent.
+fn put_mapped(
+    room: &mut [u8],
+    len: usize,
+    start: bool,
+    bytes: &[u8],
+    i: usize,
+    document: &[u8],
+    from: usize,
+    to: usize,
+) -> Line
+    requires { ⌜ (utf8 (drop i (now bytes)) ≡ true) × (to ≤ length (now document)) × (textsValid (tokensFrom (now document) from) ≡ true) ⌝ }
+    ensures text { λ r. ⌜ seen (now (room .exit)) (r .len) ≡ bind (seen (now (room .entry)) len) (extended (length (now (room .entry))) (escape mode.Spaces start (upper (drop i (now (bytes .entry))) ++ upper (between (now (document .entry)) from to)))) ⌝ }
+    ensures line { λ r. ⌜ r .fresh ≡ lineStart mode.Spaces start (upper (drop i (now (bytes .entry))) ++ upper (between (now (document .entry)) from to)) ⌝ }
+{
+    let characters = upper::from_column();
+    let capitals = upper::to_column();
+    let first = escape_mapped(room, len, start, &characters, &capitals, bytes, i);
+    let mut n = first.len;
+    let mut fresh = first.fresh;
+    let mut at = from;
+    while at < to {
+        let h = records::record_at(document, at);
+        let begin = h.start;
+        let stop = h.stop;
+        let next = h.next;
+        if holds_text(h) {
+            let line = escape_cased(
+                room,
+                n,
+                fresh,
+                &characters,
+                &capitals,
+                &document[begin..stop],
+            );
+            n = line.len;
+            fresh = line.fresh;
+        }
+        at = next;
+    }
     Line { len: n, fresh }
 }
 
-// The text between two places, upper-cased, from its records read again.
+// The text between two places in upper case, from its records read again. From the first byte beyond ASCII on the table is needed.
 fn put_captured(
     room: &mut [u8],
     len: usize,
@@ -143,7 +228,7 @@ fn put_captured(
     from: usize,
     to: usize,
 ) -> Captured
-    requires { ⌜ to ≤ length (now document) ⌝ }
+    requires { ⌜ (to ≤ length (now document)) × (textsValid (tokensFrom (now document) from) ≡ true) ⌝ }
     ensures text { λ r. ⌜ seen (now (room .exit)) (r .len) ≡ bind (seen (now (room .entry)) len) (extended (length (now (room .entry))) (escape mode.Spaces start (upper (between (now (document .entry)) from to)))) ⌝ }
     ensures line { λ r. ⌜ r .fresh ≡ lineStart mode.Spaces start (upper (between (now (document .entry)) from to)) ⌝ }
     ensures some { λ r. ⌜ r .some ≡ not (empty (between (now (document .entry)) from to)) ⌝ }
@@ -158,9 +243,26 @@ fn put_captured(
         let stop = h.stop;
         let next = h.next;
         if holds_text(h) {
-            let line = escape_upper(room, n, fresh, &document[begin..stop]);
-            n = line.len;
-            fresh = line.fresh;
+            let a = escape_upper(room, n, fresh, &document[begin..stop]);
+            if a.next < stop - begin {
+                let line = put_mapped(
+                    room,
+                    a.len,
+                    a.fresh,
+                    &document[begin..stop],
+                    a.next,
+                    document,
+                    next,
+                    to,
+                );
+                return Captured {
+                    len: line.len,
+                    fresh: line.fresh,
+                    some: true,
+                };
+            }
+            n = a.len;
+            fresh = a.fresh;
             some = true;
         }
         at = next;
@@ -174,7 +276,7 @@ fn put_captured(
 
 // The argument of a heading's control line, and the space before it; an empty one is `""`.
 fn put_argument(room: &mut [u8], m: Mark, document: &[u8], from: usize, to: usize) -> Mark
-    requires { ⌜ to ≤ length (now document) ⌝ }
+    requires { ⌜ (to ≤ length (now document)) × (textsValid (tokensFrom (now document) from) ≡ true) ⌝ }
     ensures { λ r. ⌜ Pushed (argumentPieces (upper (between (now (document .entry)) from to))) (now (room .entry)) m (now (room .exit)) r ⌝ }
 {
     let a = roff::push(room, m, Escape::Unescaped, b" ");
@@ -192,7 +294,7 @@ fn put_argument(room: &mut [u8], m: Mark, document: &[u8], from: usize, to: usiz
 
 // `Roff::control` with the text between two places as its argument.
 fn control(room: &mut [u8], m: Mark, name: &[u8], document: &[u8], from: usize, to: usize) -> Mark
-    requires { ⌜ to ≤ length (now document) ⌝ }
+    requires { ⌜ (to ≤ length (now document)) × (textsValid (tokensFrom (now document) from) ≡ true) ⌝ }
     ensures { λ r. ⌜ Pushed (control (now (name .entry)) (upper (between (now (document .entry)) from to))) (now (room .entry)) m (now (room .exit)) r ⌝ }
 {
     let a = roff::control_name(room, m, name);
@@ -232,7 +334,7 @@ fn started(room: &mut [u8], m: Mark, b: Block) -> Mark
 
 // `Token::BlockEnd` at a place, where the text from `from` on is captured. TermRef is refused before.
 fn ended(room: &mut [u8], m: Mark, b: Block, document: &[u8], from: usize, at: usize) -> Mark
-    requires { ⌜ at ≤ length (now document) ⌝ }
+    requires { ⌜ (at ≤ length (now document)) × (textsValid (tokensFrom (now document) from) ≡ true) ⌝ }
     ensures { λ r. ⌜ ((p : ℕ) (capture : Bool) → Follows (ended p b (locals m (between (now (document .entry)) from at) capture)) (now (room .entry)) m (now (room .exit)) r) ⌝ }
 {
     match b {
@@ -264,6 +366,7 @@ fn ends_capture(b: Block, capture: bool) -> bool
 // The walk over the records of a document. While text is captured, `from` is where that began; a heading's end reads the records from there
 // again. No record is captured by two headings, so each is read twice at most.
 fn walk(document: &[u8], room: &mut [u8]) -> Rendered
+    requires { ⌜ textsValid (tokens 0 0 (now document)) ≡ true ⌝ }
     ensures text { λ r. ⌜ standing (now (room .exit)) r ≡ roffOn (length (now (room .entry))) (tokens 0 0 (now (document .entry))) ⌝ }
     ensures inside { λ r. ⌜ Inside (length (now (room .exit))) r ⌝ }
 {
@@ -289,11 +392,7 @@ fn walk(document: &[u8], room: &mut [u8]) -> Rendered
         }
         match kind {
             Kind::Text(style) => {
-                if capture {
-                    if !is_ascii(&document[start..stop]) {
-                        return Rendered::Refused(Refusal::HeadingNotAscii(at));
-                    }
-                } else {
+                if !capture {
                     m = put_text(room, m, style, &document[start..stop]);
                 }
             }

@@ -3,7 +3,7 @@ use Prim.Native.Nat.{ℕ}
 use Rattle.refusal.specs.declared.Refusal.{Refusal}
 use Rattle.refusal.specs.declared.Refusal.the-variants as refusal
 
--- the table of 'Refused documents': the number of each refusal
+-- the table of 'Refused documents': the number of each refusal. 02, point 6: '12 when met no longer arises, and its number isn't used again'.
 abbrev pub refusalNumber : Refusal → ℕ
 refusalNumber refusal.TooLong = 1
 refusalNumber (refusal.CutShort p) = 2
@@ -16,7 +16,6 @@ refusalNumber (refusal.LeftOpen p) = 8
 refusalNumber refusal.TooWide = 9
 refusalNumber (refusal.BeyondMargin p) = 10
 refusalNumber (refusal.NoForm p) = 11
-refusalNumber (refusal.HeadingNotAscii p) = 12
 refusalNumber refusal.NoRoom = 13
 
 -- the place that it carries; '0 for 1, 9 and 13', which carry none. What the others carry is said where they are given (`first`, `closed`).
@@ -32,5 +31,4 @@ refusalPlace (refusal.LeftOpen p) = p
 refusalPlace refusal.TooWide = 0
 refusalPlace (refusal.BeyondMargin p) = p
 refusalPlace (refusal.NoForm p) = p
-refusalPlace (refusal.HeadingNotAscii p) = p
 refusalPlace refusal.NoRoom = 0

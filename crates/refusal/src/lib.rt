@@ -2,7 +2,7 @@
 ghost use mathlib.Core.Path.{_≡_};
 ghost use Rattle.refusal.specs.Numbers.{refusalNumber, refusalPlace};
 
-// A refusal, in the order of its number, with its place.
+// A refusal, in the order of its number, with its place. 12 is not used again.
 pub enum Refusal {
     TooLong,
     CutShort(usize),
@@ -15,7 +15,6 @@ pub enum Refusal {
     TooWide,
     BeyondMargin(usize),
     NoForm(usize),
-    HeadingNotAscii(usize),
     NoRoom,
 }
 
@@ -35,7 +34,6 @@ pub fn refusal_number(a: Refusal) -> u32
         Refusal::TooWide => 9,
         Refusal::BeyondMargin(_) => 10,
         Refusal::NoForm(_) => 11,
-        Refusal::HeadingNotAscii(_) => 12,
         Refusal::NoRoom => 13,
     }
 }
@@ -56,7 +54,6 @@ pub fn refusal_place(a: Refusal) -> usize
         Refusal::TooWide => 0,
         Refusal::BeyondMargin(p) => p,
         Refusal::NoForm(p) => p,
-        Refusal::HeadingNotAscii(p) => p,
         Refusal::NoRoom => 0,
     }
 }

@@ -5,15 +5,16 @@ use denote.Ref.{now}
 use Rattle.manpage.proofs.put_argument.Statement.{statement}
 use Rattle.manpage.proofs.put_argument.Tie as tie
 use Rattle.manpage.specs.Parts.{between}
-use Rattle.manpage.proofs.Capturing.{argument-text, argument-none}
+use Rattle.manpage.proofs.Capturing.{valid-texts, argument-text, argument-none}
 
 returns : tie.Need-returns
 returns c =
-    let a = c .before .before .before .before .before .before .before .before .before .before .before .before .args in
+    let i = c .before .before .before .before .before .before .before .before .before .before .before .before in
+    let a = i .args in
     let s = c .before .before .before .before .before .before .before .push in
     let g = c .before .before .before .put-captured in
     argument-text (between (now (a .document)) (a .from) (a .to)) (now (a .room)) (s .last .0) (g .last .0) (a .m) (s .result) _ (s .kept .0) (s .ensures)
-    (g .ensures .0) (g .ensures .1 .0) refl (g .result .some) (g .ensures .1 .1) (c .if1 .taken)
+    (g .ensures .0) (g .ensures .1 .0) refl (g .result .some) (g .ensures .1 .1) (valid-texts (a .to) _ (i .pre .1)) (c .if1 .taken)
 
 returns-2 : tie.Need-returns-2
 returns-2 c =

@@ -10,7 +10,13 @@ use Rattle.base.specs.Result.{measured}
 use Rattle.document.proofs.Walks.{verdict-gives, verdict-refused}
 use Rattle.renderer.specs.Rendered.{standing, filled}
 use Rattle.renderer.proofs.Clearing.{standing-measured}
+use Rattle.manpage.proofs.Encoding.{accepted-texts}
 use Rattle.manpage.proofs.Walking.{roff-accepted, roff-refused}
+
+walk-requires : tie.Need-walk-requires
+walk-requires c κs =
+    accepted-texts (now (c .before .before .before .before .before .before .args .document)) []
+    (verdict-gives [] (c .before .before .before .check .ensures) (c .before .enum-told .given .1))
 
 returns : tie.Need-returns
 returns c =
@@ -35,7 +41,7 @@ render-roff-spec =
     (tie.spec
     (λ c κs. search needs)
     (λ c. search needs)
-    (λ c κs. search needs)
+    walk-requires
     (λ c κs. search needs)
     (λ c. search needs)
     (λ c κs. search needs)

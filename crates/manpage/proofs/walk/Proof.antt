@@ -14,7 +14,7 @@ use Rattle.refusal.specs.declared.Refusal.the-variants as refusal
 use Rattle.room.specs.Room.{extended}
 use Rattle.roff_escape.specs.Escape.{preamble}
 use Rattle.manpage.specs.Parts.{isTermRef}
-use Rattle.manpage.proofs.Walking.{On, on-start, Taken, taken, taken-less, on-unknown, on-started, on-ended, on-text, on-captured, refused-11, refused-12, refused-13, answer-refused, done}
+use Rattle.manpage.proofs.Walking.{On, on-start, Taken, taken, taken-less, on-unknown, on-started, on-ended, on-text, on-captured, refused-11, refused-13, answer-refused, done}
 
 -- Invariant: what stands in the room, and the rules run from `at` on, give the whole text; what is captured is the text from where capture
 -- began up to `at`. What falls is what is left of the document.
@@ -27,7 +27,8 @@ abbrev μ-loop : tie.MeasureT-loop
 loop-holds : tie.Need-loop-holds Inv-loop μ-loop
 loop-holds c =
     let g = c .before .before .put-preamble in
-    on-start (length (g .last .0)) (now (c .before .before .before .before .before .before .args .document)) (g .last .0) (g .result) refl
+    let i = c .before .before .before .before .before .before in
+    on-start (length (g .last .0)) (now (i .args .document)) (g .last .0) (g .result) (i .pre) refl
     (g .ensures .0 ∙ ap (λ (n : ℕ). extended n preamble []) (sym (g .kept .0))) (g .ensures .1)
 
 -- the record at `at`
@@ -49,9 +50,6 @@ same-length-2 c = c .before .before .before .loop .inv .same ∙ c .before .befo
 same-length-3 : tie.Need-same-length-3 Inv-loop μ-loop
 same-length-3 c = c .before .before .before .before .before .before .before .loop .inv .same ∙ c .before .before .before .before .before .before .before .before .before .before .put-preamble .kept .0
 
-same-length-4 : tie.Need-same-length-4 Inv-loop μ-loop
-same-length-4 c = c .before .before .before .before .before .before .before .before .before .before .before .before .before .before .loop .inv .same ∙ c .before .before .before .before .before .before .before .before .before .before .before .before .before .before .before .before .before .put-preamble .kept .0
-
 returns : tie.Need-returns Inv-loop μ-loop
 returns c =
     let w = answer-refused _ _ (c .before .before .loop .room) refusal.NoRoom (refused-13 (c .before .before .loop .inv) (c .if1 .taken)) _ (c .before .before .before .before .before .put-preamble .kept .0) in
@@ -69,23 +67,6 @@ returns-3 c =
     let w = answer-refused _ _ (c .before .before .before .before .before .before .before .loop .room) (refusal.NoForm (c .before .before .before .before .before .before .before .loop .at)) (refused-11 t (c .before .before .before .before .before .if1 .left) e) _ (c .before .before .before .before .before .before .before .before .before .before .put-preamble .kept .0) in
     (w .stands, w .inside)
 
-returns-4 : tie.Need-returns-4 Inv-loop μ-loop
-returns-4 c =
-    let t = here (c .before .before .before .before .before .before .before .before .before) in
-    let a = sym (c .before .is-ascii .ensures) ∙ not-true _ (c .if5 .taken) in
-    let e = refused-12 t (c .before .before .before .before .before .before .before .before .before .before .before .before .if1 .left) (c .before .before .before .before .before .kind .given .1) (c .before .before .before .if4 .taken) a in
-    let w = answer-refused _ _ (c .before .before .before .before .before .before .before .before .before .before .before .before .before .before .loop .room) (refusal.HeadingNotAscii (c .before .before .before .before .before .before .before .before .before .before .before .before .before .before .loop .at)) e _ (c .before .before .before .before .before .before .before .before .before .before .before .before .before .before .before .before .before .put-preamble .kept .0) in
-    (w .stands, w .inside)
-
-sub-is-ascii : tie.Need-sub-is-ascii Inv-loop μ-loop
-sub-is-ascii c = let r = c .before .before .before .before .before .before .record-at .ensures in omega (arith, r .order, r .ends)
-
-part-is-ascii-start : tie.Need-part-is-ascii-start Inv-loop μ-loop
-part-is-ascii-start c = let r = c .before .before .before .before .before .before .record-at .ensures in omega (arith, r .order, r .ends)
-
-part-is-ascii-end : tie.Need-part-is-ascii-end Inv-loop μ-loop
-part-is-ascii-end c = let r = c .before .before .before .before .before .before .record-at .ensures in omega (arith, r .high, r .ends)
-
 sub-put-text : tie.Need-sub-put-text Inv-loop μ-loop
 sub-put-text c = let r = c .before .before .before .before .before .before .before .record-at .ensures in omega (arith, r .order, r .ends)
 
@@ -96,13 +77,15 @@ part-put-text-end : tie.Need-part-put-text-end Inv-loop μ-loop
 part-put-text-end c = let r = c .before .before .before .before .before .before .before .record-at .ensures in omega (arith, r .high, r .ends)
 
 ended-requires : tie.Need-ended-requires Inv-loop μ-loop
-ended-requires c κs = omega (arith, c .before .before .before .before .before .before .before .before .if2 .left)
+ended-requires c κs =
+    let t = here (c .before .before .before .before .before .before) in
+    (omega (arith, t .inside), t .behind)
 
 loop-less : tie.Need-loop-less Inv-loop μ-loop
-loop-less c = taken-less (here (c .before .before .before .before .before .before .before .before .before))
+loop-less c = taken-less (here (c .before .before .before .before .before .before .before .before .before .before .before))
 
 loop-less-2 : tie.Need-loop-less-2 Inv-loop μ-loop
-loop-less-2 c = taken-less (here (c .before .before .before .before .before .before .before .before .before .before .before))
+loop-less-2 c = taken-less (here (c .before .before .before .before .before .before))
 
 loop-less-3 : tie.Need-loop-less-3 Inv-loop μ-loop
 loop-less-3 c = taken-less (here (c .before .before .before .before .before .before .before .before .before .before))
@@ -115,12 +98,13 @@ loop-less-5 c = taken-less (here (c .before .before .before .before))
 
 loop-again : tie.Need-loop-again Inv-loop μ-loop
 loop-again c =
-    on-captured (here (c .before .before .before .before .before .before .before .before .before)) (c .before .before .before .before .before .kind .given .1) (c .before .before .before .if4 .taken) (sym (c .before .is-ascii .ensures) ∙ not-false _ (c .if5 .left))
+    let g = c .before .before .put-text in
+    let k = c .before .before .before .before .before .before .before .kind .given .1 in
+    on-text (here (c .before .before .before .before .before .before .before .before .before .before .before)) (g .last .0) (g .result) (g .kept .0) k
+    (not-true _ (c .before .before .before .before .before .if4 .taken)) (g .ensures)
 
 loop-again-2 : tie.Need-loop-again-2 Inv-loop μ-loop
-loop-again-2 c =
-    let g = c .before .before .put-text in
-    on-text (here (c .before .before .before .before .before .before .before .before .before .before .before)) (g .last .0) (g .result) (g .kept .0) (c .before .before .before .before .before .before .before .kind .given .1) (c .before .before .before .before .before .if4 .left) (g .ensures)
+loop-again-2 c = on-captured (here (c .before .before .before .before .before .before)) (c .before .before .kind .given .1) (not-false _ (c .if4 .left))
 
 loop-again-3 : tie.Need-loop-again-3 Inv-loop μ-loop
 loop-again-3 c =
@@ -157,12 +141,6 @@ walk-spec =
     same-length-3
     returns-3
     (λ c. search needs)
-    sub-is-ascii
-    part-is-ascii-start
-    part-is-ascii-end
-    (λ c κs. search needs)
-    same-length-4
-    returns-4
     sub-put-text
     part-put-text-start
     part-put-text-end

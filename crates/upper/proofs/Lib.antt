@@ -1,0 +1,9 @@
+pub mod Search
+pub mod Tables
+pub mod Whole
+pub mod Columns
+pub mod Ascii
+pub mod Writing
+pub mod Text
+pub mod Going
+pub mod Samples
