@@ -17,7 +17,7 @@
 #include <ucontext.h>
 #include <unistd.h>
 
-enum { MOST_BYTES = 32768, MOST_WIDTH = 10000, MOST_INPUT = 40000, MOST_ROOM = 1 << 20 };
+enum { MOST_BYTES = 32768, MOST_WIDTH = 10000, MOST_HEIGHT = 200, MOST_INPUT = 40000, MOST_ROOM = 1 << 20, MOST_NUMBER = 23 };
 /* What a room holds before a call, and what a number holds that the library must write. */
 enum { BEFORE = 0xEE };
 static const size_t UNWRITTEN = (size_t)-1 / 3;
@@ -139,12 +139,12 @@ static struct fenced documents, rooms, places, lengths, more[3];
 
 /* ---- what was reached -------------------------------------------------------------------------------------------------------- */
 
-enum function { CHECK, CONSOLE, HTML, HTML_STRICT, MARKDOWN, ROFF, WRITE, OPEN, CLOSE, DOC, EM_DOC, NEXT_CHUNK, TABSTOP, FUNCTIONS };
+enum function { CHECK, CONSOLE, HTML, HTML_STRICT, MARKDOWN, ROFF, WRITE, OPEN, CLOSE, DOC, EM_DOC, NEXT_CHUNK, TABSTOP, PAGE_COUNT, PAGE, FUNCTIONS };
 static const char *const names[FUNCTIONS] = {"check", "console", "html", "html_strict", "markdown", "roff", "write", "open", "close",
-    "doc", "em_doc", "next_chunk", "tabstop"};
-static unsigned long calls[FUNCTIONS], accepts[FUNCTIONS], numbers[14], inputs;
+    "doc", "em_doc", "next_chunk", "tabstop", "page_count", "page"};
+static unsigned long calls[FUNCTIONS], accepts[FUNCTIONS], numbers[MOST_NUMBER + 1], inputs;
 
-enum { MOST_BLOCKS = 8192, OUTCOMES = 4096 };
+enum { MOST_BLOCKS = 8192, OUTCOMES = 16384 };
 /* libFuzzer keeps an input that sets one of these for the first time. */
 #ifndef ALONE
 __attribute__((section("__libfuzzer_extra_counters")))
@@ -165,7 +165,7 @@ static void outcome(enum function function, uint32_t number, size_t at)
 {
     unsigned power = 0;
 
-    must(number <= 13 && number != 12, "no number of a refusal");
+    must(number <= MOST_NUMBER && number != 12, "no number of a refusal");
     calls[function]++;
     accepts[function] += number == 0;
     numbers[number] += function != NEXT_CHUNK; /* whose number is no refusal */
@@ -173,7 +173,7 @@ static void outcome(enum function function, uint32_t number, size_t at)
         at >>= 1;
         power++;
     }
-    feature(MOST_BLOCKS + ((function * 14u + number) * 16u + power) % OUTCOMES);
+    feature(MOST_BLOCKS + ((function * (MOST_NUMBER + 1u) + number) * 16u + power) % OUTCOMES);
 }
 
 /* The library is not instrumented: the first byte of each of its blocks of code becomes a breakpoint that goes when it is met. */
@@ -437,6 +437,65 @@ static void try_splitter(uint64_t *state, const uint8_t *data, size_t n)
     run_next_chunk(data, n, &cursor);
 }
 
+/* ---- pages ------------------------------------------------------------------------------------------------------------------- */
+
+static size_t run_page_count(const uint8_t *bytes, size_t n, size_t height)
+{
+    size_t counts[2];
+    for (int p = ENDS_AT_FENCE; p <= STARTS_AT_FENCE; p++) {
+        const uint8_t *lent = lend(&documents, bytes, n, p);
+        size_t *count = lend_number(&places, UNWRITTEN, p);
+        uint32_t number = sefgrunn_page_count(lent, n, height, count);
+        counts[p] = *count;
+        outcome(PAGE_COUNT, number, *count);
+        must(number == (height < 1 || height > MOST_HEIGHT ? 20 : 0), "page_count: number");
+        must(number == 0 ? *count <= n && (*count == 0) == (n == 0) : *count == 0, "page_count: count");
+    }
+    must(counts[0] == counts[1], "page_count: two answers");
+    return counts[0];
+}
+
+/* One page, in both placements; its end, or 0. `count` is how many pages there are. */
+static size_t run_page(const uint8_t *bytes, size_t n, size_t height, size_t page, size_t count)
+{
+    size_t starts[2], sizes[2], rows = 0;
+    uint32_t expected = height < 1 || height > MOST_HEIGHT ? 20 : page < 1 || page > count ? 21 : 0;
+    for (int p = ENDS_AT_FENCE; p <= STARTS_AT_FENCE; p++) {
+        const uint8_t *lent = lend(&documents, bytes, n, p);
+        size_t *start = lend_number(&places, UNWRITTEN, p), *length = lend_number(&lengths, UNWRITTEN, p);
+        uint32_t number = sefgrunn_page(lent, n, height, page, start, length);
+        starts[p] = *start, sizes[p] = *length;
+        outcome(PAGE, number, *start);
+        must(number == expected, "page: number");
+        must(number == 0 ? *length > 0 && *start < n && *length <= n - *start : *start == 0 && *length == 0, "page: no part of the text");
+    }
+    must(starts[0] == starts[1] && sizes[0] == sizes[1], "page: two answers");
+    for (size_t i = starts[0]; i < starts[0] + sizes[0]; i++) {
+        rows += bytes[i] == '\n' || i == n - 1;
+    }
+    must(expected != 0 || (page < count ? rows == height && bytes[starts[0] + sizes[0] - 1] == '\n' : rows >= 1 && rows <= height),
+        "page: rows");
+    must(expected != 0 || (page == 1) == (starts[0] == 0), "page: start");
+    return starts[0] + sizes[0];
+}
+
+/* Any bytes as a text: the count, then two pages that follow each other, and pages of chance. */
+static void try_pages(uint64_t *state, const uint8_t *data, size_t n)
+{
+    static const size_t others[] = {0, 200, 201, (size_t)-1};
+    size_t height = below(state, 6) == 0 ? others[below(state, 4)] : 1 + below(state, 30);
+    size_t count = run_page_count(data, n, height);
+    if (count > 0) {
+        size_t page = 1 + below(state, count), end = run_page(data, n, height, page, count);
+        must((page == count) == (end == n), "page: the last one");
+        if (page < count) {
+            must(run_page(data + end, n - end, height, 1, count - page) > 0, "page: the next one");
+        }
+    }
+    run_page(data, n, height, below(state, 2) == 0 ? count + 1 : 0, count);
+    run_page(data, n, height, (size_t)next(state), count);
+}
+
 /* ---- the builder ------------------------------------------------------------------------------------------------------------- */
 
 struct build {
@@ -623,6 +682,7 @@ int LLVMFuzzerTestOneInput(const uint8_t *data, size_t n)
         try_render(s, data, n, checked, room_size(&state, n));
     }
     try_splitter(&state, data, n);
+    try_pages(&state, data, n);
     try_builder(&state, data, n, below(&state, 4) == 0 ? n : record_start(&state, data, n));
     return 0;
 }
@@ -635,8 +695,8 @@ static void report(void)
         printf("%-12s %14lu %14lu\n", names[f], calls[f], accepts[f]);
         all += calls[f];
     }
-    printf("answers 0 to 13:");
-    for (int i = 0; i <= 13; i++) {
+    printf("answers 0 to %d:", MOST_NUMBER);
+    for (int i = 0; i <= MOST_NUMBER; i++) {
         printf(" %lu", numbers[i]);
     }
     printf("\nblocks of the library's code: %zu of %zu met\n", blocks_met, block_count);

@@ -48,7 +48,9 @@ enum sefgrunn_refusal {
                                         first byte, or where an empty chunk would stand */
     SEFGRUNN_NO_FORM = 11,           /* Meta in HTML or Markdown, TermRef in roff; place of the record */
     /* 12 was a byte over 127 in a roff heading. Headings have been upper-cased beyond ASCII since; the number is not used again. */
-    SEFGRUNN_NO_ROOM = 13            /* no room; place 0 */
+    SEFGRUNN_NO_ROOM = 13,           /* no room; place 0 */
+    SEFGRUNN_WRONG_HEIGHT = 20,      /* height of a page outside 1 to 200; place 0 */
+    SEFGRUNN_NO_PAGE = 21            /* page 0, or beyond the last; place 0 */
 };
 
 /* The style of a text record: its kind. */
@@ -136,6 +138,16 @@ uint32_t sefgrunn_markdown(const uint8_t *document, size_t n, bool full, uint8_t
  * Without .TH, groff shows no headings and other characters for `-` and backticks. Without .nh, it hyphenates words at line ends, options
  * too: `--certificate` becomes `--cer`, a hyphen that the document does not have, and `tificate` on the next line. */
 uint32_t sefgrunn_roff(const uint8_t *document, size_t n, uint8_t *room, size_t room_len, size_t *at);
+
+/* Pages of a console text for a screen of some rows. Any bytes are a text. A row ends at a line feed, which it has; a non-empty rest is a
+ * row. A page is height rows, the last one 1 to height of them; pages joined in order are the text, and an empty text has none. Reads n
+ * bytes at text. */
+
+/* How many pages there are. Writes *count, 0 after a refusal. Refusal 20. */
+uint32_t sefgrunn_page_count(const uint8_t *text, size_t n, size_t height, size_t *count);
+
+/* A page, as a part of the text; the first is page 1. Writes *start and *length, both 0 after a refusal. Refusals 20, then 21. */
+uint32_t sefgrunn_page(const uint8_t *text, size_t n, size_t height, size_t page, size_t *start, size_t *length);
 
 /* The builder. A document, whose blocks may be open, stands in the first *length bytes at room. An accepted call writes the new
  * records there, sets *length to the new length and *place to 0; no byte past the new length changes. A refused one changes neither

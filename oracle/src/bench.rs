@@ -275,6 +275,31 @@ pub fn head() {
     );
 }
 
+/// The last page of a text of 60 KB; one look for line feeds over the text stands in for the Rust, which
+/// has no pages.
+pub fn paging() {
+    let line = b"    --listen=ADDRESS  Address to listen on, as HOST:PORT\n";
+    let text: Vec<u8> = line.iter().copied().cycle().take(60 * 1_024).collect();
+    let feeds = |text: &[u8]| text.iter().filter(|&&byte| byte == b'\n').count();
+    let height = 24;
+    let page = (feeds(&text) as u64 + 1).div_ceil(height);
+    let times = medians(
+        400,
+        || batch(BATCH, || assert_eq!(port(Call::Page { height, page }, &text, &mut []), 0)),
+        || {
+            batch(BATCH, || {
+                let (mut rest, mut rows) = (black_box(&text[..]), 0);
+                while let Some(end) = rest.iter().position(|&byte| byte == b'\n') {
+                    rows += 1;
+                    rest = &rest[end + 1..];
+                }
+                black_box(rows);
+            })
+        },
+    );
+    row("page (rust: line feeds)", "60 KB of text", text.len(), Some(times));
+}
+
 /// Roff of headings in ASCII, and of headings whose characters are mapped beyond it.
 pub fn headings() {
     for (what, text) in [

@@ -1,6 +1,7 @@
 //! One type for a call of any public function and one for its answer, with the list form that
 //! `oracle record` writes.
 
+use crate::pages;
 use crate::rules::{self, Chunk, Operation, PlainCursor, Refusal, Renderer};
 
 #[derive(Debug, Clone, Copy, Eq, PartialEq)]
@@ -15,13 +16,21 @@ pub enum Call {
         ticks: u32,
     },
     Tabstop,
+    PageCount {
+        height: u64,
+    },
+    Page {
+        height: u64,
+        page: u64,
+    },
 }
 
 /// A call with all that it reads and all that its room holds before it.
 #[derive(Debug, Clone, Eq, PartialEq)]
 pub struct Case {
     pub call: Call,
-    /// the document; for the builder the text written or the document added; the body to split
+    /// the document; for the builder the text written or the document added; the body to split; the
+    /// text to page
     pub document: Vec<u8>,
     /// the room before the call: a pattern without zeros, or the builder's document so far and then
     /// such a pattern
@@ -92,6 +101,17 @@ pub fn answer(case: &Case) -> Answer {
             answer.numbers = vec![found.map_or(0, |(tabstop, _)| tabstop as u64)];
             found.map(|(_, at)| at as u64)
         }
+        Call::PageCount { height } => {
+            let count = pages::count(&case.document, height);
+            answer.numbers = vec![count.map_or(0, |count| count as u64)];
+            count.map(|_| 0)
+        }
+        Call::Page { height, page } => {
+            let part = pages::page(&case.document, height, page);
+            let (start, length) = part.unwrap_or((0, 0));
+            answer.numbers = vec![start as u64, length as u64];
+            part.map(|_| 0)
+        }
     };
     match outcome {
         Ok(at) => answer.at = at,
@@ -115,8 +135,9 @@ pub fn put_chunk(answer: &mut Answer, given: PlainCursor, next: Option<(Chunk, P
 }
 
 /// The number of a call in a list, its setting (width, style, block or cursor), and its two flags.
-fn header(call: Call) -> (u8, u64, bool, bool) {
-    match call {
+/// `None` for a call that no list has.
+fn header(call: Call) -> Option<(u8, u64, bool, bool)> {
+    Some(match call {
         Call::Check => (0, 0, false, false),
         Call::Render(Renderer::Console { width, full, characters }) => (1, width, full, characters),
         Call::Render(Renderer::Html { full, css, strict: false }) => (2, 0, full, css),
@@ -131,7 +152,8 @@ fn header(call: Call) -> (u8, u64, bool, bool) {
         Call::Split => (11, 0, false, false),
         Call::NextChunk { at, .. } => (12, at, false, false),
         Call::Tabstop => (13, 0, false, false),
-    }
+        Call::PageCount { .. } | Call::Page { .. } => return None,
+    })
 }
 
 /// The start that a list gives to the one space of a line end, which is no part of its body.
@@ -189,7 +211,7 @@ fn put(out: &mut Vec<u8>, number: u64) {
 /// ```
 pub fn list(case: &Case, answer: &Answer, out: &mut Vec<u8>) {
     let mut body = Vec::new();
-    let (call, setting, full, css) = header(case.call);
+    let (call, setting, full, css) = header(case.call).expect("a call that lists have");
     body.push(call);
     put(&mut body, setting);
     let full = match case.call {

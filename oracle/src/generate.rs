@@ -22,10 +22,11 @@ pub enum Subject {
     Split,
     NextChunk,
     Tabstop,
+    Pages,
 }
 
 impl Subject {
-    pub const ALL: [(Subject, &'static str); 11] = [
+    pub const ALL: [(Subject, &'static str); 12] = [
         (Subject::Check, "check"),
         (Subject::Console, "console"),
         (Subject::Html, "html"),
@@ -37,7 +38,13 @@ impl Subject {
         (Subject::Split, "split"),
         (Subject::NextChunk, "next_chunk"),
         (Subject::Tabstop, "tabstop"),
+        (Subject::Pages, "pages"),
     ];
+
+    /// Whether lists have its calls.
+    pub fn is_listed(self) -> bool {
+        self != Subject::Pages
+    }
 
     pub fn named(name: &str) -> Option<Subject> {
         Self::ALL.iter().find(|(_, n)| *n == name).map(|(subject, _)| *subject)
@@ -896,6 +903,46 @@ fn stepping(rng: &mut Rng, limits: Limits) -> Case {
     Case { call: Call::NextChunk { at, ticks }, document: body, room: Vec::new(), length: 0 }
 }
 
+/// A text to page: rows of chance, a console text, any bytes; empty, short and long.
+fn paging(rng: &mut Rng, limits: Limits) -> Case {
+    let mut text: Vec<u8> = match rng.below(8) {
+        0 => Vec::new(),
+        1 => vec![b'\n'; rng.below(450)],
+        2..=4 => {
+            let document = document(rng, Subject::Console, limits, 1_000);
+            let renderer =
+                Renderer::Console { width: rng.below(60) as u64, full: true, characters: true };
+            rules::render(renderer, &document, usize::MAX).outcome.unwrap_or_default()
+        }
+        5 => (0..rng.below(300)).map(|_| rng.next() as u8 % 14).collect(),
+        _ => (0..rng.below(60)).map(|_| rng.pick(b"ab\n\n\n\xC3\0\r")).collect(),
+    };
+    if rng.once_in(60) {
+        text = text.repeat(rng.below(60));
+    }
+    let rows = text.split_inclusive(|&b| b == b'\n').count() as u64;
+    let far = [0, 201, 202, u64::MAX, u64::MAX - 1, 1 << 32];
+    let height = match rng.below(12) {
+        0 => rng.pick(&far),
+        1 => rng.pick(&[1, 199, 200]),
+        2 => rows.clamp(1, 200),
+        3 => (rows / 2).clamp(1, 200),
+        4..=7 => rng.within(1, 4) as u64,
+        _ => rng.within(1, 30) as u64,
+    };
+    if rng.once_in(4) {
+        return Case { call: Call::PageCount { height }, document: text, room: vec![], length: 0 };
+    }
+    let count = rows.div_ceil(height.clamp(1, 200));
+    let page = match rng.below(8) {
+        0 => rng.pick(&far),
+        1 => count + 1,
+        2..=3 => count,
+        _ => rng.below(count as usize + 1) as u64,
+    };
+    Case { call: Call::Page { height, page }, document: text, room: vec![], length: 0 }
+}
+
 /// The case of a subject with this seed and index.
 pub fn case(subject: Subject, seed: u64, index: u64, limits: Limits) -> Case {
     let rng = &mut Rng::new(seed, index);
@@ -908,6 +955,7 @@ pub fn case(subject: Subject, seed: u64, index: u64, limits: Limits) -> Case {
         }
         Subject::Builder => building(rng, limits),
         Subject::Headings => heading_of_all(rng, index),
+        Subject::Pages => paging(rng, limits),
         Subject::Split => splitting(rng, limits),
         Subject::NextChunk => stepping(rng, limits),
         _ => rendering(rng, subject, limits),
@@ -939,8 +987,8 @@ pub fn told_apart(
 }
 
 /// How often each number is answered; index 0 is acceptance.
-pub fn numbers(subject: Subject, seed: u64, cases: u64) -> [u64; 14] {
-    let mut counts = [0; 14];
+pub fn numbers(subject: Subject, seed: u64, cases: u64) -> [u64; 24] {
+    let mut counts = [0; 24];
     for index in 0..cases {
         counts[answer(&case(subject, seed, index, Limits::COMPARED)).number as usize] += 1;
     }
@@ -961,6 +1009,7 @@ pub fn owed(subject: Subject) -> &'static [u32] {
         Subject::Split => &[0],
         // which chunk it is
         Subject::NextChunk => &[0, 1, 2, 3, 4],
+        Subject::Pages => &[0, 20, 21],
     }
 }
 
@@ -1060,8 +1109,9 @@ mod tests {
     #[test]
     fn recorded_cases_keep_their_limits() {
         for (subject, name) in Subject::ALL {
-            // each of its documents has its own size
-            for index in if subject == Subject::Headings { 0..0 } else { 0..300 } {
+            // each of the headings has its own size
+            let limited = subject != Subject::Headings && subject.is_listed();
+            for index in if limited { 0..300 } else { 0..0 } {
                 let case = case(subject, 11, index, Limits { bytes: 100, ..Limits::RECORDED });
                 assert!(case.document.len() <= 140, "{name}: {}", case.document.len());
             }

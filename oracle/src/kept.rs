@@ -10,6 +10,7 @@ use std::sync::Once;
 
 use crate::buffer::{plain_chunks, Color, PlainChunk, Token};
 use crate::cases::{Answer, Call, Case};
+use crate::pages;
 use crate::rules::{self, Chunk, Kind, Operation, Record, Refusal, Renderer};
 use crate::stored::{decode, put_record, Block, Ending, Style, MOST_BYTES};
 use crate::Doc;
@@ -479,5 +480,8 @@ pub fn confirm(case: &Case, answer: &Answer) -> Result<(), String> {
         Call::Split => confirm_split(&case.document, &answer.chunks),
         Call::NextChunk { at, ticks } => confirm_next(case, at, ticks),
         Call::Tabstop => confirm_tabstop(case, answer),
+        Call::PageCount { height } | Call::Page { height, .. } => {
+            pages::confirm(&case.document, height)
+        }
     }
 }

@@ -3,6 +3,7 @@
 //! - `bpaf`: the crate's files, cut (the *kept Rust*).
 //! - [`stored`]: documents in the stored form of 01, read into and made from the kept `Doc`.
 //! - [`rules`]: 01 read again, independently of the kept Rust, with refusals and rooms.
+//! - [`pages`]: 02's pages of a console text.
 //! - [`kept`]: the kept Rust run beside `rules`; every disagreement is reported.
 //! - [`cases`]: one type for a call of any public function, one for its answer, and their list form.
 //! - [`generate`]: seeded documents, settings, rooms and builder calls.
@@ -25,6 +26,7 @@ pub mod bench;
 pub mod cases;
 pub mod generate;
 pub mod kept;
+pub mod pages;
 pub mod port;
 pub mod rules;
 pub mod stored;

@@ -167,6 +167,7 @@ fn run_bench(documents: impl Iterator<Item = String>) -> ExitCode {
         fine &= timed(path, bench::page);
     }
     bench::headings();
+    bench::paging();
     bench::building_head();
     for path in &documents {
         fine &= timed(path, bench::building);
@@ -220,7 +221,8 @@ fn run_answer(arguments: &Arguments) -> Parsed<ExitCode> {
 /// A list of cases with their answers, each confirmed by the kept Rust.
 fn run_record(arguments: &Arguments) -> Parsed<ExitCode> {
     let kind = arguments.operand()?;
-    let subject = Subject::named(kind).ok_or(format!("{kind}: no such kind"))?;
+    let listed = Subject::named(kind).filter(|subject| subject.is_listed());
+    let subject = listed.ok_or(format!("{kind}: no such kind"))?;
     let (seed, cases) = (arguments.number("seed", None)?, arguments.number("cases", None)?);
     let most = arguments.number("max-bytes", Some(Limits::RECORDED.bytes as u64))?;
     let limits = Limits { bytes: most.min(40_000) as usize, recorded: true };
@@ -347,11 +349,11 @@ fn run_reach(arguments: &Arguments) -> Parsed<ExitCode> {
         let missing: Vec<u32> =
             generate::owed(subject).iter().copied().filter(|&n| counts[n as usize] == 0).collect();
         complete &= missing.is_empty();
-        println!(
-            "{name}: accepted {}, refused 1 to 13 {:?}, missing {missing:?}",
-            counts[0],
-            &counts[1..]
-        );
+        let given: Vec<String> = (1..counts.len())
+            .filter(|&n| counts[n] > 0)
+            .map(|n| format!("{n} {} times", counts[n]))
+            .collect();
+        println!("{name}: accepted {}, refused {given:?}, missing {missing:?}", counts[0]);
     }
     println!("reach {}", if complete { "complete" } else { "incomplete" });
     Ok(if complete { ExitCode::SUCCESS } else { ExitCode::FAILURE })

@@ -56,7 +56,8 @@ impl Stored {
     fn numbers(&self, call: Call) -> Vec<u64> {
         let count = match call {
             Call::NextChunk { .. } => 4,
-            Call::Tabstop => 1,
+            Call::Tabstop | Call::PageCount { .. } => 1,
+            Call::Page { .. } => 2,
             _ => 0,
         };
         self.numbers[..count].iter().map(|&n| n as u64).collect()
@@ -156,6 +157,15 @@ pub(crate) fn number(call: Call, document: &[u8], room: &mut [u8], stored: &mut 
                 number
             }
             Call::Tabstop => c::sefgrunn_tabstop(d, n, first, at),
+            // pages have no place
+            Call::PageCount { height } => {
+                *at = 0;
+                c::sefgrunn_page_count(d, n, height as usize, first)
+            }
+            Call::Page { height, page } => {
+                *at = 0;
+                c::sefgrunn_page(d, n, height as usize, page as usize, first, second)
+            }
         }
     }
 }

@@ -56,7 +56,7 @@ fn bad_arguments_print_usage() {
 /// A list is the same every time, and its case lengths lead from the first to the last byte.
 #[test]
 fn records_lists() {
-    for (_, kind) in Subject::ALL {
+    for (_, kind) in Subject::ALL.into_iter().filter(|(subject, _)| subject.is_listed()) {
         let arguments = ["record", kind, "--seed", "5", "--cases", "50"];
         let list = oracle(&arguments, b"").stdout;
         assert_eq!(list, oracle(&arguments, b"").stdout);

@@ -60,6 +60,15 @@ extern "C" {
         room_len: usize,
         at: *mut usize,
     ) -> u32;
+    pub fn sefgrunn_page_count(text: *const u8, n: usize, height: usize, count: *mut usize) -> u32;
+    pub fn sefgrunn_page(
+        text: *const u8,
+        n: usize,
+        height: usize,
+        page: usize,
+        start: *mut usize,
+        length: *mut usize,
+    ) -> u32;
     pub fn sefgrunn_write(
         room: *mut u8,
         room_len: usize,

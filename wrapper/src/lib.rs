@@ -72,11 +72,15 @@ pub enum Number {
     // 12 is not used again.
     /// The room is too small. Place 0.
     NoRoom = 13,
+    /// The height of a page is outside 1 to 200. Place 0.
+    WrongHeight = 20,
+    /// A page is 0 or beyond the last. Place 0.
+    NoPage = 21,
 }
 
 impl Number {
     /// All of them, in order.
-    pub const ALL: [Number; 12] = [
+    pub const ALL: [Number; 14] = [
         Number::TooLong,
         Number::CutShort,
         Number::UnknownKind,
@@ -89,9 +93,11 @@ impl Number {
         Number::BeyondMargin,
         Number::NoForm,
         Number::NoRoom,
+        Number::WrongHeight,
+        Number::NoPage,
     ];
 
-    /// 1 to 13, without 12.
+    /// The header's number.
     pub fn get(self) -> u32 {
         self as u32
     }
@@ -110,6 +116,8 @@ impl Number {
             Number::BeyondMargin => "text is more than 50 columns before its margin",
             Number::NoForm => "this form has no such block",
             Number::NoRoom => "no room",
+            Number::WrongHeight => "the height of a page is outside 1 to 200",
+            Number::NoPage => "there is no such page",
         }
     }
 }
@@ -334,6 +342,62 @@ pub fn roff_string(document: &[u8]) -> Result<String, Refusal> {
 }
 
 // ---------------------------------------------------------------------------------------------
+// Pages
+
+/// The largest height of a page, in rows.
+pub const MOST_HEIGHT: usize = 200;
+
+/// How many pages of `height` rows a console text has: rows divided by height, rounded up. Any bytes
+/// are a text. A row ends at a line feed; a non-empty rest is a row. Refusal 20.
+pub fn page_count(text: &[u8], height: usize) -> Result<usize, Refusal> {
+    let (number, count) = linked::page_count(text, height);
+    accepted(number, 0)?;
+    Ok(count)
+}
+
+/// A page of a console text: whole rows, `height` of them, in the last page maybe fewer. The first is
+/// page 1. Refusals 20, then 21.
+pub fn page(text: &[u8], height: usize, page: usize) -> Result<&[u8], Refusal> {
+    let (number, start, length) = linked::page(text, height, page);
+    accepted(number, 0)?;
+    Ok(&text[start..start + length])
+}
+
+/// The pages of a console text, in order; joined they are the text. Refusal 20.
+///
+/// ```
+/// # fn main() -> Result<(), sefgrunn::Refusal> {
+/// let shown: Vec<&[u8]> = sefgrunn::pages(b"a\nb\nc", 2)?.collect();
+/// assert_eq!(shown, [&b"a\nb\n"[..], b"c"]);
+/// # Ok(())
+/// # }
+/// ```
+pub fn pages(text: &[u8], height: usize) -> Result<Pages<'_>, Refusal> {
+    page_count(b"", height)?;
+    Ok(Pages { rest: text, height })
+}
+
+/// The pages of a text; see [`pages`].
+#[derive(Debug, Clone)]
+pub struct Pages<'t> {
+    /// The text without the pages handed out: its first page is the next one.
+    rest: &'t [u8],
+    height: usize,
+}
+
+impl<'t> Iterator for Pages<'t> {
+    type Item = &'t [u8];
+
+    fn next(&mut self) -> Option<&'t [u8]> {
+        let page = page(self.rest, self.height, 1).ok()?;
+        self.rest = &self.rest[page.len()..];
+        Some(page)
+    }
+}
+
+impl std::iter::FusedIterator for Pages<'_> {}
+
+// ---------------------------------------------------------------------------------------------
 // The splitter
 
 /// The width of a code line, which follows a line end and four spaces.
@@ -549,7 +613,7 @@ mod tests {
     #[test]
     fn numbers_are_those_of_the_header() {
         let numbers: Vec<u32> = Number::ALL.map(Number::get).to_vec();
-        assert_eq!(numbers, (1..=13).filter(|&number| number != 12).collect::<Vec<u32>>());
+        assert_eq!(numbers, [1, 2, 3, 4, 5, 6, 7, 8, 9, 10, 11, 13, 20, 21]);
         for number in Number::ALL {
             assert_eq!(accepted(number.get(), 7), Err(Refusal { number, place: 7 }));
         }

@@ -95,6 +95,23 @@ pub fn tabstop(document: &[u8]) -> (u32, usize, usize) {
     (number, tabstop, at)
 }
 
+/// The number and the count.
+pub fn page_count(text: &[u8], height: usize) -> (u32, usize) {
+    let mut count = 0;
+    // SAFETY: see above.
+    let number = unsafe { c::sefgrunn_page_count(text.as_ptr(), text.len(), height, &mut count) };
+    (number, count)
+}
+
+/// The number, and the page's start and length.
+pub fn page(text: &[u8], height: usize, page: usize) -> (u32, usize, usize) {
+    let (mut start, mut length) = (0, 0);
+    let (t, n) = (text.as_ptr(), text.len());
+    // SAFETY: see above.
+    let number = unsafe { c::sefgrunn_page(t, n, height, page, &mut start, &mut length) };
+    (number, start, length)
+}
+
 /// Which chunk there is, its start, length and width; the cursor is moved behind it.
 pub fn next_chunk(body: &[u8], at: &mut usize, ticks: &mut u32) -> (u32, usize, usize, usize) {
     let (mut start, mut length, mut width) = (0, 0, 0);

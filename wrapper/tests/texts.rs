@@ -197,6 +197,37 @@ fn chunks_and_their_places() {
     assert_eq!(sefgrunn::chunks(b"").next(), None);
 }
 
+/// Pages joined are the text, whichever way they are asked for.
+#[test]
+fn pages_of_a_text() {
+    let document = text("one\n two\n three\n four\n five");
+    let shown = console(&document, 100);
+    let shown = shown.as_bytes();
+    assert_eq!(sefgrunn::page_count(shown, 2), Ok(3));
+    assert_eq!(sefgrunn::page(shown, 2, 1), Ok(&b"one\ntwo\n"[..]));
+    assert_eq!(sefgrunn::page(shown, 2, 3), Ok(&b"five"[..]));
+    for height in 1..=6 {
+        let pages: Vec<&[u8]> = sefgrunn::pages(shown, height).unwrap().collect();
+        assert_eq!(pages.len(), sefgrunn::page_count(shown, height).unwrap());
+        assert_eq!(pages.concat(), shown);
+        for (index, page) in pages.into_iter().enumerate() {
+            assert_eq!(sefgrunn::page(shown, height, index + 1), Ok(page));
+        }
+    }
+    assert_eq!(sefgrunn::page_count(b"", 1), Ok(0));
+    assert_eq!(sefgrunn::pages(b"", 1).unwrap().next(), None);
+    assert_eq!(sefgrunn::pages(b"a\n", 1).unwrap().count(), 1);
+    let at = |number| Refusal { number, place: 0 };
+    for height in [0, 201, usize::MAX] {
+        assert_eq!(sefgrunn::page_count(shown, height), Err(at(Number::WrongHeight)));
+        assert_eq!(sefgrunn::page(shown, height, 0), Err(at(Number::WrongHeight)));
+        assert_eq!(sefgrunn::pages(shown, height).map(drop), Err(at(Number::WrongHeight)));
+    }
+    assert_eq!(sefgrunn::page(shown, sefgrunn::MOST_HEIGHT, 0), Err(at(Number::NoPage)));
+    assert_eq!(sefgrunn::page(shown, sefgrunn::MOST_HEIGHT, 2), Err(at(Number::NoPage)));
+    assert_eq!(sefgrunn::page(b"", 1, 1), Err(at(Number::NoPage)));
+}
+
 /// The text, then zeros; in a room that is too small only zeros.
 #[test]
 fn what_a_room_holds() {

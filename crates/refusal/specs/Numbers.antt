@@ -1,4 +1,4 @@
--- 01, 'Refused documents': the number and the place of each refusal.
+-- 01, 'Refused documents', and the refusals of 02's requests: the number and the place of each.
 use Prim.Native.Nat.{ℕ}
 use Rattle.refusal.specs.declared.Refusal.{Refusal}
 use Rattle.refusal.specs.declared.Refusal.the-variants as refusal
@@ -17,6 +17,9 @@ refusalNumber refusal.TooWide = 9
 refusalNumber (refusal.BeyondMargin p) = 10
 refusalNumber (refusal.NoForm p) = 11
 refusalNumber refusal.NoRoom = 13
+-- 02, point 12: '20 when the height is outside 1 to 200', '21 when the page is 0 or beyond the last'
+refusalNumber refusal.WrongHeight = 20
+refusalNumber refusal.NoPage = 21
 
 -- the place that it carries; '0 for 1, 9 and 13', which carry none. What the others carry is said where they are given (`first`, `closed`).
 abbrev pub refusalPlace : Refusal → ℕ
@@ -32,3 +35,6 @@ refusalPlace refusal.TooWide = 0
 refusalPlace (refusal.BeyondMargin p) = p
 refusalPlace (refusal.NoForm p) = p
 refusalPlace refusal.NoRoom = 0
+-- 02, point 12: 'both with place 0'
+refusalPlace refusal.WrongHeight = 0
+refusalPlace refusal.NoPage = 0

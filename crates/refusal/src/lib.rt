@@ -16,6 +16,8 @@ pub enum Refusal {
     BeyondMargin(usize),
     NoForm(usize),
     NoRoom,
+    WrongHeight,
+    NoPage,
 }
 
 // A refusal's number.
@@ -35,6 +37,8 @@ pub fn refusal_number(a: Refusal) -> u32
         Refusal::BeyondMargin(_) => 10,
         Refusal::NoForm(_) => 11,
         Refusal::NoRoom => 13,
+        Refusal::WrongHeight => 20,
+        Refusal::NoPage => 21,
     }
 }
 
@@ -55,5 +59,7 @@ pub fn refusal_place(a: Refusal) -> usize
         Refusal::BeyondMargin(p) => p,
         Refusal::NoForm(p) => p,
         Refusal::NoRoom => 0,
+        Refusal::WrongHeight => 0,
+        Refusal::NoPage => 0,
     }
 }

@@ -65,7 +65,7 @@ module _ (r : Searched) (x y : Result ℕ) (e : tabstopOf r ≡ x) (f : settledO
       (h ∙ ap numberOf b, (ap orZero b, i ∙ ap lengthOrPlace d))
 
 -- a text and its length are refused alike
-measured-number : (x : Result (List ℕ)) → numberOf (measured x) ≡ numberOf x
+pub measured-number : (x : Result (List ℕ)) → numberOf (measured x) ≡ numberOf x
 measured-number (gives y) = refl
 measured-number (refused n p) = refl
 

@@ -1,7 +1,7 @@
 // The C interface (include/sefgrunn.h). Each function returns 0 for accepted, else the refusal's number.
 ghost use mathlib.Core.Path.{_≡_};
 ghost use mathlib.Core.Bool.{true, false};
-ghost use lib.ListN.{length};
+ghost use lib.ListN.{length, take, drop};
 ghost use Rattle.base.specs.Result.{measured};
 ghost use Rattle.document.specs.Document.{check};
 ghost use Rattle.refusal.specs.Numbers.{refusalNumber, refusalPlace};
@@ -11,6 +11,7 @@ ghost use Rattle.console.specs.Answers.{Demand3};
 ghost use Rattle.buffer.specs.Answers.{builtAs, kept};
 ghost use Rattle.buffer.specs.Builder.{addsDoc, addsEmDoc};
 ghost use Rattle.next_chunk.specs.NextChunk.{nextChunk};
+ghost use Rattle.pages.specs.Pages.{pageOf, pageStart, pageCount, shown};
 ghost use Rattle.html_rules.specs.Html.{html};
 ghost use Rattle.html_rules.specs.Markdown.{markdown};
 ghost use Rattle.manpage.specs.Roff.{roff};
@@ -20,6 +21,8 @@ use console_rules::Measure;
 use console_rules::Settings;
 use console_tabstop::Searched;
 use document::Checked;
+use pages::Counted;
+use pages::Paged;
 use records::Kind;
 use refusal::Refusal;
 use renderer::Rendered;
@@ -220,6 +223,54 @@ pub extern "C" fn sefgrunn_roff(document: &[u8], room: &mut [u8], at: &mut usize
 {
     let page = manpage::render_roff(document, room);
     told(page, at)
+}
+
+// How many pages a text has at a height; 0 after a refusal.
+#[no_mangle]
+pub extern "C" fn sefgrunn_page_count(text: &[u8], height: usize, count: &mut usize) -> u32
+    ensures number { λ r. ⌜ r ≡ numberOf (pageCount height (now (text .entry))) ⌝ }
+    ensures count { λ _. ⌜ now (count .exit) ≡ orZero (pageCount height (now (text .entry))) ⌝ }
+{
+    let answer = pages::page_count(text, height);
+    match answer {
+        Counted::Pages(n) => {
+            *count = n;
+            0
+        }
+        Counted::Refused(a) => {
+            *count = 0;
+            refusal::refusal_number(a)
+        }
+    }
+}
+
+// A page of a text, as a part of it: where it starts, and how many bytes it has; both 0 after a refusal.
+#[no_mangle]
+pub extern "C" fn sefgrunn_page(
+    text: &[u8],
+    height: usize,
+    page: usize,
+    start: &mut usize,
+    len: &mut usize,
+) -> u32
+    ensures number { λ r. ⌜ r ≡ numberOf (pageOf height page (now (text .entry))) ⌝ }
+    ensures start { λ _. ⌜ now (start .exit) ≡ orZero (pageStart height page (now (text .entry))) ⌝ }
+    ensures length { λ _. ⌜ now (len .exit) ≡ orZero (measured (pageOf height page (now (text .entry)))) ⌝ }
+    ensures part { λ _. ⌜ take (now (len .exit)) (drop (now (start .exit)) (now (text .entry))) ≡ shown (pageOf height page (now (text .entry))) ⌝ }
+{
+    let answer = pages::find_page(text, height, page);
+    match answer {
+        Paged::Part(from, size) => {
+            *start = from;
+            *len = size;
+            0
+        }
+        Paged::Refused(a) => {
+            *start = 0;
+            *len = 0;
+            refusal::refusal_number(a)
+        }
+    }
 }
 
 // The number of what the builder answers; the length changes only where it accepts.

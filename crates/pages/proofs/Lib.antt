@@ -1,0 +1,6 @@
+pub mod Rows
+pub mod RowLists
+pub mod Paging
+pub mod Laws
+pub mod Printed
+pub mod Samples

@@ -1,0 +1,5 @@
+pub mod Pages
+pub mod Order
+pub mod RowList
+pub mod Answers
+pub mod Parts
