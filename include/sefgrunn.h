@@ -120,13 +120,6 @@ enum sefgrunn_chunk {
  * are 0. */
 uint32_t sefgrunn_next_chunk(const uint8_t *body, size_t n, size_t *at, uint32_t *ticks, size_t *start, size_t *length, size_t *width);
 
-/* Whether a document has house shape. It is then a run of parts; a part is text, a DefinitionList, or one of the other blocks around parts.
- * A list holds zero or more pairs of an ItemTerm and an ItemBody; a body holds parts; a term holds text, TermRef, Mono and InlineBlock,
- * these around the same. Terms and bodies stand nowhere else. Rendering does not ask for it. Reads n bytes at document. Writes *shaped, 1
- * or 0, and *place: where it is 0, the start of the first record after which no further records could lead to a document of that shape.
- * After a refusal *shaped is 0 and *place the refusal's; else *place is 0. Refusals 1 to 8. */
-uint32_t sefgrunn_house_shape(const uint8_t *document, size_t n, uint32_t *shaped, size_t *place);
-
 /* The tabstop, on which console text lays out the bodies of a list: the characters of the widest ItemTerm that has at most 24 (0 where
  * there is none), plus 4. A term's start sets the count back to 0, its end stops it; a nested term's does so too. Reads n bytes at
  * document. Writes *tabstop, and *at: the start of the first ItemTerm end whose count is 24, after which no term changes the tabstop, or n
