@@ -1,38 +1,33 @@
 -- An accepted document: each end record is that of the innermost open block, so that the code need not ask which block it ends, and no
 -- block is open at the end. What the code finds is 02's answer. Assumes nothing.
-use Prim.Native.Nat.{ℕ, zero, suc, _+_, _≤_, _<_}
-use mathlib.Core.Logic.{⊎-elim}
+use Prim.Native.Nat.{ℕ, zero, suc, _+_}
 use mathlib.Core.Path.{_≡_, refl, sym, ap, subst, _∙_}
 use mathlib.Core.Bool.{Bool, true, false}
 use mathlib.Core.List.{List, [], _∷_, _++_}
 use mathlib.Core.Option.{Option, none, some}
-use lib.ListN.{length, drop, getD, length-append}
+use lib.ListN.{length, getD, length-append}
 use lib.Seq.{getD-append-seam}
 use native.Mathlib.Omega.{arith}
 use borrow.Author.Tests.{eq-eqb}
 use Rattle.base.specs.Choice.{if_then_else_}
 use Rattle.base.specs.Result.{Result, gives, refused, _>>=_}
 use Rattle.base.specs.Stack.{top, pushed, popped}
-use Rattle.base.proofs.Choice.{le-or-lt}
 use Rattle.base.proofs.Stack.{length-pushed, popped-pushed}
 use Rattle.base.proofs.Results.{bind-gives, gives-same}
-use Rattle.records.specs.Records.{Token, index, size, tokens, tokensFrom}
+use Rattle.records.specs.Records.{Token, index, size, tokens}
 use Rattle.document.specs.Document.{reads, openBlocks, check}
 use Rattle.records.specs.declared.Block.{Block}
 use Rattle.records.specs.declared.Kind.{Kind}
 use Rattle.records.specs.declared.Kind.the-variants as kind
 use Rattle.document.proofs.Walks.{Allowed, openAfter, accept-gives, first-gives, check-gives}
 use Rattle.shape.specs.Shape.{kinds, Shaped, OutOfPlace}
-use Rattle.shape.specs.Steps.{Want, parts, Inside, opens, refuses, inside, texts, closes, go, stray, rest, Stopped, Walked}
+use Rattle.shape.specs.Steps.{Want, parts, Inside, opens, refuses, inside, texts, closes, go, stray, Walked}
 use Rattle.shape.specs.Steps as loose
 use Rattle.shape.specs.Answers.{Answers}
 use Rattle.shape.specs.declared.Way.{Way}
 use Rattle.shape.specs.declared.Way.the-variants as way
 use Rattle.shape.proofs.Blocks.{part, list}
 use Rattle.shape.proofs.Runs.{Run, done, text, wrapped}
-use Rattle.shape.proofs.Records.{stray-end}
-use Rattle.shape.proofs.Places.{stray-from, rest-from}
-use Rattle.shape.proofs.Laws.{shaped-placed, one-place}
 use Rattle.shape.proofs.Machine.{Frame, State, on, out, entered, left, step, onward, run, text-on, start-on, end-on, unknown-on, unwind, flatten}
 use Rattle.shape.proofs.Machine.{run-shaped, run-viable, out-dead}
 
@@ -56,19 +51,19 @@ pub check-nested : (s x : List ℕ) → check s ≡ gives x → Nested [] (token
 unfolding openBlocks
 check-nested s x e = reads-nested s 0 0 [] [] (check-gives s x e .1)
 
--- the open blocks' indices, the innermost last, and what is wanted after each, the innermost first, with something beyond that is never met
+-- the open blocks' indices, the innermost last, and what is wanted after each, the innermost first
 
 indices : List Frame → List ℕ
 indices [] = []
 indices (f ∷ fs) = pushed (index (f .opened)) (indices fs)
 
-laters : List Want → List Frame → List Want
-laters beyond [] = beyond
-laters beyond (f ∷ fs) = f .later ∷ laters beyond fs
+laters : List Frame → List Want
+laters [] = []
+laters (f ∷ fs) = f .later ∷ laters fs
 
-loosen : List Want → State → loose.Next
-loosen beyond (on w fs) = loose.on w (laters beyond fs)
-loosen beyond out = loose.out
+loosen : State → loose.Next
+loosen (on w fs) = loose.on w (laters fs)
+loosen out = loose.out
 
 top-pushed : (x : ℕ) (xs : List ℕ) → top (pushed x xs) ≡ x
 unfolding top pushed
@@ -78,30 +73,30 @@ top-pushed x xs =
 
 -- one record: where it is allowed, which block an end record ends need not be asked
 
-left-same : (beyond : List Want) (b : Block) (fs : List Frame) → Allowed (kind.End b) (indices fs) → loose.left (laters beyond fs) ≡ loosen beyond (left b fs)
+left-same : (b : Block) (fs : List Frame) → Allowed (kind.End b) (indices fs) → loose.left (laters fs) ≡ loosen (left b fs)
 unfolding loose.left left laters loosen indices if_then_else_
-left-same beyond b [] a = absurd (omega (arith, a .0))
-left-same beyond b (f ∷ fs) a = rw (eq-eqb (index (f .opened)) (index b) (sym (top-pushed (index (f .opened)) (indices fs)) ∙ a .1))
+left-same b [] a = absurd (omega (arith, a .0))
+left-same b (f ∷ fs) a = rw (eq-eqb (index (f .opened)) (index b) (sym (top-pushed (index (f .opened)) (indices fs)) ∙ a .1))
 
-step-same : (beyond : List Want) (k : Kind) (w : Want) (fs : List Frame) → Allowed k (indices fs)
-    → loose.step k w (laters beyond fs) ≡ loosen beyond (step k w fs)
+step-same : (k : Kind) (w : Want) (fs : List Frame) → Allowed k (indices fs)
+    → loose.step k w (laters fs) ≡ loosen (step k w fs)
 unfolding loose.step loose.entered step entered loosen laters if_then_else_
-step-same beyond (kind.Text st) w fs a = go (texts w)
+step-same (kind.Text st) w fs a = go (texts w)
   where
-    go : (t : Bool) → (if t then loose.on w (laters beyond fs) else loose.out) ≡ loosen beyond (if t then on w fs else out)
+    go : (t : Bool) → (if t then loose.on w (laters fs) else loose.out) ≡ loosen (if t then on w fs else out)
     go true = refl
     go false = refl
-step-same beyond (kind.Start b) w fs a = go (inside w b)
+step-same (kind.Start b) w fs a = go (inside w b)
   where
-    go : (i : Inside) → loose.entered i (laters beyond fs) ≡ loosen beyond (entered b i fs)
+    go : (i : Inside) → loose.entered i (laters fs) ≡ loosen (entered b i fs)
     go (opens v u) = refl
     go refuses = refl
-step-same beyond (kind.End b) w fs a = go (closes w)
+step-same (kind.End b) w fs a = go (closes w)
   where
-    go : (t : Bool) → (if t then loose.left (laters beyond fs) else loose.out) ≡ loosen beyond (if t then left b fs else out)
-    go true = left-same beyond b fs a
+    go : (t : Bool) → (if t then loose.left (laters fs) else loose.out) ≡ loosen (if t then left b fs else out)
+    go true = left-same b fs a
     go false = refl
-step-same beyond kind.Unknown w fs a = refl
+step-same kind.Unknown w fs a = refl
 
 step-opens : (k : Kind) (w : Want) (fs : List Frame) {v : Want} {gs : List Frame} → step k w fs ≡ on v gs → openAfter k (indices fs) ≡ indices gs
 unfolding indices
@@ -128,22 +123,22 @@ judged-on t ts w fs e (fine v gs r i) = fine v gs (run-on t ts w fs e ∙ r) i
 judged-on t ts w fs e (bad before here after v gs l r q) =
     bad (t ∷ before) here after v gs (ap (λ (x : List Token). t ∷ x) l) (run-on t before w fs e ∙ r) (run-on t (before ++ here ∷ []) w fs e ∙ q)
 
-turn : (beyond : List Want) (t : Token) (ts : List Token) (w : Want) (fs : List Frame) (last : List ℕ) (n : State) → step (t .kind) w fs ≡ n
-    → ((v : Want) (gs : List Frame) → step (t .kind) w fs ≡ on v gs → Judged ts v gs last (stray ts v (laters beyond gs)))
-    → Judged (t ∷ ts) w fs last (go (t .place) (loosen beyond n) (stray ts))
+turn : (t : Token) (ts : List Token) (w : Want) (fs : List Frame) (last : List ℕ) (n : State) → step (t .kind) w fs ≡ n
+    → ((v : Want) (gs : List Frame) → step (t .kind) w fs ≡ on v gs → Judged ts v gs last (stray ts v (laters gs)))
+    → Judged (t ∷ ts) w fs last (go (t .place) (loosen n) (stray ts))
 unfolding loosen loose.go run kinds onward
-turn beyond t ts w fs last (on v gs) e f = judged-on t ts w fs e (f v gs e)
-turn beyond t ts w fs last out e f = bad [] t ts w fs refl refl (rw e)
+turn t ts w fs last (on v gs) e f = judged-on t ts w fs e (f v gs e)
+turn t ts w fs last out e f = bad [] t ts w fs refl refl (rw e)
 
-judge : (beyond : List Want) {stack last : List ℕ} {ts : List Token} → Nested stack ts last → (w : Want) (fs : List Frame) → stack ≡ indices fs
-    → Judged ts w fs last (stray ts w (laters beyond fs))
+judge : {stack last : List ℕ} {ts : List Token} → Nested stack ts last → (w : Want) (fs : List Frame) → stack ≡ indices fs
+    → Judged ts w fs last (stray ts w (laters fs))
 unfolding stray run kinds
-judge beyond over w fs e = fine w fs refl e
-judge beyond {last = last} (more {stack = stack} {t = t} {ts = ts} a n) w fs e =
+judge over w fs e = fine w fs refl e
+judge {last = last} (more {stack = stack} {t = t} {ts = ts} a n) w fs e =
     let allowed : Allowed (t .kind) (indices fs) = subst (λ (x : List ℕ). Allowed (t .kind) x) e a in
-    subst (λ (x : loose.Next). Judged (t ∷ ts) w fs last (go (t .place) x (stray ts))) (sym (step-same beyond (t .kind) w fs allowed))
-    (turn beyond t ts w fs last (step (t .kind) w fs) refl
-    λ v gs q. judge beyond n v gs (ap (λ (x : List ℕ). openAfter (t .kind) x) e ∙ step-opens (t .kind) w fs q))
+    subst (λ (x : loose.Next). Judged (t ∷ ts) w fs last (go (t .place) x (stray ts))) (sym (step-same (t .kind) w fs allowed))
+    (turn t ts w fs last (step (t .kind) w fs) refl
+    λ v gs q. judge n v gs (ap (λ (x : List ℕ). openAfter (t .kind) x) e ∙ step-opens (t .kind) w fs q))
 
 -- The answer
 
@@ -160,64 +155,49 @@ none-open [] e = refl
 none-open (f ∷ fs) e = absurd (omega (arith, length-pushed (index (f .opened)) (indices fs), ap length e))
 
 module _ (s : List ℕ) (accepted : check s ≡ gives []) where
-  module _ (beyond : List Want) where
-    judged : Judged (tokens 0 0 s) parts [] [] (stray (tokens 0 0 s) parts beyond)
-    unfolding indices laters
-    judged = judge beyond (check-nested s [] accepted) parts [] refl
+  module _ where
 
-    no-stray : stray (tokens 0 0 s) parts beyond ≡ none → Shaped (kinds (tokens 0 0 s))
-    no-stray e = of (subst (λ (o : Option ℕ). Judged (tokens 0 0 s) parts [] [] o) e judged)
-      where
-        of : Judged (tokens 0 0 s) parts [] [] none → Shaped (kinds (tokens 0 0 s))
-        of (fine v gs r i) =
-            let q = r ∙ ap (λ (x : List Frame). on v x) (none-open gs i) in
-            run-shaped _ v q (ap closes (stays (flatten (unwind _ parts [] v q))))
+  judged : Judged (tokens 0 0 s) parts [] [] (stray (tokens 0 0 s) parts [])
+  unfolding indices laters
+  judged = judge (check-nested s [] accepted) parts [] refl
 
-    a-stray : {p : ℕ} → stray (tokens 0 0 s) parts beyond ≡ some p → OutOfPlace (tokens 0 0 s) p
-    a-stray {p} e = of (subst (λ (o : Option ℕ). Judged (tokens 0 0 s) parts [] [] o) e judged)
-      where
-        of : {p : ℕ} → Judged (tokens 0 0 s) parts [] [] (some p) → OutOfPlace (tokens 0 0 s) p
-        of (bad before here after v gs l r q) = record {
-          before = before;
-          here = here;
-          after = after;
-          listed = l;
-          could = run-viable (kinds before) v gs r;
-          cannot = out-dead (kinds (before ++ here ∷ [])) q;
-          placed = refl;
-        }
-
-  -- the run of all parts stops at the document's end: an end record there would be out of place with nothing beyond, and not with parts beyond
-  stops-late : {q : ℕ} → Stopped s parts 0 0 q → q < length s → ⊥
-  stops-late {q} k l = of (stray (rest (tokensFrom s q)) parts []) refl
+  no-stray : stray (tokens 0 0 s) parts [] ≡ none → Shaped (kinds (tokens 0 0 s))
+  no-stray e = of (subst (λ (o : Option ℕ). Judged (tokens 0 0 s) parts [] [] o) e judged)
     where
-      here : OutOfPlace (tokens 0 0 s) q
-      here = a-stray [] (k .leads [] ∙ k .bare l)
+      of : Judged (tokens 0 0 s) parts [] [] none → Shaped (kinds (tokens 0 0 s))
+      of (fine v gs r i) =
+          let q = r ∙ ap (λ (x : List Frame). on v x) (none-open gs i) in
+          run-shaped _ v q (ap closes (stays (flatten (unwind _ parts [] v q))))
 
-      of : (o : Option ℕ) → stray (rest (tokensFrom s q)) parts [] ≡ o → ⊥
-      of none e = shaped-placed _ q (no-stray (parts ∷ []) (k .leads (parts ∷ []) ∙ k .ends parts [] ∙ e)) here
-      of (some p) e =
-          let same = one-place _ p q (a-stray (parts ∷ []) (k .leads (parts ∷ []) ∙ k .ends parts [] ∙ e)) here in
-          omega (arith, stray-from (rest-from (drop q s) q) parts [] e)
+  a-stray : {p : ℕ} → stray (tokens 0 0 s) parts [] ≡ some p → OutOfPlace (tokens 0 0 s) p
+  a-stray {p} e = of (subst (λ (o : Option ℕ). Judged (tokens 0 0 s) parts [] [] o) e judged)
+    where
+      of : {p : ℕ} → Judged (tokens 0 0 s) parts [] [] (some p) → OutOfPlace (tokens 0 0 s) p
+      of (bad before here after v gs l r q) = record {
+        before = before;
+        here = here;
+        after = after;
+        listed = l;
+        could = run-viable (kinds before) v gs r;
+        cannot = out-dead (kinds (before ++ here ∷ [])) q;
+        placed = refl;
+      }
 
   -- what the steps find is the answer
   pub by-steps : Answers s (gives (stray (tokens 0 0 s) parts []))
   by-steps = of (stray (tokens 0 0 s) parts []) refl
     where
       of : (o : Option ℕ) → stray (tokens 0 0 s) parts [] ≡ o → Answers s (gives o)
-      of none e = (accepted, no-stray [] e)
-      of (some p) e = (accepted, a-stray [] e)
+      of none e = (accepted, no-stray e)
+      of (some p) e = (accepted, a-stray e)
 
   -- by the way that the code found
   module _ {a : Way} (walked : Walked s parts 0 0 a) where
     pub found-out : {p : ℕ} → a ≡ way.Out p → Answers s (gives (some p))
-    found-out e = let k = subst (λ (x : Way). Walked s parts 0 0 x) e walked in (accepted, a-stray [] (k []))
+    found-out e = let k = subst (λ (x : Way). Walked s parts 0 0 x) e walked in (accepted, a-stray (k []))
 
     pub found-none : {q : ℕ} → a ≡ way.Stops q → Answers s (gives none)
-    found-none {q} e =
-        let k = subst (λ (x : Way). Walked s parts 0 0 x) e walked in
-        ⊎-elim (λ (l : length s ≤ q). (accepted, no-stray [] (k .leads [] ∙ stray-end s q l parts []))) (λ (l : q < length s). absurd (stops-late k l))
-        (le-or-lt (length s) q)
+    found-none e = let k = subst (λ (x : Way). Walked s parts 0 0 x) e walked in (accepted, no-stray (k .whole refl []))
 
 -- a document's answer by steps, after 1 to 8
 unfoldable pub byStep : List ℕ → Result (Option ℕ)

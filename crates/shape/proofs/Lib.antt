@@ -4,7 +4,6 @@ pub mod Machine
 pub mod Opened
 pub mod Records
 pub mod Loops
-pub mod Places
 pub mod Laws
 pub mod Accepted
 pub mod Samples

@@ -1,22 +1,20 @@
 -- The loops over records: what holds before each record, and what follows from it at the record, by what the code finds there. Assumes nothing.
 use Prim.Native.Nat.{ℕ, _+_, _≤_, _<_}
-use mathlib.Core.Path.{_≡_, refl, sym, ap, subst, _∙_}
+use mathlib.Core.Path.{_≡_, refl, subst, _∙_}
 use mathlib.Core.Bool.{true, false}
-use mathlib.Core.List.{List, [], _∷_}
+use mathlib.Core.List.{List, _∷_}
 use lib.ListN.{length}
 use native.Mathlib.Omega.{arith}
-use Rattle.records.specs.Records.{Token, tokensFrom}
 use Rattle.records.specs.Answers.{Read}
 use Rattle.records.specs.declared.Style.{Style}
 use Rattle.records.specs.declared.Block.{Block}
 use Rattle.records.specs.declared.Kind.the-variants as kind
 use Rattle.records.specs.declared.Head.{Head}
-use Rattle.records.proofs.Tokens.{tokens-end}
-use Rattle.shape.specs.Steps.{Want, refuses, inside, texts, closes, stray, rest, ahead, Leads, OpenAt, Stopped}
+use Rattle.shape.specs.Steps.{Want, texts, closes, ahead, Leads, OpenAt, Stopped}
 use Rattle.shape.specs.declared.Way.{Way}
 use Rattle.shape.specs.declared.Way.the-variants as way
-use Rattle.shape.proofs.Opened.{open-text, open-start}
-use Rattle.shape.proofs.Records.{Strays, Turned, stray-end, read-one, read-on, text-on, text-out, unknown-out, end-out, start-out, end-leads, end-bare}
+use Rattle.shape.proofs.Opened.{open-end, open-text, open-start, open-closes, open-closed}
+use Rattle.shape.proofs.Records.{Strays, Turned, stray-end, read-one, text-on, text-out, unknown-out, end-out, end-leads}
 
 -- The invariant of the loops. A loop that began at a place, wanting w, stands before another, wanting v: no more records are left than there;
 -- what is out of place from there on is what is out of place from here on, whatever is wanted later; and the blocks around it are open.
@@ -29,15 +27,12 @@ pub begins : {s : List ℕ} (w : Want) {depth from : ℕ} → OpenAt s from dept
 begins w o = record { fewer = omega arith; leads = λ later. refl; around = o }
 
 module _ {s : List ℕ} {w v : Want} {depth from at : ℕ} (i : Before s w v depth from at) where
-  -- the document ends
+  -- the document ends: no block is open
   pub over : length s ≤ at → Stopped s w depth from at
-  unfolding stray rest
   over h = record {
     fewer = i .fewer;
-    leads = λ later. i .leads later ∙ stray-end s at h v later ∙ sym (stray-end s at h w later);
-    ends = λ u later. stray-end s at h w (u ∷ later) ∙ sym (ap (λ (ts : List Token). stray (rest ts) u later) (tokens-end s at h));
-    bare = λ l. absurd (omega arith);
-    still = i .around;
+    closed = λ outer e. absurd (omega (arith, open-end (i .around) h, e));
+    whole = λ _ later. i .leads later ∙ stray-end s at h v later;
   }
 
   module _ {h : Head} (r : Read s at h) (l : at < length s) where
@@ -64,16 +59,20 @@ module _ {s : List ℕ} {w v : Want} {depth from at : ℕ} (i : Before s w v dep
 
     -- and what was found of the block
     module _ (u : Want) {a : Way} (t : Turned s v u depth at (h .next) a) where
-      pub on-block : {q : ℕ} {e : Head} → a ≡ way.Stops q → Read s q e → (ahead s (e .next) < ahead s at) × Before s w u depth from (e .next)
-      on-block {q} {e} f y =
+      pub on-block : {q : ℕ} → a ≡ way.Stops q → (ahead s q < ahead s at) × Before s w u depth from q
+      on-block {q} f =
           let d = subst (λ (x : Way). Turned s v u depth at (h .next) x) f t in
-          let n : ahead s (e .next) < ahead s at = omega (arith, read-one s at h r l, d .0, read-on s q e y) in
-          (n, record { fewer = omega (arith, n, i .fewer); leads = λ later. i .leads later ∙ d .1 e y .0 later; around = d .1 e y .1 })
+          let n : ahead s q < ahead s at = omega (arith, read-one s at h r l, d .0) in
+          (n, record { fewer = omega (arith, n, i .fewer); leads = λ later. i .leads later ∙ d .1 later; around = d .2 })
 
       pub block-strays : {p : ℕ} → a ≡ way.Out p → Strays s w from p
       block-strays f later = i .leads later ∙ subst (λ (x : Way). Turned s v u depth at (h .next) x) f t later
 
 -- the block around ends
 pub stops : {s : List ℕ} {w : Want} {depth from at : ℕ} → Before s w w depth from at → {h : Head} → Read s at h → at < length s
-    → {b : Block} → h .kind ≡ kind.End b → closes w ≡ true → Stopped s w depth from at
-stops {s} {w} i r l e c = record { fewer = i .fewer; leads = i .leads; ends = end-leads s r l w e c; bare = λ _. end-bare s r l w e c; still = i .around }
+    → {b : Block} → h .kind ≡ kind.End b → closes w ≡ true → Stopped s w depth from (h .next)
+stops {s} {w} {at = at} i {h} r l e c = record {
+  fewer = omega (arith, i .fewer, read-one s at h r l);
+  closed = λ outer f. (λ u later. i .leads (u ∷ later) ∙ end-leads s r l w e c u later, open-closed (i .around) r l outer e f);
+  whole = λ f. absurd (omega (arith, f, open-closes (i .around) r l e));
+}

@@ -1,15 +1,14 @@
 -- One record on the way of the code, by what may stand next. Assumes nothing.
 use Prim.Native.Nat.{ℕ, _+_, _≤_, _<_}
-use mathlib.Core.Path.{_≡_, sym, ap, subst, _∙_}
-use mathlib.Core.Logic.{⊎-elim}
+use mathlib.Core.Path.{_≡_, refl, ap, _∙_}
 use mathlib.Core.Bool.{true, false}
-use mathlib.Core.List.{List, [], _∷_}
+use mathlib.Core.List.{List, _∷_}
 use mathlib.Core.Option.{none, some}
 use lib.ListN.{length}
 use native.Mathlib.Omega.{arith}
 use borrow.Author.Tests.{lt-ltb}
 use Rattle.base.specs.Choice.{if_then_else_}
-use Rattle.base.proofs.Choice.{if-true, le-or-lt}
+use Rattle.base.proofs.Choice.{if-true}
 use Rattle.records.specs.Records.{Token, tokensFrom}
 use Rattle.records.specs.Answers.{Read}
 use Rattle.records.specs.declared.Style.{Style}
@@ -18,44 +17,26 @@ use Rattle.records.specs.declared.Kind.{Kind}
 use Rattle.records.specs.declared.Kind.the-variants as kind
 use Rattle.records.specs.declared.Head.{Head}
 use Rattle.records.proofs.Tokens.{tokens-end}
-use Rattle.shape.specs.Steps.{Want, opens, refuses, inside, texts, closes, entered, left, step, go, stray, rest, ahead, Leads, OpenAt, Walked}
+use Rattle.shape.specs.Steps.{Want, opens, refuses, inside, texts, closes, entered, left, step, go, stray, ahead, Leads, OpenAt, Walked}
 use Rattle.shape.specs.declared.Way.{Way}
 use Rattle.shape.specs.declared.Way.the-variants as way
-use Rattle.shape.proofs.Opened.{open-on}
 
 -- whatever is wanted later, the first record from a place on that is out of place is at p
 abbrev pub Strays : List ℕ → Want → ℕ → ℕ → Type 0
 Strays s w at p = (later : List Want) → stray (tokensFrom s at) w later ≡ some p
 
--- a block from its start record on: the run in it stops, and what may stand after it is wanted after its end record; or a record in it
--- is out of place
+-- a block from its start record on: what may stand after it is wanted after its end record; or a record in it is out of place
 abbrev pub Turned : List ℕ → Want → Want → ℕ → ℕ → ℕ → Way → Type 0
-Turned s w u depth at next (way.Stops q) = (ahead s q ≤ ahead s next) × ((e : Head) → Read s q e → Leads s w at u (e .next) × OpenAt s (e .next) depth)
+Turned s w u depth at next (way.Stops q) = (ahead s q ≤ ahead s next) × Leads s w at u q × OpenAt s q depth
 Turned s w u depth at next (way.Out p) = Strays s w at p
 
 pub stray-end : (s : List ℕ) (at : ℕ) → length s ≤ at → (w : Want) (later : List Want) → stray (tokensFrom s at) w later ≡ none
 unfolding stray
 stray-end s at h w later = ap (λ (ts : List Token). stray ts w later) (tokens-end s at h)
 
--- the records after the first
-rest-read : (s : List ℕ) (q : ℕ) (e : Head) → Read s q e → rest (tokensFrom s q) ≡ tokensFrom s (e .next)
-unfolding rest
-rest-read s q e r =
-    ⊎-elim
-    (λ (h : length s ≤ q). ap rest (tokens-end s q h) ∙ sym (ap (λ (k : Head). tokensFrom s (k .next)) (r .past h) ∙ tokens-end s (length s) (omega arith)))
-    (λ (h : q < length s). ap rest (r .listed ∙ if-true _ _ (lt-ltb q (length s) h)))
-    (le-or-lt (length s) q)
-
 -- the number of records left falls with each record
 pub read-one : (s : List ℕ) (at : ℕ) (h : Head) → Read s at h → at < length s → ahead s (h .next) < ahead s at
 read-one s at h r l = omega (arith, ap length (r .listed ∙ if-true _ _ (lt-ltb at (length s) l)))
-
-pub read-on : (s : List ℕ) (q : ℕ) (e : Head) → Read s q e → ahead s (e .next) ≤ ahead s q
-unfolding rest
-read-on s q e r =
-    ⊎-elim (λ (h : length s ≤ q). omega (arith, ap length (sym (rest-read s q e r) ∙ ap rest (tokens-end s q h))))
-    (λ (h : q < length s). omega (arith, read-one s q e r h))
-    (le-or-lt (length s) q)
 
 module _ (s : List ℕ) {at : ℕ} {h : Head} (r : Read s at h) (l : at < length s) (w : Want) where
   stray-here : (k : Kind) → h .kind ≡ k → (later : List Want) → stray (tokensFrom s at) w later ≡ go at (step k w later) (stray (tokensFrom s (h .next)))
@@ -91,19 +72,12 @@ module _ (s : List ℕ) {at : ℕ} {h : Head} (r : Read s at h) (l : at < length
 
   pub turned : {b : Block} {v u : Want} (depth : ℕ) → h .kind ≡ kind.Start b → inside w b ≡ opens v u
       → (a : Way) → Walked s v (depth + 1) (h .next) a → Turned s w u depth at (h .next) a
-  turned {b} {v} {u} depth e i (way.Stops q) k = (k .fewer, λ x y. (on x y, open-on (k .still) y))
-    where
-      on : (x : Head) → Read s q x → Leads s w at u (x .next)
-      on x y later = start-leads e i later ∙ k .leads (u ∷ later) ∙ k .ends u later ∙ ap (λ (ts : List Token). stray ts u later) (rest-read s q x y)
+  turned {b} {v} {u} depth e i (way.Stops q) k =
+      let c = k .closed depth refl in (k .fewer, λ later. start-leads e i later ∙ c .0 u later, c .1)
   turned {b} {v} {u} depth e i (way.Out p) k = λ later. start-leads e i later ∙ k (u ∷ later)
 
-  -- where the block around may end, what comes after its end record is what is wanted after the block
+  -- where the block around may end, what may stand after it is wanted after its end record
   pub end-leads : {b : Block} → h .kind ≡ kind.End b → closes w ≡ true
-      → (u : Want) (later : List Want) → stray (tokensFrom s at) w (u ∷ later) ≡ stray (rest (tokensFrom s at)) u later
+      → (u : Want) (later : List Want) → stray (tokensFrom s at) w (u ∷ later) ≡ stray (tokensFrom s (h .next)) u later
   unfolding step go left if_then_else_
-  end-leads {b} e c u later = stray-here (kind.End b) e (u ∷ later) ∙ rw c (ap (λ (ts : List Token). stray ts u later) (sym (rest-read s at h r)))
-
-  -- with no block around, it is out of place
-  pub end-bare : {b : Block} → h .kind ≡ kind.End b → closes w ≡ true → stray (tokensFrom s at) w [] ≡ some at
-  unfolding step go left if_then_else_
-  end-bare {b} e c = stray-here (kind.End b) e [] ∙ rw c
+  end-leads {b} e c u later = stray-here (kind.End b) e (u ∷ later) ∙ rw c

@@ -1,6 +1,6 @@
 -- What the functions inside this crate promise each other; no rule of 02 stands here. Records are taken one at a time: what may stand
 -- next, and for each open block what may stand after it.
-use Prim.Native.Nat.{ℕ, _≤_, _<_}
+use Prim.Native.Nat.{ℕ, _+_, _≤_}
 use mathlib.Core.Path.{_≡_}
 use mathlib.Core.Bool.{Bool, true, false}
 use mathlib.Core.List.{List, [], _∷_}
@@ -79,10 +79,6 @@ unfoldable pub stray : List Token → Want → List Want → Option ℕ
 stray [] w later = none
 stray (t ∷ ts) w later = go (t .place) (step (t .kind) w later) (stray ts)
 
-unfoldable pub rest : List Token → List Token
-rest [] = []
-rest (t ∷ ts) = ts
-
 -- the number of records from a place on
 abbrev pub ahead : List ℕ → ℕ → ℕ
 ahead s at = length (tokensFrom s at)
@@ -91,20 +87,20 @@ ahead s at = length (tokensFrom s at)
 abbrev pub Leads : List ℕ → Want → ℕ → Want → ℕ → Type 0
 Leads s w from v at = (later : List Want) → stray (tokensFrom s from) w later ≡ stray (tokensFrom s at) v later
 
--- nothing is refused from a place on, and at least so many blocks are open there, at most 32
+-- nothing is refused from a place on, and so many blocks are open there, at most 32
 pub record OpenAt (s : List ℕ) (at depth : ℕ) : Type 0 where
   pub stack : List ℕ
   pub runs : reads at 0 stack (drop at s) ≡ gives []
   pub shallow : length stack ≤ 32
-  pub deep : depth ≤ length stack
+  pub deep : length stack ≡ depth
 
--- a run goes up to a place where the block around it ends, or the document
+-- A run was gone through. In a block it stops after that block's end record, from where on what may stand after the block is wanted. With no
+-- block around, nothing in it is out of place.
 pub record Stopped (s : List ℕ) (w : Want) (depth from at : ℕ) : Type 0 where
   pub fewer : ahead s at ≤ ahead s from
-  pub leads : Leads s w from w at
-  pub ends : (u : Want) (later : List Want) → stray (tokensFrom s at) w (u ∷ later) ≡ stray (rest (tokensFrom s at)) u later
-  pub bare : at < length s → stray (tokensFrom s at) w [] ≡ some at
-  pub still : OpenAt s at depth
+  pub closed : (outer : ℕ) → depth ≡ outer + 1
+      → ((u : Want) (later : List Want) → stray (tokensFrom s from) w (u ∷ later) ≡ stray (tokensFrom s at) u later) × OpenAt s at outer
+  pub whole : depth ≡ 0 → (later : List Want) → stray (tokensFrom s from) w later ≡ none
 
 -- a run from a place on: where it stops, or what is out of place in it
 abbrev pub Walked : List ℕ → Want → ℕ → ℕ → Way → Type 0

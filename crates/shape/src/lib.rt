@@ -20,7 +20,7 @@ pub enum Shape {
     Refused(Refusal),
 }
 
-// Where a run of records stops: at the end record of the block around it, or at the document's end. Or the place of the first record
+// Where a run of records stops: after the end record of the block around it, or at the document's end. Or the place of the first record
 // that is out of place.
 enum Way {
     Stops(usize),
@@ -83,9 +83,8 @@ fn inlines(document: &[u8], from: usize, depth: usize) -> Way
                     Way::Out(at)
                 };
                 match way {
-                    Way::Stops(end) => {
-                        let e = record_at(document, end);
-                        at = e.next;
+                    Way::Stops(next) => {
+                        at = next;
                     }
                     Way::Out(p) => {
                         return Way::Out(p);
@@ -93,7 +92,7 @@ fn inlines(document: &[u8], from: usize, depth: usize) -> Way
                 }
             }
             Kind::End(_) => {
-                return Way::Stops(at);
+                return Way::Stops(h.next);
             }
             Kind::Unknown => {
                 return Way::Out(at);
@@ -125,9 +124,8 @@ fn parts(document: &[u8], from: usize, depth: usize) -> Way
                     Way::Out(at)
                 };
                 match way {
-                    Way::Stops(end) => {
-                        let e = record_at(document, end);
-                        at = e.next;
+                    Way::Stops(next) => {
+                        at = next;
                     }
                     Way::Out(p) => {
                         return Way::Out(p); // in that block
@@ -135,7 +133,7 @@ fn parts(document: &[u8], from: usize, depth: usize) -> Way
                 }
             }
             Kind::End(_) => {
-                return Way::Stops(at);
+                return Way::Stops(h.next);
             }
             Kind::Unknown => {
                 return Way::Out(at);
@@ -172,9 +170,8 @@ fn pairs(document: &[u8], from: usize, depth: usize) -> Way
                     Way::Out(at)
                 };
                 match way {
-                    Way::Stops(end) => {
-                        let e = record_at(document, end);
-                        at = e.next;
+                    Way::Stops(next) => {
+                        at = next;
                         due = !due;
                     }
                     Way::Out(p) => {
@@ -186,7 +183,7 @@ fn pairs(document: &[u8], from: usize, depth: usize) -> Way
                 if due {
                     return Way::Out(at);
                 }
-                return Way::Stops(at);
+                return Way::Stops(h.next);
             }
             Kind::Unknown => {
                 return Way::Out(at);

@@ -1,6 +1,6 @@
 -- The proof of the cycle of calls {inlines}. The measure is the number of records left, which falls with the start record of each block
 -- that is entered; the loop's invariant is `Before`: what is out of place from the start on is what is out of place from here on. Assumes nothing.
-use mathlib.Core.Path.{_≡_, refl, sym, _∙_}
+use mathlib.Core.Path.{refl, sym, _∙_}
 use mathlib.Core.Logic.{⊎-elim}
 use Prim.Native.Nat.{ℕ, _<_}
 use native.Mathlib.Omega.{arith}
@@ -89,17 +89,17 @@ inlines-turned t c =
 
 inlines-loop-less-2 : (t : ℕ) → inlines-lts.Need-loop-less-2 (inlines-claims t) (inlines-at t) inlines.Post inlines-Inv-loop inlines-μ-loop
 inlines-loop-less-2 t c =
-    let i = c .before .before .before .before .before .before .before .before .before .before .before .loop .inv in
-    let r = c .before .before .before .before .before .before .before .before .before .record-at .ensures in
-    let l = c .before .before .before .before .before .before .before .before .before .before .loop-test .taken in
-    on-block i r l want.inlines (inlines-turned t (c .before .before .before .before)) (c .before .before .way .given .1) (c .record-at2 .ensures) .0
+    let i = c .before .before .before .before .before .before .before .before .before .before .loop .inv in
+    let r = c .before .before .before .before .before .before .before .before .record-at .ensures in
+    let l = c .before .before .before .before .before .before .before .before .before .loop-test .taken in
+    on-block i r l want.inlines (inlines-turned t (c .before .before .before)) (c .before .way .given .1) .0
 
 inlines-loop-again-2 : (t : ℕ) → inlines-lts.Need-loop-again-2 (inlines-claims t) (inlines-at t) inlines.Post inlines-Inv-loop inlines-μ-loop
 inlines-loop-again-2 t c =
-    let i = c .before .before .before .before .before .before .before .before .before .before .before .loop .inv in
-    let r = c .before .before .before .before .before .before .before .before .before .record-at .ensures in
-    let l = c .before .before .before .before .before .before .before .before .before .before .loop-test .taken in
-    on-block i r l want.inlines (inlines-turned t (c .before .before .before .before)) (c .before .before .way .given .1) (c .record-at2 .ensures) .1
+    let i = c .before .before .before .before .before .before .before .before .before .before .loop .inv in
+    let r = c .before .before .before .before .before .before .before .before .record-at .ensures in
+    let l = c .before .before .before .before .before .before .before .before .before .loop-test .taken in
+    on-block i r l want.inlines (inlines-turned t (c .before .before .before)) (c .before .way .given .1) .1
 
 inlines-returns : (t : ℕ) → inlines-lts.Need-returns (inlines-claims t) (inlines-at t) inlines.Post inlines-Inv-loop inlines-μ-loop
 inlines-returns t c =
@@ -138,7 +138,6 @@ pub +inlines-spec : {M : Type 1} → statement M
     (inlines-add-inlines t)
     (inlines-inlines-requires t)
     (λ c. search needs)
-    (λ c κs. search needs)
     (inlines-loop-less-2 t)
     (inlines-loop-again-2 t)
     (λ c. search needs)

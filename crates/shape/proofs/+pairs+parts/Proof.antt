@@ -122,19 +122,19 @@ pairs-turned t c =
 
 pairs-loop-less : (t : ℕ) → pairs-lts.Need-loop-less (pairs-claims t) (pairs-at t) pairs.Post pairs-Inv-loop pairs-μ-loop
 pairs-loop-less t c =
-    let i = c .before .before .before .before .before .before .before .before .before .before .loop .inv in
-    let r = c .before .before .before .before .before .before .before .before .record-at .ensures in
-    let l = c .before .before .before .before .before .before .before .before .before .loop-test .taken in
-    let j = c .before .before .before .before in
-    on-block i r l (wanted (not (pairs-due t j))) (pairs-turned t j) (c .before .before .way .given .1) (c .record-at2 .ensures) .0
+    let i = c .before .before .before .before .before .before .before .before .before .loop .inv in
+    let r = c .before .before .before .before .before .before .before .record-at .ensures in
+    let l = c .before .before .before .before .before .before .before .before .loop-test .taken in
+    let j = c .before .before .before in
+    on-block i r l (wanted (not (pairs-due t j))) (pairs-turned t j) (c .before .way .given .1) .0
 
 pairs-loop-again : (t : ℕ) → pairs-lts.Need-loop-again (pairs-claims t) (pairs-at t) pairs.Post pairs-Inv-loop pairs-μ-loop
 pairs-loop-again t c =
-    let i = c .before .before .before .before .before .before .before .before .before .before .loop .inv in
-    let r = c .before .before .before .before .before .before .before .before .record-at .ensures in
-    let l = c .before .before .before .before .before .before .before .before .before .loop-test .taken in
-    let j = c .before .before .before .before in
-    on-block i r l (wanted (not (pairs-due t j))) (pairs-turned t j) (c .before .before .way .given .1) (c .record-at2 .ensures) .1
+    let i = c .before .before .before .before .before .before .before .before .before .loop .inv in
+    let r = c .before .before .before .before .before .before .before .record-at .ensures in
+    let l = c .before .before .before .before .before .before .before .before .loop-test .taken in
+    let j = c .before .before .before in
+    on-block i r l (wanted (not (pairs-due t j))) (pairs-turned t j) (c .before .way .given .1) .1
 
 pairs-returns-2 : (t : ℕ) → pairs-lts.Need-returns-2 (pairs-claims t) (pairs-at t) pairs.Post pairs-Inv-loop pairs-μ-loop
 pairs-returns-2 t c =
@@ -241,17 +241,17 @@ parts-turned t c =
 
 parts-loop-less-2 : (t : ℕ) → parts-lts.Need-loop-less-2 (parts-claims t) (parts-at t) parts.Post parts-Inv-loop parts-μ-loop
 parts-loop-less-2 t c =
-    let i = c .before .before .before .before .before .before .before .before .before .before .before .loop .inv in
-    let r = c .before .before .before .before .before .before .before .before .before .record-at .ensures in
-    let l = c .before .before .before .before .before .before .before .before .before .before .loop-test .taken in
-    on-block i r l want.parts (parts-turned t (c .before .before .before .before)) (c .before .before .way .given .1) (c .record-at2 .ensures) .0
+    let i = c .before .before .before .before .before .before .before .before .before .before .loop .inv in
+    let r = c .before .before .before .before .before .before .before .before .record-at .ensures in
+    let l = c .before .before .before .before .before .before .before .before .before .loop-test .taken in
+    on-block i r l want.parts (parts-turned t (c .before .before .before)) (c .before .way .given .1) .0
 
 parts-loop-again-2 : (t : ℕ) → parts-lts.Need-loop-again-2 (parts-claims t) (parts-at t) parts.Post parts-Inv-loop parts-μ-loop
 parts-loop-again-2 t c =
-    let i = c .before .before .before .before .before .before .before .before .before .before .before .loop .inv in
-    let r = c .before .before .before .before .before .before .before .before .before .record-at .ensures in
-    let l = c .before .before .before .before .before .before .before .before .before .before .loop-test .taken in
-    on-block i r l want.parts (parts-turned t (c .before .before .before .before)) (c .before .before .way .given .1) (c .record-at2 .ensures) .1
+    let i = c .before .before .before .before .before .before .before .before .before .before .loop .inv in
+    let r = c .before .before .before .before .before .before .before .before .record-at .ensures in
+    let l = c .before .before .before .before .before .before .before .before .before .loop-test .taken in
+    on-block i r l want.parts (parts-turned t (c .before .before .before)) (c .before .way .given .1) .1
 
 parts-returns : (t : ℕ) → parts-lts.Need-returns (parts-claims t) (parts-at t) parts.Post parts-Inv-loop parts-μ-loop
 parts-returns t c =
@@ -292,7 +292,6 @@ pub +pairs+parts-spec : {M : Type 1} → statement M
     (pairs-add-inlines t)
     (pairs-inlines-requires t)
     (λ c. search needs)
-    (λ c κs. search needs)
     (pairs-loop-less t)
     (pairs-loop-again t)
     (λ c. search needs)
@@ -321,7 +320,6 @@ pub +pairs+parts-spec : {M : Type 1} → statement M
     (parts-add-pairs t)
     (parts-pairs-requires t)
     (λ c. search needs)
-    (λ c κs. search needs)
     (parts-loop-less-2 t)
     (parts-loop-again-2 t)
     (λ c. search needs)
