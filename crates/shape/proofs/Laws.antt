@@ -11,7 +11,7 @@ use Rattle.records.specs.Records.{Token, tokens}
 use Rattle.document.specs.Document.{check}
 use Rattle.records.specs.declared.Kind.{Kind}
 use Rattle.shape.specs.Shape.{kinds, Shaped, Viable, OutOfPlace}
-use Rattle.shape.specs.Answers.{Answers}
+use Rattle.shape.specs.Answers.{Answers, TheAnswer}
 
 kinds-append : (x y : List Token) → kinds (x ++ y) ≡ kinds x ++ kinds y
 unfolding kinds
@@ -74,6 +74,9 @@ one-answer s (refused n p) (refused m q) x y = of (sym x ∙ y)
   where
     of : {n p m q : ℕ} → _≡_ {A = Result (List ℕ)} (refused n p) (refused m q) → _≡_ {A = Result (Option ℕ)} (refused n p) (refused m q)
     of e = cc
+
+pub the-answer : (s : List ℕ) (a : Result (Option ℕ)) → Answers s a → TheAnswer s a
+the-answer s a h = record { holds = h; alone = λ b k. one-answer s b a k h }
 
 -- 'Answer yes exactly for documents of that shape'
 pub yes-exactly : (s : List ℕ) (a : Result (Option ℕ)) → check s ≡ gives [] → Answers s a → (a ≡ gives none) ↔ Shaped (kinds (tokens 0 0 s))

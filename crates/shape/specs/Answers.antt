@@ -12,11 +12,16 @@ use Rattle.shape.specs.declared.Shape.{Shape}
 use Rattle.shape.specs.declared.Shape.the-variants as shape
 
 -- 'Answer yes exactly for documents of that shape; for no, give the place of the first record ..': no place, or that one. 'Documents refused by
--- 1 to 8 are refused as before.' Each document has exactly one such answer (the laws `an-answer`, `one-answer`).
+-- 1 to 8 are refused as before.'
 abbrev pub Answers : List ℕ → Result (Option ℕ) → Type 0
 Answers s (gives none) = (check s ≡ gives []) × Shaped (kinds (tokens 0 0 s))
 Answers s (gives (some p)) = (check s ≡ gives []) × OutOfPlace (tokens 0 0 s) p
 Answers s (refused n p) = check s ≡ refused n p
+
+-- the answer on a document: it holds, and no other does
+pub record TheAnswer (s : List ℕ) (a : Result (Option ℕ)) : Type 0 where
+  pub holds : Answers s a
+  pub alone : (b : Result (Option ℕ)) → Answers s b → b ≡ a
 
 -- an answer of the code: it has the shape; it has not, by the record at a place; 'A refusal is its number and place'
 abbrev pub shapeOf : Shape → Result (Option ℕ)

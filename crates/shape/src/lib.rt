@@ -9,7 +9,7 @@ use refusal::Refusal;
 ghost use mathlib.Core.Path.{_≡_};
 ghost use Prim.Native.Nat.{_≤_};
 ghost use Rattle.shape.specs.Shape.{same, other, inline};
-ghost use Rattle.shape.specs.Answers.{Answers, shapeOf};
+ghost use Rattle.shape.specs.Answers.{TheAnswer, shapeOf};
 ghost use Rattle.shape.specs.Steps.{OpenAt, Walked};
 ghost use Rattle.shape.specs.Steps as want;
 
@@ -196,7 +196,7 @@ fn pairs(document: &[u8], from: usize, depth: usize) -> Way
 // Whether a document has the house shape. In an accepted document an end record ends the innermost open block, so that `parts`, `pairs` and
 // `inlines` need not ask which.
 pub fn house_shape(document: &[u8]) -> Shape
-    ensures { λ r. ⌜ Answers (now (document .entry)) (shapeOf r) ⌝ }
+    ensures { λ r. ⌜ TheAnswer (now (document .entry)) (shapeOf r) ⌝ }
 {
     let verdict = check(document);
     match verdict {
