@@ -139,9 +139,9 @@ static struct fenced documents, rooms, places, lengths, more[3];
 
 /* ---- what was reached -------------------------------------------------------------------------------------------------------- */
 
-enum function { CHECK, CONSOLE, HTML, HTML_STRICT, MARKDOWN, ROFF, WRITE, OPEN, CLOSE, DOC, EM_DOC, NEXT_CHUNK, TABSTOP, PAGE_COUNT, PAGE, FUNCTIONS };
+enum function { CHECK, CONSOLE, HTML, HTML_STRICT, MARKDOWN, ROFF, WRITE, OPEN, CLOSE, DOC, EM_DOC, NEXT_CHUNK, TABSTOP, PAGE_COUNT, PAGE, HOUSE_SHAPE, FUNCTIONS };
 static const char *const names[FUNCTIONS] = {"check", "console", "html", "html_strict", "markdown", "roff", "write", "open", "close",
-    "doc", "em_doc", "next_chunk", "tabstop", "page_count", "page"};
+    "doc", "em_doc", "next_chunk", "tabstop", "page_count", "page", "house_shape"};
 static unsigned long calls[FUNCTIONS], accepts[FUNCTIONS], numbers[MOST_NUMBER + 1], inputs;
 
 enum { MOST_BLOCKS = 8192, OUTCOMES = 16384 };
@@ -269,6 +269,26 @@ static void run_tabstop(const uint8_t *document, size_t n, struct answer checked
         }
     }
     must(got[0].tabstop == got[1].tabstop && got[0].at == got[1].at, "tabstop: two answers");
+}
+
+static void run_house_shape(const uint8_t *document, size_t n, struct answer checked)
+{
+    struct { uint32_t shaped; size_t place; } got[2];
+    for (int p = ENDS_AT_FENCE; p <= STARTS_AT_FENCE; p++) {
+        const uint8_t *lent = lend(&documents, document, n, p);
+        uint32_t *shaped = lend_small_number(&lengths, (uint32_t)-1, p);
+        size_t *place = lend_number(&places, UNWRITTEN, p);
+        uint32_t number = sefgrunn_house_shape(lent, n, shaped, place);
+        got[p].shaped = *shaped, got[p].place = *place;
+        outcome(HOUSE_SHAPE, number, *place + (*shaped == 0));
+        must(number == checked.number && *shaped <= 1, "house_shape: not the check's number");
+        if (number != 0) {
+            must(*shaped == 0 && *place == checked.at, "house_shape: after a refusal");
+        } else {
+            must(*shaped == 1 ? *place == 0 : n >= 6 && *place <= n - 6, "house_shape: place");
+        }
+    }
+    must(got[0].shaped == got[1].shaped && got[0].place == got[1].place, "house_shape: two answers");
 }
 
 struct settings {
@@ -677,6 +697,7 @@ int LLVMFuzzerTestOneInput(const uint8_t *data, size_t n)
     struct answer checked = run_check(data, n);
     inputs++;
     run_tabstop(data, n, checked);
+    run_house_shape(data, n, checked);
     for (enum function f = CONSOLE; f <= ROFF; f++) {
         struct settings s = {f, width(&state), below(&state, 3) != 0, below(&state, 4) == 0, below(&state, 2) == 0};
         try_render(s, data, n, checked, room_size(&state, n));

@@ -91,6 +91,13 @@ uint32_t sefgrunn_check(const uint8_t *document, size_t n, size_t *place);
 uint32_t sefgrunn_console(const uint8_t *document, size_t n, size_t width, bool full, bool characters, uint8_t *room, size_t room_len,
     size_t *at);
 
+/* Whether a document has house shape. It is then a run of parts; a part is text, a DefinitionList, or one of the other blocks around parts.
+ * A list holds zero or more pairs of an ItemTerm and an ItemBody; a body holds parts; a term holds text, TermRef, Mono and InlineBlock,
+ * these around the same. Terms and bodies stand nowhere else. Rendering does not ask for it. Reads n bytes at document. Writes *shaped, 1
+ * or 0, and *place: where it is 0, the start of the first record after which no further records could lead to a document of that shape.
+ * After a refusal *shaped is 0 and *place the refusal's; else *place is 0. Refusals 1 to 8. */
+uint32_t sefgrunn_house_shape(const uint8_t *document, size_t n, uint32_t *shaped, size_t *place);
+
 /* What sefgrunn_next_chunk found. */
 enum sefgrunn_chunk {
     SEFGRUNN_CHUNK_NONE = 0,       /* no further chunk */

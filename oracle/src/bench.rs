@@ -153,14 +153,14 @@ fn characters_times(document: &[u8]) -> Option<Times> {
     })
 }
 
-/// The search for the tabstop, which begins with the check; the port's check stands in for the Rust,
-/// which has no such function. `None` where the document is refused.
-fn tabstop_times(document: &[u8]) -> Option<Times> {
+/// A call that begins with the check; the port's check stands in for the Rust, which has no such
+/// function. `None` where the document is refused.
+fn beside_check(call: Call, document: &[u8]) -> Option<Times> {
     let run = |call| port(call, document, &mut []) == 0;
-    (run(Call::Check) && run(Call::Tabstop)).then(|| {
+    (run(Call::Check) && run(call)).then(|| {
         medians(
             400,
-            || batch(BATCH, || assert!(run(Call::Tabstop))),
+            || batch(BATCH, || assert!(run(call))),
             || batch(BATCH, || assert!(run(Call::Check))),
         )
     })
@@ -330,13 +330,14 @@ pub fn page(name: &str, document: &[u8]) -> Option<()> {
     row("console, room 65,536", name, bytes, wide);
     row("characters (rust: bytes)", name, bytes, characters_times(document));
     let term = settling_term();
-    row("tabstop (rust: check)", name, bytes, tabstop_times(document));
+    row("tabstop (rust: check)", name, bytes, beside_check(Call::Tabstop, document));
     for (what, whole) in [
         ("tabstop, term first", [&term[..], document].concat()),
         ("tabstop, term last", [document, &term[..]].concat()),
     ] {
-        row(what, name, whole.len(), tabstop_times(&whole));
+        row(what, name, whole.len(), beside_check(Call::Tabstop, &whole));
     }
+    row("shape (rust: check)", name, bytes, beside_check(Call::Shape, document));
     for (what, renderer) in [
         ("console, room as needed", CONSOLE),
         ("html", HTML),

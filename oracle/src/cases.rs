@@ -3,6 +3,7 @@
 
 use crate::pages;
 use crate::rules::{self, Chunk, Operation, PlainCursor, Refusal, Renderer};
+use crate::shape;
 
 #[derive(Debug, Clone, Copy, Eq, PartialEq)]
 pub enum Call {
@@ -23,6 +24,7 @@ pub enum Call {
         height: u64,
         page: u64,
     },
+    Shape,
 }
 
 /// A call with all that it reads and all that its room holds before it.
@@ -44,7 +46,7 @@ pub struct Answer {
     /// 0 where the call is accepted, else the refusal's number; or which chunk there is
     pub number: u32,
     /// the refusal's place, or the length of an accepted text; the cursor after a chunk; what settles
-    /// the tabstop; 0 for other accepted calls
+    /// the tabstop; the first record that is not in house shape; 0 for other accepted calls
     pub at: u64,
     /// every byte of the room after the call
     pub room: Vec<u8>,
@@ -112,6 +114,11 @@ pub fn answer(case: &Case) -> Answer {
             answer.numbers = vec![start as u64, length as u64];
             part.map(|_| 0)
         }
+        Call::Shape => {
+            let shape = shape::house_shape(&case.document);
+            answer.numbers = vec![(shape == Ok(None)).into()];
+            shape.map(|wrong| wrong.unwrap_or(0) as u64)
+        }
     };
     match outcome {
         Ok(at) => answer.at = at,
@@ -152,7 +159,7 @@ fn header(call: Call) -> Option<(u8, u64, bool, bool)> {
         Call::Split => (11, 0, false, false),
         Call::NextChunk { at, .. } => (12, at, false, false),
         Call::Tabstop => (13, 0, false, false),
-        Call::PageCount { .. } | Call::Page { .. } => return None,
+        Call::PageCount { .. } | Call::Page { .. } | Call::Shape => return None,
     })
 }
 

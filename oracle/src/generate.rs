@@ -23,10 +23,11 @@ pub enum Subject {
     NextChunk,
     Tabstop,
     Pages,
+    Shape,
 }
 
 impl Subject {
-    pub const ALL: [(Subject, &'static str); 12] = [
+    pub const ALL: [(Subject, &'static str); 13] = [
         (Subject::Check, "check"),
         (Subject::Console, "console"),
         (Subject::Html, "html"),
@@ -39,11 +40,12 @@ impl Subject {
         (Subject::NextChunk, "next_chunk"),
         (Subject::Tabstop, "tabstop"),
         (Subject::Pages, "pages"),
+        (Subject::Shape, "shape"),
     ];
 
     /// Whether lists have its calls.
     pub fn is_listed(self) -> bool {
-        self != Subject::Pages
+        !matches!(self, Subject::Pages | Subject::Shape)
     }
 
     pub fn named(name: &str) -> Option<Subject> {
@@ -218,6 +220,7 @@ const BLOCK: usize = 7;
 const INLINE: usize = 8;
 const TERM_REF: usize = 9;
 const META: usize = 10;
+const MONO: usize = 11;
 
 /// What a valid document may hold.
 #[derive(Debug, Clone, Copy)]
@@ -344,6 +347,44 @@ impl Maker<'_> {
             if inner {
                 m.nested_terms(depth - 1);
                 m.text(after);
+            }
+        });
+    }
+
+    /// One part of a document in house shape.
+    fn part(&mut self, depth: usize) {
+        match self.rng.below(if depth == 0 { 2 } else { 5 }) {
+            0..=1 => self.some_text(),
+            2..=3 => self.list(depth - 1),
+            _ => {
+                let block = self.rng.pick(&[0, 1, 2, 3, BLOCK, INLINE, TERM_REF, META, MONO]);
+                self.around(block, |m| m.parts(depth - 1));
+            }
+        }
+    }
+
+    fn parts(&mut self, depth: usize) {
+        for _ in 0..self.rng.below(3) {
+            self.part(depth);
+        }
+    }
+
+    /// A list in house shape. A pair is left out where it may not fit.
+    fn list(&mut self, depth: usize) {
+        self.around(LIST, |m| {
+            for _ in 0..m.rng.below(4) {
+                if !m.fits(6 * 24) || m.open.len() + 8 > MOST_OPEN {
+                    break;
+                }
+                let inner = m.rng.pick(&[INLINE, TERM_REF, MONO]);
+                let (within, term) = (m.rng.once_in(3), m.rng.pick(&["", "-p", "--port"]));
+                m.around(ITEM_TERM, |m| {
+                    if within {
+                        m.around(inner, |m| m.text("-p"));
+                    }
+                    m.text(term);
+                });
+                m.around(ITEM_BODY, |m| m.parts(depth));
             }
         });
     }
@@ -524,6 +565,55 @@ fn terms(rng: &mut Rng, palette: Palette) -> Vec<u8> {
     maker.bytes
 }
 
+/// A document in house shape.
+fn shaped(rng: &mut Rng, palette: Palette, most: usize) -> Vec<u8> {
+    let mut maker = Maker { rng, palette, bytes: Vec::new(), open: Vec::new(), most };
+    for _ in 0..maker.rng.below(5) {
+        let depth = maker.rng.within(1, 4);
+        maker.part(depth);
+    }
+    maker.bytes
+}
+
+/// One change of a valid document that leaves it valid and may spoil its shape: a block becomes
+/// another, loses its bracket or goes with all that it holds; a text or an empty block is put in.
+fn misshape(rng: &mut Rng, document: &[u8]) -> Vec<u8> {
+    let records = rules::check(document).expect("a valid document");
+    let mut list: Vec<(u16, Vec<u8>)> =
+        records.iter().map(|r| (r.kind.number(), r.body.to_vec())).collect();
+    let at = rng.below(list.len() + 1);
+    let starts: Vec<usize> = (0..list.len()).filter(|&i| list[i].0 >> 8 == 1).collect();
+    let block = rng.pick(&[ITEM_TERM, ITEM_BODY, LIST, LIST, BLOCK, INLINE, TERM_REF, 0]) as u16;
+    if starts.is_empty() || rng.once_in(3) {
+        let put: Vec<(u16, Vec<u8>)> = match rng.below(3) {
+            0 => vec![(1, b"x".to_vec())],
+            1 => vec![(2, vec![])],
+            _ => vec![(0x0100 + block, vec![]), (0x0200 + block, vec![])],
+        };
+        list.splice(at..at, put);
+    } else {
+        let start = rng.pick(&starts);
+        let mut depth = 0;
+        let end = (start..list.len())
+            .find(|&i| {
+                depth += (list[i].0 >> 8 == 1) as i32 - (list[i].0 >> 8 == 2) as i32;
+                depth == 0
+            })
+            .expect("its end");
+        match rng.below(3) {
+            0 => (list[start].0, list[end].0) = (0x0100 + block, 0x0200 + block),
+            1 => {
+                list.remove(end);
+                list.remove(start);
+            }
+            _ => drop(list.drain(start..=end)),
+        }
+    }
+    let mut out = Vec::new();
+    list.iter().for_each(|(kind, body)| put_record(&mut out, *kind, body));
+    out
+}
+
 /// A valid document of at most `most` bytes; its blocks are all closed, or some may be open.
 fn valid(rng: &mut Rng, palette: Palette, most: usize, may_stay_open: bool) -> Vec<u8> {
     let most = if rng.once_in(2) { most } else { rng.below(most + 1) };
@@ -652,6 +742,11 @@ fn document(rng: &mut Rng, subject: Subject, limits: Limits, faulty_once_in: usi
     }
     if subject == Subject::Console && limits.bytes >= FAR_BYTES && rng.once_in(12) {
         return far(rng, palette);
+    }
+    if subject == Subject::Shape && !rng.once_in(5) {
+        let most = limits.one(rng).max(300);
+        let shaped = shaped(rng, palette, most);
+        return if rng.once_in(2) { shaped } else { misshape(rng, &shaped) };
     }
     if subject == Subject::Tabstop && limits.bytes >= FAR_BYTES && rng.once_in(2) {
         return terms(rng, palette);
@@ -947,10 +1042,13 @@ fn paging(rng: &mut Rng, limits: Limits) -> Case {
 pub fn case(subject: Subject, seed: u64, index: u64, limits: Limits) -> Case {
     let rng = &mut Rng::new(seed, index);
     match subject {
-        Subject::Check | Subject::Tabstop => {
-            let checks = subject == Subject::Check;
-            let document = document(rng, subject, limits, if checks { 2 } else { 4 });
-            let call = if checks { Call::Check } else { Call::Tabstop };
+        Subject::Check | Subject::Tabstop | Subject::Shape => {
+            let (call, faulty_once_in) = match subject {
+                Subject::Check => (Call::Check, 2),
+                Subject::Tabstop => (Call::Tabstop, 4),
+                _ => (Call::Shape, 2),
+            };
+            let document = document(rng, subject, limits, faulty_once_in);
             Case { call, document, room: Vec::new(), length: 0 }
         }
         Subject::Builder => building(rng, limits),
@@ -998,7 +1096,7 @@ pub fn numbers(subject: Subject, seed: u64, cases: u64) -> [u64; 24] {
 /// The numbers that a subject can answer.
 pub fn owed(subject: Subject) -> &'static [u32] {
     match subject {
-        Subject::Check | Subject::Tabstop => &[0, 1, 2, 3, 4, 5, 6, 7, 8],
+        Subject::Check | Subject::Tabstop | Subject::Shape => &[0, 1, 2, 3, 4, 5, 6, 7, 8],
         Subject::Console => &[0, 1, 2, 3, 4, 5, 6, 7, 8, 9, 10, 13],
         Subject::Html | Subject::HtmlStrict | Subject::Markdown => {
             &[0, 1, 2, 3, 4, 5, 6, 7, 8, 11, 13]
@@ -1069,6 +1167,30 @@ mod tests {
             for limits in [Limits::COMPARED, Limits::RECORDED] {
                 assert!(told_apart(misread, 11, 2_000, limits).0 > 0, "{misread:?} {limits:?}");
             }
+        }
+    }
+
+    /// The house shape is met and missed, at each kind of record.
+    #[test]
+    fn shapes_are_met_and_missed() {
+        let mut met = std::collections::BTreeMap::new();
+        for index in 0..4_000 {
+            let case = case(Subject::Shape, 6, index, Limits::COMPARED);
+            let answer = answer(&case);
+            if answer.number == 0 {
+                let records = rules::check(&case.document).unwrap();
+                let wrong = records.iter().find(|r| r.place as u64 == answer.at);
+                let kind = wrong.map(|r| match r.kind {
+                    rules::Kind::Text(_) => 0,
+                    kind => kind.number(),
+                });
+                *met.entry(kind.filter(|_| answer.numbers == [0])).or_insert(0) += 1;
+            }
+        }
+        assert!(met[&None] > 1_000, "{met:?}");
+        // text, a term, a body, a list, a Block; the end of a list
+        for kind in [0, 0x0104, 0x0105, 0x0106, 0x0107, 0x0206] {
+            assert!(met.get(&Some(kind)).is_some_and(|&n| n > 5), "{kind:04x} {met:?}");
         }
     }
 

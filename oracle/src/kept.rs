@@ -12,6 +12,7 @@ use crate::buffer::{plain_chunks, Color, PlainChunk, Token};
 use crate::cases::{Answer, Call, Case};
 use crate::pages;
 use crate::rules::{self, Chunk, Kind, Operation, Record, Refusal, Renderer};
+use crate::shape;
 use crate::stored::{decode, put_record, Block, Ending, Style, MOST_BYTES};
 use crate::Doc;
 
@@ -483,5 +484,6 @@ pub fn confirm(case: &Case, answer: &Answer) -> Result<(), String> {
         Call::PageCount { height } | Call::Page { height, .. } => {
             pages::confirm(&case.document, height)
         }
+        Call::Shape => shape::confirm(&case.document),
     }
 }

@@ -4,6 +4,7 @@
 //! - [`stored`]: documents in the stored form of 01, read into and made from the kept `Doc`.
 //! - [`rules`]: 01 read again, independently of the kept Rust, with refusals and rooms.
 //! - [`pages`]: 02's pages of a console text.
+//! - [`shape`]: 02's house shape of a document.
 //! - [`kept`]: the kept Rust run beside `rules`; every disagreement is reported.
 //! - [`cases`]: one type for a call of any public function, one for its answer, and their list form.
 //! - [`generate`]: seeded documents, settings, rooms and builder calls.
@@ -29,5 +30,6 @@ pub mod kept;
 pub mod pages;
 pub mod port;
 pub mod rules;
+pub mod shape;
 pub mod stored;
 pub mod worthless;

@@ -56,7 +56,7 @@ impl Stored {
     fn numbers(&self, call: Call) -> Vec<u64> {
         let count = match call {
             Call::NextChunk { .. } => 4,
-            Call::Tabstop | Call::PageCount { .. } => 1,
+            Call::Tabstop | Call::PageCount { .. } | Call::Shape => 1,
             Call::Page { .. } => 2,
             _ => 0,
         };
@@ -165,6 +165,12 @@ pub(crate) fn number(call: Call, document: &[u8], room: &mut [u8], stored: &mut 
             Call::Page { height, page } => {
                 *at = 0;
                 c::sefgrunn_page(d, n, height as usize, page as usize, first, second)
+            }
+            Call::Shape => {
+                let mut shaped = u32::MAX;
+                let number = c::sefgrunn_house_shape(d, n, &mut shaped, at);
+                *first = shaped as usize;
+                number
             }
         }
     }

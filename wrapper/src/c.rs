@@ -12,6 +12,12 @@ extern "C" {
         room_len: usize,
         at: *mut usize,
     ) -> u32;
+    pub fn sefgrunn_house_shape(
+        document: *const u8,
+        n: usize,
+        shaped: *mut u32,
+        place: *mut usize,
+    ) -> u32;
     pub fn sefgrunn_tabstop(
         document: *const u8,
         n: usize,

@@ -176,6 +176,38 @@ pub enum Measure {
     Characters,
 }
 
+/// Whether a document has house shape.
+#[derive(Debug, Clone, Copy, PartialEq, Eq, Hash)]
+pub enum Shape {
+    /// It has.
+    House,
+    /// It has not. The place is the start of the first record after which no further records could
+    /// lead to a document of that shape.
+    Other(usize),
+}
+
+/// Whether a document has house shape, which rendering does not ask for: a run of parts. A part is
+/// text, a DefinitionList, or one of the other blocks around parts. A list holds pairs of an ItemTerm
+/// and an ItemBody, a body holds parts, and a term holds text, TermRef, Mono and InlineBlock, these
+/// around the same. Terms and bodies stand nowhere else. Refusals 1 to 8.
+///
+/// ```
+/// use sefgrunn::{house_shape, Block, Builder, Shape, Style};
+///
+/// # fn main() -> Result<(), sefgrunn::Refusal> {
+/// let mut page = Builder::new();
+/// page.open(Block::DefinitionList)?.write(Style::Text, "no term")?;
+/// page.close(Block::DefinitionList)?;
+/// assert_eq!(house_shape(&page.finish()?)?, Shape::Other(6));
+/// # Ok(())
+/// # }
+/// ```
+pub fn house_shape(document: &[u8]) -> Result<Shape, Refusal> {
+    let (number, shaped, place) = linked::house_shape(document);
+    accepted(number, place)?;
+    Ok(if shaped { Shape::House } else { Shape::Other(place) })
+}
+
 /// How console text is laid out.
 ///
 /// ```

@@ -86,6 +86,15 @@ pub fn em_doc(room: &mut [u8], length: &mut usize, added: &[u8]) -> (u32, usize)
     (number, place)
 }
 
+/// The number, whether the document has house shape, and the place.
+pub fn house_shape(document: &[u8]) -> (u32, bool, usize) {
+    let (mut shaped, mut place) = (0, 0);
+    let (d, n) = (document.as_ptr(), document.len());
+    // SAFETY: see above.
+    let number = unsafe { c::sefgrunn_house_shape(d, n, &mut shaped, &mut place) };
+    (number, shaped != 0, place)
+}
+
 /// The number, the tabstop, and what settles it or the place.
 pub fn tabstop(document: &[u8]) -> (u32, usize, usize) {
     let (mut tabstop, mut at) = (0, 0);

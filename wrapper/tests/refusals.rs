@@ -1,6 +1,6 @@
 //! Each refusal with its place, by 01's table, and a builder that a refused call leaves as it was.
 
-use sefgrunn::{check, Block, Builder, Html, Number, Refusal, Settings, Style};
+use sefgrunn::{check, Block, Builder, Html, Number, Refusal, Settings, Shape, Style};
 
 fn refusal<T>(number: Number, place: usize) -> Result<T, Refusal> {
     Err(Refusal { number, place })
@@ -64,6 +64,21 @@ fn of_renderers() {
     assert_eq!(sefgrunn::markdown_string(&meta, true), refusal(Number::NoForm, 0));
     let term_ref = nested(&[Block::Mono, Block::TermRef], "x");
     assert_eq!(sefgrunn::roff_string(&term_ref), refusal(Number::NoForm, 6));
+}
+
+#[test]
+fn house_shape() {
+    let shape = |blocks: &[Block]| sefgrunn::house_shape(&nested(blocks, "x"));
+    let list = Block::DefinitionList;
+    assert_eq!(sefgrunn::house_shape(b""), Ok(Shape::House));
+    assert_eq!(shape(&[Block::Block, Block::Mono]), Ok(Shape::House));
+    // text in a list, a body before its term, the end of a list after a term
+    assert_eq!(shape(&[list]), Ok(Shape::Other(6)));
+    assert_eq!(shape(&[list, Block::ItemBody]), Ok(Shape::Other(6)));
+    assert_eq!(shape(&[list, Block::ItemTerm]), Ok(Shape::Other(6 + 6 + 7 + 6)));
+    assert_eq!(shape(&[Block::ItemTerm]), Ok(Shape::Other(0)));
+    assert_eq!(sefgrunn::house_shape(&[1, 0]), refusal(Number::CutShort, 0));
+    assert_eq!(sefgrunn::house_shape(&[0, 0, 0, 0, 6, 1]), refusal(Number::LeftOpen, 6));
 }
 
 /// Asserts that a call is refused and changes nothing.

@@ -15,6 +15,7 @@ ghost use Rattle.pages.specs.Pages.{pageOf, pageStart, pageCount, shown};
 ghost use Rattle.html_rules.specs.Html.{html};
 ghost use Rattle.html_rules.specs.Markdown.{markdown};
 ghost use Rattle.manpage.specs.Roff.{roff};
+ghost use Rattle.sefgrunn.specs.HouseShape.{ShapeTold};
 ghost use Rattle.sefgrunn.specs.Numbers.{numberOf, placeOf, lengthOrPlace, orZero, lengthAfter, told, measureAsked, settings, writesIn, opensIn, closesIn};
 use buffer::Built;
 use console_rules::Measure;
@@ -26,6 +27,7 @@ use pages::Paged;
 use records::Kind;
 use refusal::Refusal;
 use renderer::Rendered;
+use shape::Shape;
 
 // Accepted, where no length is stored.
 fn accepted(place: &mut usize) -> u32
@@ -160,6 +162,29 @@ pub extern "C" fn sefgrunn_tabstop(document: &[u8], tabstop: &mut usize, at: &mu
         Searched::Refused(a) => {
             *tabstop = 0;
             refused(a, at)
+        }
+    }
+}
+
+// Whether a document has house shape, 1 or 0; and the place of the first record after which no further records could lead to it.
+#[no_mangle]
+pub extern "C" fn sefgrunn_house_shape(document: &[u8], shaped: &mut u32, place: &mut usize) -> u32
+    ensures { λ r. ⌜ ShapeTold (now (document .entry)) r (now (shaped .exit)) (now (place .exit)) ⌝ }
+{
+    let answer = shape::house_shape(document);
+    match answer {
+        Shape::Shaped => {
+            *shaped = 1;
+            accepted(place)
+        }
+        Shape::Unshaped(p) => {
+            *shaped = 0;
+            *place = p;
+            0
+        }
+        Shape::Refused(a) => {
+            *shaped = 0;
+            refused(a, place)
         }
     }
 }

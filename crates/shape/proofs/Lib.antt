@@ -1,0 +1,9 @@
+pub mod Blocks
+pub mod Runs
+pub mod Machine
+pub mod Opened
+pub mod Records
+pub mod Loops
+pub mod Laws
+pub mod Accepted
+pub mod Samples

@@ -1,0 +1,4 @@
+pub mod Shape
+pub mod Answers
+pub mod Steps
+pub mod Samples
