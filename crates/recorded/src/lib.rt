@@ -1,69 +1,34 @@
 // A list of cases, calls with the oracle's answers, as the programs `replay` and `replay_builder` read it (its form stands in
-// oracle/src/cases.rs), and the counts that they print.
+// oracle/src/cases.rs): its numbers, a call, the document and the answer of a case, and a room before a call.
+ghost use mathlib.Core.Path.{_≡_};
 ghost use Prim.Native.Nat.{_<_, _≤_};
-use refusal::Refusal;
+ghost use lib.ListN.{length};
+ghost use Rattle.recorded.specs.Cases.{numberIn, numberSize, past as pastNumber, sizedOf, callOf, documentOf, answerOf, pattern, filled, keeps, counted};
+use compared::byte_or;
 
-fn wide(b: u8) -> usize
-    ensures { λ r. ⌜ r < 256 ⌝ }
-{
-    b as usize
-}
+pub mod input;
+pub mod output;
 
-// The byte at a place, or another one past the end.
-pub fn byte_or(bytes: &[u8], at: usize, other: u8) -> u8 {
-    if at < bytes.len() {
-        return bytes[at];
-    }
-    other
-}
+// How many calls there are: their numbers in a list are below this one.
+pub const CALLS: usize = 14;
 
-// So many bytes, or those that are there.
-pub fn part<'a>(bytes: &'a [u8], n: usize) -> &'a [u8] {
-    if bytes.len() <= n {
-        return bytes;
-    }
-    let from: usize = 0;
-    &bytes[from..n]
-}
-
-// The bytes from a place on.
-pub fn rest<'a>(bytes: &'a [u8], from: usize) -> &'a [u8] {
-    let length = bytes.len();
-    if length <= from {
-        return &bytes[length..];
-    }
-    &bytes[from..]
-}
-
-// The number in four bytes, the least first.
-fn long(bytes: &[u8]) -> usize
-    ensures { λ r. ⌜ r < 0x1_0000_0000 ⌝ }
-{
-    wide(byte_or(bytes, 0, 0))
-        + 256 * wide(byte_or(bytes, 1, 0))
-        + 65536 * wide(byte_or(bytes, 2, 0))
-        + 16777216 * wide(byte_or(bytes, 3, 0))
-}
-
-// The number that bytes begin with: one byte below 255, or a byte 255 and then four bytes. Where bytes are missing it is one that no
-// answer has.
+// The number that bytes begin with.
 pub fn number(bytes: &[u8]) -> usize
-    ensures { λ r. ⌜ r < 0x1_0000_0000 ⌝ }
+    ensures { λ r. ⌜ (r ≡ numberIn (now (bytes .entry))) × (r < 0x1_0000_0000) ⌝ }
 {
     let first = byte_or(bytes, 0, 255);
     if first < 255 {
-        return wide(first);
+        return base::usize_from(first);
     }
-    let four = rest(bytes, 1);
-    if four.len() < 4 {
+    if bytes.len() < 5 {
         return 0xFFFF_FFFF;
     }
-    long(four)
+    records::four(bytes, 1)
 }
 
 // How many bytes it takes.
 pub fn number_size(bytes: &[u8]) -> usize
-    ensures { λ r. ⌜ r ≤ 5 ⌝ }
+    ensures { λ r. ⌜ (r ≡ numberSize (now (bytes .entry))) × (r ≤ 5) ⌝ }
 {
     if byte_or(bytes, 0, 0) < 255 {
         return 1;
@@ -72,38 +37,10 @@ pub fn number_size(bytes: &[u8]) -> usize
 }
 
 // The bytes after it.
-pub fn past<'a>(bytes: &'a [u8]) -> &'a [u8] {
-    rest(bytes, number_size(bytes))
-}
-
-// The next case of standard input is in a buffer and has so many bytes; or the list ends here, or is faulty.
-pub enum Next {
-    Case(usize),
-    End,
-    Faulty,
-}
-
-pub fn next_case(buffer: &mut [u8]) -> Next {
-    let mut short = [0u8; 1];
-    if io::read_full(libc::STDIN_FILENO, &mut short) == 0 {
-        return Next::End;
-    }
-    let mut n = number(&short);
-    if short[0] == 255 {
-        let mut four = [0u8; 4];
-        if io::read_full(libc::STDIN_FILENO, &mut four) < 4 {
-            return Next::Faulty;
-        }
-        n = long(&four);
-    }
-    if buffer.len() < n {
-        return Next::Faulty;
-    }
-    let from: usize = 0;
-    if io::read_full(libc::STDIN_FILENO, &mut buffer[from..n]) < n {
-        return Next::Faulty;
-    }
-    Next::Case(n)
+pub fn past<'a>(bytes: &'a [u8]) -> &'a [u8]
+    ensures { λ r. ⌜ now r ≡ pastNumber (now (bytes .entry)) ⌝ }
+{
+    base::get_from(bytes, number_size(bytes))
 }
 
 // A call: its number in a list, its setting (width, style, block or place of a cursor), its flags, of which the first may be the ticks of a
@@ -117,82 +54,86 @@ pub struct Call {
     pub room: usize,
 }
 
-pub fn call_of(case: &[u8]) -> Call {
-    let settings = rest(case, 1);
+// The call of a case.
+pub fn call_of(case: &[u8]) -> Call
+    ensures { λ r. ⌜ r ≡ callOf (now (case .entry)) ⌝ }
+{
+    let settings = base::get_from(case, 1);
     let flags = past(settings);
+    let ticks = byte_or(flags, 0, 0);
     Call {
         number: byte_or(case, 0, 255),
         setting: number(settings),
-        full: byte_or(flags, 0, 0) == 1,
-        ticks: byte_or(flags, 0, 0),
+        full: ticks == 1,
+        ticks,
         css: byte_or(flags, 1, 0) == 1,
-        room: number(rest(flags, 2)),
+        room: number(base::get_from(flags, 2)),
     }
 }
 
 // A case from the length of its document on.
-fn sized<'a>(case: &'a [u8]) -> &'a [u8] {
-    past(rest(past(rest(case, 1)), 2))
+fn sized<'a>(case: &'a [u8]) -> &'a [u8]
+    ensures { λ r. ⌜ now r ≡ sizedOf (now (case .entry)) ⌝ }
+{
+    past(base::get_from(past(base::get_from(case, 1)), 2))
 }
 
-pub fn document_of<'a>(case: &'a [u8]) -> &'a [u8] {
+// The document of a case.
+pub fn document_of<'a>(case: &'a [u8]) -> &'a [u8]
+    ensures { λ r. ⌜ now r ≡ documentOf (now (case .entry)) ⌝ }
+{
     let sized = sized(case);
-    part(past(sized), number(sized))
+    base::get(past(sized), 0, number(sized))
 }
 
 // What a case has after its document.
-pub fn answer_of<'a>(case: &'a [u8]) -> &'a [u8] {
+pub fn answer_of<'a>(case: &'a [u8]) -> &'a [u8]
+    ensures { λ r. ⌜ now r ≡ answerOf (now (case .entry)) ⌝ }
+{
     let sized = sized(case);
-    rest(past(sized), number(sized))
+    base::get_from(past(sized), number(sized))
 }
 
-// Whether a refusal has this number and place.
-pub fn is_refusal(a: Refusal, number: usize, place: usize) -> bool {
-    if refusal::refusal_number(a) as usize != number {
-        return false;
-    }
-    refusal::refusal_place(a) == place
-}
-
-// The pattern in a room before a call: 1, 32, 63 and so on, in turns of the numbers 1 to 255.
-pub fn next_byte(b: u8) -> u8 {
-    if b < 225 {
-        return b + 31;
-    }
-    b - 224
+// The byte of the pattern at a place of a room before a call.
+fn pattern_at(i: usize) -> u8
+    ensures { λ r. ⌜ r ≡ pattern i ⌝ }
+{
+    (i % 255 * 31 % 255) as u8 + 1
 }
 
 // A room before a call: the document so far and then the pattern.
-pub fn fill(room: &mut [u8], document: &[u8]) {
+pub fn fill(room: &mut [u8], document: &[u8])
+    ensures { λ _. ⌜ now (room .exit) ≡ filled (length (now (room .entry))) (now (document .entry)) ⌝ }
+{
     let mut i: usize = 0;
-    let mut byte: u8 = 1;
     while i < room.len() {
-        room[i] = byte_or(document, i, byte);
-        byte = next_byte(byte);
+        room[i] = byte_or(document, i, pattern_at(i));
         i += 1;
     }
 }
 
+// Whether a room holds a document, and after it what it held before.
+pub fn keeps(room: &[u8], document: &[u8]) -> bool
+    ensures { λ r. ⌜ r ≡ keeps (now (room .entry)) (now (document .entry)) ⌝ }
+{
+    let mut i: usize = 0;
+    while i < room.len() {
+        if room[i] != byte_or(document, i, pattern_at(i)) {
+            return false;
+        }
+        i += 1;
+    }
+    document.len() <= room.len()
+}
+
 // One call more of those with its number.
-pub fn count(counts: &mut [u64; 23], case: &[u8]) {
-    let call = wide(byte_or(case, 0, 255));
-    if call < 23 {
+pub fn count(counts: &mut [u64], case: &[u8])
+    ensures { λ _. ⌜ now (counts .exit) ≡ counted (now (counts .entry)) (now (case .entry)) ⌝ }
+{
+    let call = base::usize_from(byte_or(case, 0, 255));
+    if call < counts.len() {
         if counts[call] < 1_000_000 {
             counts[call] += 1;
         }
     }
-}
-
-pub fn print_count(name: &[u8], n: u64) {
-    io::write_all(libc::STDOUT_FILENO, name);
-    io::print_decimal(libc::STDOUT_FILENO, n);
-}
-
-// How many cases differ, and which is the first of them, counted from 1.
-pub fn print_differences(differences: u64, first: u64) {
-    print_count(b"differences ", differences);
-    if differences != 0 {
-        print_count(b", the first is case ", first);
-    }
-    io::write_all(libc::STDOUT_FILENO, b"\n");
 }

@@ -4,9 +4,9 @@ ghost use Prim.Native.Nat.{_<_, _≤_};
 use console_rules::Measure;
 use console_rules::Settings;
 use console_tabstop::Searched;
-use document::Checked;
+use recorded::CALLS;
 use recorded::Call;
-use recorded::Next;
+use recorded::input::Next;
 use renderer::Rendered;
 use splitter::Code;
 use splitter::Cursor;
@@ -17,23 +17,14 @@ use splitter::Step;
 fn checks(document: &[u8], answer: &[u8]) -> bool {
     let number = recorded::number(answer);
     let place = recorded::number(recorded::past(answer));
-    let checked = document::check(document);
-    match checked {
-        Checked::Accepted => {
-            if number != 0 {
-                return false;
-            }
-            place == 0
-        }
-        Checked::Refused(a) => recorded::is_refusal(a, number, place),
-    }
+    compared::is_verdict(document::check(document), number, place)
 }
 
 // How many bytes the chunk takes that a list begins with: a tag, where it starts, its length and its width.
 fn chunk_size(listed: &[u8]) -> usize
     ensures { λ r. ⌜ r ≤ 16 ⌝ }
 {
-    let start = recorded::rest(listed, 1);
+    let start = base::get_from(listed, 1);
     let length = recorded::past(start);
     let width = recorded::past(length);
     1 + recorded::number_size(start) + recorded::number_size(length) + recorded::number_size(width)
@@ -41,8 +32,8 @@ fn chunk_size(listed: &[u8]) -> usize
 
 // Whether a piece of a body is the chunk that a list begins with.
 fn is_listed(body: &[u8], piece: Piece, listed: &[u8]) -> bool {
-    let tag = recorded::byte_or(listed, 0, 255);
-    let numbers = recorded::rest(listed, 1);
+    let tag = compared::byte_or(listed, 0, 255);
+    let numbers = base::get_from(listed, 1);
     let start = recorded::number(numbers);
     let size = recorded::number(recorded::past(numbers));
     let width = recorded::number(recorded::past(recorded::past(numbers)));
@@ -93,7 +84,7 @@ fn is_space(body: &[u8], at: usize, tag: u8, start: usize, size: usize, width: u
     if width != 1 {
         return false;
     }
-    if recorded::byte_or(body, at, 0) == b' ' {
+    if compared::byte_or(body, at, 0) == b' ' {
         return start == at;
     }
     start == 0xFFFF_FFFF
@@ -113,10 +104,10 @@ fn has_chunks(body: &[u8], listed: &[u8], count: usize) -> bool
         let Step::Take(piece, after) = splitter::step_at(body, cursor) else {
             return false;
         };
-        if !is_listed(body, piece, recorded::rest(listed, at)) {
+        if !is_listed(body, piece, base::get_from(listed, at)) {
             return false;
         }
-        at += chunk_size(recorded::rest(listed, at));
+        at += chunk_size(base::get_from(listed, at));
         cursor = after;
         i += 1;
     }
@@ -185,49 +176,7 @@ fn finds_tabstop(document: &[u8], answer: &[u8]) -> bool {
             if tabstop != 0 {
                 return false;
             }
-            recorded::is_refusal(a, number, at)
-        }
-    }
-}
-
-// Whether a room holds a text and then zeros.
-fn holds(room: &[u8], text: &[u8]) -> bool {
-    let mut i: usize = 0;
-    while i < room.len() {
-        if room[i] != recorded::byte_or(text, i, 0) {
-            return false;
-        }
-        i += 1;
-    }
-    text.len() <= room.len()
-}
-
-// Whether a renderer's answer has the number, 0 for accepted, and the length or place that a case says, and the room holds the text.
-fn is_rendered(rendered: Rendered, room: &[u8], answer: &[u8]) -> bool {
-    let number = recorded::number(answer);
-    let at = recorded::number(recorded::past(answer));
-    let text = recorded::past(recorded::past(answer));
-    match rendered {
-        Rendered::Text(n) => {
-            if number != 0 {
-                return false;
-            }
-            if n != at {
-                return false;
-            }
-            if text.len() != n {
-                return false;
-            }
-            holds(room, text)
-        }
-        Rendered::Refused(a) => {
-            if text.len() != 0 {
-                return false;
-            }
-            if !recorded::is_refusal(a, number, at) {
-                return false;
-            }
-            holds(room, text)
+            compared::is_refusal(a, number, at)
         }
     }
 }
@@ -240,6 +189,7 @@ fn measure_of(characters: bool) -> Measure {
     Measure::Bytes
 }
 
+// The call of a case, into a room.
 fn render(call: Call, document: &[u8], room: &mut [u8]) -> Rendered {
     let width = call.setting;
     let full = call.full;
@@ -276,9 +226,16 @@ fn renders(call: Call, document: &[u8], answer: &[u8]) -> bool {
     }
     let from: usize = 0;
     let room: &mut [u8] = &mut space[from..size];
-    recorded::fill(room, recorded::part(document, 0));
+    recorded::fill(room, b"");
     let rendered = render(call, document, room);
-    is_rendered(rendered, room, answer)
+    let placed = recorded::past(answer);
+    compared::is_rendered(
+        rendered,
+        room,
+        recorded::number(answer),
+        recorded::number(placed),
+        recorded::past(placed),
+    )
 }
 
 // Whether a call answers as its case says.
@@ -306,20 +263,20 @@ fn agrees(case: &[u8]) -> bool {
 
 // How many calls there were by their number, how many differ, the first that does, and whether the list was whole.
 struct Tally {
-    counts: [u64; 23],
+    counts: [u64; CALLS],
     differences: u64,
     first: u64,
     whole: bool,
 }
 
 fn replay_all(buffer: &mut [u8]) -> Tally {
-    let mut counts = [0u64; 23];
+    let mut counts = [0u64; CALLS];
     let mut cases: u64 = 0;
     let mut differences: u64 = 0;
     let mut first: u64 = 0;
     let mut whole = true;
     while cases < 1_000_000 {
-        let next = recorded::next_case(buffer);
+        let next = recorded::input::next_case(buffer);
         match next {
             Next::End => {
                 break;
@@ -330,7 +287,7 @@ fn replay_all(buffer: &mut [u8]) -> Tally {
             }
             Next::Case(n) => {
                 cases += 1;
-                let case = recorded::part(buffer, n);
+                let case = base::get(buffer, 0, n);
                 recorded::count(&mut counts, case);
                 if !agrees(case) {
                     if differences == 0 {
@@ -349,16 +306,16 @@ fn replay_all(buffer: &mut [u8]) -> Tally {
     }
 }
 
-fn print_counts(counts: &[u64; 23]) {
-    recorded::print_count(b"check ", counts[0]);
-    recorded::print_count(b", console ", counts[1]);
-    recorded::print_count(b", html ", counts[2]);
-    recorded::print_count(b", html_strict ", counts[3]);
-    recorded::print_count(b", markdown ", counts[4]);
-    recorded::print_count(b", roff ", counts[5]);
-    recorded::print_count(b", split ", counts[11]);
-    recorded::print_count(b", next_chunk ", counts[12]);
-    recorded::print_count(b", tabstop ", counts[13]);
+fn print_counts(counts: &[u64; CALLS]) {
+    recorded::output::print_count(b"check ", counts[0]);
+    recorded::output::print_count(b", console ", counts[1]);
+    recorded::output::print_count(b", html ", counts[2]);
+    recorded::output::print_count(b", html_strict ", counts[3]);
+    recorded::output::print_count(b", markdown ", counts[4]);
+    recorded::output::print_count(b", roff ", counts[5]);
+    recorded::output::print_count(b", split ", counts[11]);
+    recorded::output::print_count(b", next_chunk ", counts[12]);
+    recorded::output::print_count(b", tabstop ", counts[13]);
 }
 
 fn main() {
@@ -371,5 +328,5 @@ fn main() {
     let counts = tally.counts;
     print_counts(&counts);
     io::write_all(libc::STDOUT_FILENO, b"; ");
-    recorded::print_differences(tally.differences, tally.first);
+    recorded::output::print_differences(tally.differences, tally.first);
 }

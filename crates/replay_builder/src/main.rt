@@ -1,8 +1,9 @@
 // Reads a list of the builder's calls with the oracle's answers from standard input, makes each call and compares, and prints one line
 // with the counts.
 use buffer::Built;
+use recorded::CALLS;
 use recorded::Call;
-use recorded::Next;
+use recorded::input::Next;
 use records::Kind;
 use refusal::Refusal;
 
@@ -52,20 +53,6 @@ fn build(call: Call, argument: &[u8], length: usize, room: &mut [u8]) -> Built {
     open_or_close(call.number == 7, room, length, call.setting)
 }
 
-// Whether a room holds a document, and after it what it held before.
-fn keeps(room: &[u8], document: &[u8]) -> bool {
-    let mut i: usize = 0;
-    let mut byte: u8 = 1;
-    while i < room.len() {
-        if room[i] != recorded::byte_or(document, i, byte) {
-            return false;
-        }
-        byte = recorded::next_byte(byte);
-        i += 1;
-    }
-    document.len() <= room.len()
-}
-
 // Whether the builder's answer is what a case says: the new length and document, or a refusal, after which the document is as before.
 fn is_built(built: Built, room: &[u8], before: &[u8], answer: &[u8]) -> bool {
     let number = recorded::number(answer);
@@ -86,25 +73,18 @@ fn is_built(built: Built, room: &[u8], before: &[u8], answer: &[u8]) -> bool {
             if document.len() != n {
                 return false;
             }
-            keeps(room, document)
+            recorded::keeps(room, document)
         }
         Built::Refused(a) => {
             if after.len() != 0 {
                 return false;
             }
-            if !recorded::is_refusal(a, number, at) {
+            if !compared::is_refusal(a, number, at) {
                 return false;
             }
-            keeps(room, before)
+            recorded::keeps(room, before)
         }
     }
-}
-
-fn smaller(a: usize, b: usize) -> usize {
-    if a < b {
-        return a;
-    }
-    b
 }
 
 // Whether the builder answers as a case says; `listed` begins with the length so far and what the room holds of the document so far.
@@ -115,8 +95,8 @@ fn builds(call: Call, argument: &[u8], listed: &[u8]) -> bool {
         return false;
     }
     let length = recorded::number(listed);
-    let held = smaller(length, size);
-    let before = recorded::part(recorded::past(listed), held);
+    let held = base::min(length, size);
+    let before = base::get(recorded::past(listed), 0, held);
     let start: usize = 0;
     let room: &mut [u8] = &mut space[start..size];
     recorded::fill(room, before);
@@ -125,7 +105,7 @@ fn builds(call: Call, argument: &[u8], listed: &[u8]) -> bool {
         built,
         room,
         before,
-        recorded::rest(recorded::past(listed), held),
+        base::get_from(recorded::past(listed), held),
     )
 }
 
@@ -143,20 +123,20 @@ fn agrees(case: &[u8]) -> bool {
 
 // How many calls there were by their number, how many differ, the first that does, and whether the list was whole.
 struct Tally {
-    counts: [u64; 23],
+    counts: [u64; CALLS],
     differences: u64,
     first: u64,
     whole: bool,
 }
 
 fn replay_all(buffer: &mut [u8]) -> Tally {
-    let mut counts = [0u64; 23];
+    let mut counts = [0u64; CALLS];
     let mut cases: u64 = 0;
     let mut differences: u64 = 0;
     let mut first: u64 = 0;
     let mut whole = true;
     while cases < 1_000_000 {
-        let next = recorded::next_case(buffer);
+        let next = recorded::input::next_case(buffer);
         match next {
             Next::End => {
                 break;
@@ -167,7 +147,7 @@ fn replay_all(buffer: &mut [u8]) -> Tally {
             }
             Next::Case(n) => {
                 cases += 1;
-                let case = recorded::part(buffer, n);
+                let case = base::get(buffer, 0, n);
                 recorded::count(&mut counts, case);
                 if !agrees(case) {
                     if differences == 0 {
@@ -186,12 +166,12 @@ fn replay_all(buffer: &mut [u8]) -> Tally {
     }
 }
 
-fn print_counts(counts: &[u64; 23]) {
-    recorded::print_count(b"write ", counts[6]);
-    recorded::print_count(b", open ", counts[7]);
-    recorded::print_count(b", close ", counts[8]);
-    recorded::print_count(b", doc ", counts[9]);
-    recorded::print_count(b", em_doc ", counts[10]);
+fn print_counts(counts: &[u64; CALLS]) {
+    recorded::output::print_count(b"write ", counts[6]);
+    recorded::output::print_count(b", open ", counts[7]);
+    recorded::output::print_count(b", close ", counts[8]);
+    recorded::output::print_count(b", doc ", counts[9]);
+    recorded::output::print_count(b", em_doc ", counts[10]);
 }
 
 fn main() {
@@ -204,5 +184,5 @@ fn main() {
     let counts = tally.counts;
     print_counts(&counts);
     io::write_all(libc::STDOUT_FILENO, b"; ");
-    recorded::print_differences(tally.differences, tally.first);
+    recorded::output::print_differences(tally.differences, tally.first);
 }

@@ -1,83 +1,125 @@
 // Runs the samples of 01 and the examples of its refusal table. They stand in a list on standard input, whose first lines tell its
 // form. Prints the number of each line with an answer that differs, and one line with the counts.
-use lines::byte_at;
-use lines::number_at;
-use lines::part;
+use compared::byte_or;
+use sample_calls::Wanted;
+use sample_lines::Tally;
+use splitter::Code;
 use splitter::Cursor;
+use splitter::Step;
 
-mod calls;
-mod chunks;
-mod documents;
-mod lines;
+mod output;
 
 // Where the list stands.
-pub struct State {
-    pub line: u64,
+struct State {
+    line: u64,
     // the document so far: its length, and the cursor after the chunks of it that were compared
-    pub length: usize,
-    pub cursor: Cursor,
+    length: usize,
+    cursor: Cursor,
     // what a call is given
-    pub width: usize,
-    pub room: usize,
-    // the wanted refusal, or 0 and the size of the wanted text with roff's preamble before it
-    pub number: usize,
-    pub place: usize,
-    pub size: usize,
-    pub compared: u64,
-    pub differ: u64,
+    width: usize,
+    room: usize,
+    wanted: Wanted,
+    tally: Tally,
+}
+
+// The cursor before the first chunk.
+fn first() -> Cursor {
+    Cursor {
+        at: 0,
+        code: Code::No,
+    }
 }
 
 fn begun() -> State {
     State {
         line: 0,
         length: 0,
-        cursor: chunks::first(),
+        cursor: first(),
         width: 100,
         room: 512,
-        number: 0,
-        place: 0,
-        size: 0,
-        compared: 0,
-        differ: 0,
+        wanted: Wanted {
+            number: 0,
+            place: 0,
+            size: 0,
+        },
+        tally: Tally {
+            compared: 0,
+            differ: 0,
+        },
     }
 }
 
-// One answer was compared; the line of one that differs is named.
-pub fn counted(state: State, same: bool) -> State {
+// One answer was compared. Writes the number of the line where it differs.
+fn counted(state: State, same: bool) -> State {
     let mut s = state;
-    s.compared = std::num::wrapping_add_u64(s.compared, 1);
+    let before = s.tally;
+    let tally = sample_lines::tallied(before, same);
+    s.tally = tally;
     if !same {
-        s.differ = std::num::wrapping_add_u64(s.differ, 1);
-        io::write_all(libc::STDOUT_FILENO, b"line ");
-        io::print_decimal(libc::STDOUT_FILENO, s.line);
-        io::write_all(libc::STDOUT_FILENO, b" differs\n");
+        output::report(s.line);
     }
     s
 }
 
-// The lines `w`, `r` and `!`: the width, the room's size, the wanted refusal.
+// The line `>`: a call for each letter.
+fn compare_calls(line: &[u8], state: State, document: &[u8], text: &[u8]) -> State {
+    let mut s = state;
+    let mut i: usize = 2;
+    while i < line.len() {
+        let wanted = s.wanted;
+        let same = sample_calls::agrees(line[i], s.width, s.room, document, wanted, text);
+        s = counted(s, same);
+        i += 1;
+    }
+    s
+}
+
+// The lines `~` and `P`, a chunk, and `.`, which says that there is no further one.
+fn compare_chunk(line: &[u8], state: State, body: &[u8]) -> State {
+    let mut s = state;
+    let c = s.cursor;
+    let Step::Take(piece, next) = splitter::step_at(body, c) else {
+        return counted(s, byte_or(line, 0, 0) == b'.');
+    };
+    s.cursor = next;
+    counted(s, sample_lines::is_chunk(line, body, piece))
+}
+
+// The lines `w` and `r`: the width and the room's size.
 fn set(line: &[u8], state: State) -> State {
     let mut s = state;
-    let letter = byte_at(line, 0);
-    let first = number_at(line, 2);
-    if letter == b'w' {
+    let first = sample_lines::number_at(line, 2);
+    if byte_or(line, 0, 0) == b'w' {
         s.width = first.value;
+        return s;
     }
-    if letter == b'r' {
-        s.room = first.value;
-    }
-    if letter == b'!' {
-        s.number = first.value;
-        s.place = lines::next_number(line, first).value;
-    }
+    s.room = first.value;
+    s
+}
+
+// The line `!`: the wanted refusal and its place.
+fn want_refusal(line: &[u8], state: State) -> State {
+    let mut s = state;
+    let number = sample_lines::number_at(line, 2);
+    let place = sample_lines::next_number(line, number);
+    let wanted = Wanted {
+        number: number.value,
+        place: place.value,
+        size: 0,
+    };
+    s.wanted = wanted;
     s
 }
 
 // The line `=`: the wanted text.
-fn wanted(line: &[u8], state: State, text: &mut [u8]) -> State {
+fn want_text(line: &[u8], state: State, text: &mut [u8]) -> State {
     let mut s = state;
-    s.number = 0;
-    s.size = calls::put_wanted(text, line);
+    let wanted = Wanted {
+        number: 0,
+        place: 0,
+        size: sample_calls::put_wanted(text, line),
+    };
+    s.wanted = wanted;
     s
 }
 
@@ -85,56 +127,41 @@ fn wanted(line: &[u8], state: State, text: &mut [u8]) -> State {
 fn emptied(state: State) -> State {
     let mut s = state;
     s.length = 0;
-    s.cursor = chunks::first();
+    s.cursor = first();
     s
 }
 
 // A line that adds to the document.
 fn added(line: &[u8], state: State, document: &mut [u8]) -> State {
     let mut s = state;
-    s.length = documents::add(line, document, s.length);
+    s.length = sample_lines::add(line, document, s.length);
     s
 }
 
-// What a line does.
-enum Kind {
-    Nothing,
-    Empties,
-    Adds,
-    Sets,
-    Wants,
-    Calls,
-    Splits,
-    Unknown,
-}
-
-fn kind_of(letter: u8) -> Kind {
-    match letter {
-        0 | b'#' => Kind::Nothing,
-        b'D' => Kind::Empties,
-        b'T' | b'E' | b'L' | b'M' | b'I' | b'(' | b')' | b'+' | b'Z' => Kind::Adds,
-        b'w' | b'r' | b'!' => Kind::Sets,
-        b'=' => Kind::Wants,
-        b'>' => Kind::Calls,
-        b'~' | b'P' | b'.' => Kind::Splits,
-        _ => Kind::Unknown,
+// A line that changes the document or what a call is given. One with a letter that has no meaning counts as an answer that differs.
+fn prepare(line: &[u8], s: State, document: &mut [u8], text: &mut [u8]) -> State {
+    match byte_or(line, 0, 0) {
+        b'D' => emptied(s),
+        b'T' | b'E' | b'L' | b'M' | b'I' | b'(' | b')' | b'+' | b'Z' => added(line, s, document),
+        b'w' | b'r' => set(line, s),
+        b'!' => want_refusal(line, s),
+        b'=' => want_text(line, s, text),
+        _ => counted(s, false),
     }
 }
 
+// Does what a line says.
 fn obey(line: &[u8], s: State, document: &mut [u8], text: &mut [u8]) -> State {
     let n = s.length;
-    match kind_of(byte_at(line, 0)) {
-        Kind::Nothing => s,
-        Kind::Empties => emptied(s),
-        Kind::Adds => added(line, s, document),
-        Kind::Sets => set(line, s),
-        Kind::Wants => wanted(line, s, text),
-        Kind::Calls => calls::compare(line, s, part(document, 0, n), text),
-        Kind::Splits => chunks::compare(line, s, part(document, 0, n)),
-        Kind::Unknown => counted(s, false),
+    match byte_or(line, 0, 0) {
+        0 | b'#' => s,
+        b'>' => compare_calls(line, s, base::get(document, 0, n), text),
+        b'~' | b'P' | b'.' => compare_chunk(line, s, base::get(document, 0, n)),
+        _ => prepare(line, s, document, text),
     }
 }
 
+// Runs a list.
 fn run(list: &[u8], document: &mut [u8], text: &mut [u8]) -> State {
     let mut s = begun();
     let mut from: usize = 0;
@@ -145,21 +172,20 @@ fn run(list: &[u8], document: &mut [u8], text: &mut [u8]) -> State {
             continue;
         }
         s.line = std::num::wrapping_add_u64(s.line, 1);
-        s = obey(part(list, from, i), s, document, text);
+        s = obey(base::get(list, from, i), s, document, text);
         i += 1;
         from = i;
     }
     s
 }
 
+// Reads the list from standard input, and runs it.
 fn main() {
     let mut list = io::large_buffer();
     let n = io::read_full(libc::STDIN_FILENO, &mut list);
     let mut document = [0u8; 33000];
     let mut text = [0u8; 512];
-    let s = run(part(&list, 0, n), &mut document, &mut text);
-    io::print_decimal(libc::STDOUT_FILENO, s.compared);
-    io::write_all(libc::STDOUT_FILENO, b" answers compared, ");
-    io::print_decimal(libc::STDOUT_FILENO, s.differ);
-    io::write_all(libc::STDOUT_FILENO, b" differ\n");
+    let s = run(base::get(&list, 0, n), &mut document, &mut text);
+    let tally = s.tally;
+    output::print_tally(tally);
 }

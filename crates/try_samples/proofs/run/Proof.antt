@@ -1,5 +1,7 @@
-use mathlib.Core.Path.{_≡_}
+-- The document and the wanted text keep their lengths; what is left of the list falls.
+use mathlib.Core.Path.{_≡_, _∙_}
 use Prim.Native.Nat.{_-_}
+use native.Mathlib.Omega.{arith}
 use borrow.Author.Needs.{needs}
 use lib.ListN.{length}
 use Rattle.try_samples.proofs.run.Statement.{statement}
@@ -10,6 +12,14 @@ Inv-loop list document₀ text₀ s₀ from₀ i₀ document text s from i = (le
 
 abbrev μ-loop : tie.MeasureT-loop
 μ-loop list document₀ text₀ s₀ from₀ i₀ document text s from i = length list - i
+
+add-i-2 : tie.Need-add-i-2 Inv-loop μ-loop
+add-i-2 c =
+    let l = c .before .before .before .before .before .before .before .before .before .before .before in
+    omega (arith, l .loop-test .taken, l .before .before .before .before .before .before .good)
+
+loop-less-2 : tie.Need-loop-less-2 Inv-loop μ-loop
+loop-less-2 c = omega (arith, c .before .before .before .before .before .before .before .before .before .before .before .loop-test .taken)
 
 pub run-spec : {M : Type 1} → statement M
 run-spec =
@@ -26,8 +36,8 @@ run-spec =
     (λ c κs. search needs)
     (λ c κs. search needs)
     (λ c κs. search needs)
-    (λ c. search needs)
-    (λ c. search needs)
+    add-i-2
+    loop-less-2
     (λ c. search needs)
     (λ c. search needs)
     (λ c. search needs)

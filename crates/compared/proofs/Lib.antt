@@ -1,0 +1,3 @@
+pub mod Comparing
+pub mod Filling
+pub mod Answers
