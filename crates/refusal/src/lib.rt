@@ -16,8 +16,16 @@ pub enum Refusal {
     BeyondMargin(usize),
     NoForm(usize),
     NoRoom,
+    BundleKind(usize),
+    BundleCutShort(usize),
+    BundleTooLong,
+    NoJoinedText,
+    WrongShare(usize),
+    NotesNotUtf8,
     WrongHeight,
     NoPage,
+    NotAList,
+    NotAscending,
 }
 
 // A refusal's number.
@@ -37,8 +45,16 @@ pub fn refusal_number(a: Refusal) -> u32
         Refusal::BeyondMargin(_) => 10,
         Refusal::NoForm(_) => 11,
         Refusal::NoRoom => 13,
+        Refusal::BundleKind(_) => 14,
+        Refusal::BundleCutShort(_) => 15,
+        Refusal::BundleTooLong => 16,
+        Refusal::NoJoinedText => 17,
+        Refusal::WrongShare(_) => 18,
+        Refusal::NotesNotUtf8 => 19,
         Refusal::WrongHeight => 20,
         Refusal::NoPage => 21,
+        Refusal::NotAList => 22,
+        Refusal::NotAscending => 23,
     }
 }
 
@@ -59,7 +75,15 @@ pub fn refusal_place(a: Refusal) -> usize
         Refusal::BeyondMargin(p) => p,
         Refusal::NoForm(p) => p,
         Refusal::NoRoom => 0,
+        Refusal::BundleKind(p) => p,
+        Refusal::BundleCutShort(p) => p,
+        Refusal::BundleTooLong => 0,
+        Refusal::NoJoinedText => 0,
+        Refusal::WrongShare(p) => p,
+        Refusal::NotesNotUtf8 => 0,
         Refusal::WrongHeight => 0,
         Refusal::NoPage => 0,
+        Refusal::NotAList => 0,
+        Refusal::NotAscending => 0,
     }
 }
