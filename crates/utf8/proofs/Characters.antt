@@ -12,13 +12,12 @@ use borrow.Author.Tests.{lt-ltb}
 use lib.ListN.{length, getD, drop, take, take-append-drop, length-drop, drop-of-length-le}
 use lib.Seq.{drop-cons, drop-drop, getD-drop}
 use Rattle.base.specs.Choice.{if_then_else_}
-use Rattle.base.proofs.Choice.{eq-or-not, and-left, and-right}
+use Rattle.base.proofs.Choice.{eq-or-not, and-left, and-right, if-true, if-false}
 use Rattle.utf8.specs.Utf8.{Range, within, rowOf, begins, sizeOf, fits, utf8, emit, decodeFrom, decode, encode, scalar, firstOf, characterAt}
-use Rattle.utf8.specs.Parts.{leadOf}
 use Rattle.utf8.specs.declared.Decoded.the-variants.{Char, Nothing}
 use Rattle.utf8.proofs.Laws.{size-next, size-stop, size-yes, due-1}
 use Rattle.utf8.proofs.Text.{Valid, decode-append, row-follows, follows, follow, follows-rest}
-use Rattle.utf8.proofs.Scalars.{led, One, Chars, none, char, text-chars}
+use Rattle.utf8.proofs.Scalars.{leadOf, led, One, Chars, none, char, text-chars}
 
 -- a code point so far, with the payloads of the bytes that are left
 abbrev pub joined : ℕ → List ℕ → ℕ
@@ -145,13 +144,12 @@ going-done s at k i c g e =
     let z : k - i ≡ 0 = omega arith in
     sym (g .read ∙ rw (z, e))
 
-pub record Started (s : List ℕ) (at k : ℕ) : Type 0 where
-  pub below : leadOf (getD s at 0) ≤ getD s at 0
-  pub few : k ≤ 4
-  pub some : 0x80 ≤ getD s at 0 → 2 ≤ k
-  pub going : Going s at k 1 (getD s at 0 - leadOf (getD s at 0))
+-- its first byte is read, whose lead is l
+pub record Started (s : List ℕ) (at k l : ℕ) : Type 0 where
+  pub below : l ≤ getD s at 0
+  pub going : Going s at k 1 (getD s at 0 - l)
 
-pub started : (s : List ℕ) (at : ℕ) {k : ℕ} → at < length s → k ≡ sizeOf (drop at s) → (k ≡ 0 → ⊥) → Started s at k
+started : (s : List ℕ) (at : ℕ) {k : ℕ} → at < length s → k ≡ sizeOf (drop at s) → (k ≡ 0 → ⊥) → Started s at k (leadOf (getD s at 0))
 started s at {k} h e n =
     let b = getD s at 0 in
     let t = drop (suc at) s in
@@ -163,14 +161,39 @@ started s at {k} h e n =
     let g : k - 1 ≡ length (rowOf b .after) = omega arith in
     record {
       below = rw (← l .lead) (l .below);
-      few = omega (arith, l .few);
-      some = λ x. omega (arith, l .some x);
       going = record {
         room = omega (arith, read-size s at m .room);
         high = λ j x y. let z : at + j ≡ suc at + (j - 1) = omega arith in rw (z, ← getD-drop) (due-high (rowOf b .after) t (row-follows b) (p .0) (j - 1) (omega arith));
         read = character-some s at m ∙ ap₂ (λ (x y : ℕ). Char x (at + y)) (ap headOf q ∙ rw (l .lead, g, add-one)) (sym e);
       };
     }
+
+-- by the test whether a character of k bytes stands there
+pub begun : (s : List ℕ) (at k : ℕ) {l : ℕ} {x : Bool} → at < length s → if x then k else 0 ≡ sizeOf (drop at s) → x ≡ true → (k ≡ 0 → ⊥)
+    → leadOf (getD s at 0) ≡ l → Started s at k l
+begun s at k h e t n q = rw (← q) (started s at h (sym (if-true k 0 t) ∙ e) n)
+
+pub not-begun : (s : List ℕ) (at k : ℕ) {x : Bool} → if x then k else 0 ≡ sizeOf (drop at s) → x ≡ false → Nothing ≡ characterAt s at
+not-begun s at k e t = character-none s at (sym e ∙ if-false k 0 t)
+
+module _ (s : List ℕ) (at l : ℕ) {c d : ℕ} where
+  first-two : (k : ℕ) → Started s at k l → 1 < k → c ≡ getD s at 0 - l → d ≡ c * 64 + (getD s (at + 1) 0 - 0x80) → Going s at k 2 d
+  first-two k g h p q = going-more s at k 1 (getD s at 0 - l) (g .going) h (rw (← p) q)
+
+  pub two-read : Started s at 2 l → c ≡ getD s at 0 - l → d ≡ c * 64 + (getD s (at + 1) 0 - 0x80) → Char d (at + 2) ≡ characterAt s at
+  two-read g p q = going-done s at 2 2 d (first-two 2 g (omega arith) p q) refl
+
+  first-three : (k : ℕ) {e : ℕ} → Started s at k l → 2 < k → c ≡ getD s at 0 - l → d ≡ c * 64 + (getD s (at + 1) 0 - 0x80) → e ≡ d * 64 + (getD s (at + 2) 0 - 0x80)
+      → Going s at k 3 e
+  first-three k g h p q r = going-more s at k 2 d (first-two k g (omega arith) p q) h r
+
+  pub three-read : {e : ℕ} → Started s at 3 l → c ≡ getD s at 0 - l → d ≡ c * 64 + (getD s (at + 1) 0 - 0x80) → e ≡ d * 64 + (getD s (at + 2) 0 - 0x80)
+      → Char e (at + 3) ≡ characterAt s at
+  three-read {e} g p q r = going-done s at 3 3 e (first-three 3 g (omega arith) p q r) refl
+
+  pub four-read : {e f : ℕ} → Started s at 4 l → c ≡ getD s at 0 - l → d ≡ c * 64 + (getD s (at + 1) 0 - 0x80) → e ≡ d * 64 + (getD s (at + 2) 0 - 0x80)
+      → f ≡ e * 64 + (getD s (at + 3) 0 - 0x80) → Char f (at + 4) ≡ characterAt s at
+  four-read {e} {f} g p q r t = going-done s at 4 4 f (going-more s at 4 3 e (first-three 4 g (omega arith) p q r) (omega arith) t) refl
 
 pub ascii-at : (s : List ℕ) (at : ℕ) → at < length s → getD s at 0 < 0x80 → Char (getD s at 0) (at + 1) ≡ characterAt s at
 unfolding if_then_else_ leadOf

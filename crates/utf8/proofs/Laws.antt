@@ -78,22 +78,23 @@ pub size-at : (s : List ℕ) (i : ℕ) → i < length s
 unfolding if_then_else_ sizeOf
 size-at s i h = rw (add-one, drop-cons s i 0)
 
+-- by the test whether the bytes due stand after the first
+pub size-by : (s : List ℕ) (i : ℕ) (due : List Range) {x : Bool} → i < length s → rowOf (getD s i 0) .after ≡ due
+    → x ≡ begins due (drop (i + 1) s) → if x then suc (length due) else 0 ≡ sizeOf (drop i s)
+size-by s i due h e p = rw (size-at s i h, e, ← p)
+
 pub size-yes : (s : List ℕ) (i : ℕ) (due : List Range) {x : Bool} → i < length s → rowOf (getD s i 0) .after ≡ due
     → x ≡ begins due (drop (i + 1) s) → x ≡ true → suc (length due) ≡ sizeOf (drop i s)
 unfolding if_then_else_
 size-yes s i due h e p q = rw (size-at s i h, e, ← p, q)
-
-pub size-no : (s : List ℕ) (i : ℕ) (due : List Range) {x : Bool} → i < length s → rowOf (getD s i 0) .after ≡ due
-    → x ≡ begins due (drop (i + 1) s) → x ≡ false → 0 ≡ sizeOf (drop i s)
-unfolding if_then_else_
-size-no s i due h e p q = rw (size-at s i h, e, ← p, q)
 
 pub begins-never : (t : List ℕ) → false ≡ begins (never .after) t
 begins-never [] = refl
 begins-never (b ∷ t) = ⊎-elim (λ (l : b ≤ 0x80). rw (lt-leb 0xFF b (omega arith))) (λ (l : 0x80 < b). simp (lt-leb b 0x80 l, and-false)) (le-or-lt b 0x80)
 
 pub size-never : (s : List ℕ) (i : ℕ) → i < length s → rowOf (getD s i 0) .after ≡ never .after → 0 ≡ sizeOf (drop i s)
-size-never s i h e = size-no s i (never .after) h e (begins-never (drop (i + 1) s)) refl
+unfolding if_then_else_
+size-never s i h e = rw (size-at s i h, e, ← begins-never (drop (i + 1) s))
 
 pub ranged : {l : List Range} {lo hi p q : ℕ} {rest : List Range} → l ≡ p to q ∷ rest → lo ≡ p → hi ≡ q → l ≡ lo to hi ∷ rest
 ranged e f g = rw (f, g, e)

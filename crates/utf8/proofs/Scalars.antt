@@ -13,7 +13,6 @@ use borrow.Author.Tests.{le-leb, leb-true, lt-ltb, le-ltb, ltb-true}
 use Rattle.base.specs.Choice.{if_then_else_}
 use Rattle.base.proofs.Choice.{le-or-lt, eq-or-not, and-left, and-right}
 use Rattle.utf8.specs.Utf8.{Range, _to_, within, Row, table, find, rowOf, never, fits, emit, decodeFrom, begins, decode, encode, encodeAll, scalar}
-use Rattle.utf8.specs.Parts.{leadOf}
 use Rattle.utf8.proofs.Laws.{begins-never, fits-begins, due-1, due-2, due-E0, due-ED, due-3, due-F0, due-F4, due-4}
 use Rattle.utf8.proofs.Text.{Valid, decode-any, decode-append, valid-both}
 
@@ -260,50 +259,59 @@ text-chars s e = view (length s) s (omega arith) e
 pub encode-decode : (s : List ℕ) → Valid s → encodeAll (decode s) ≡ s
 encode-decode s e = chars-encode (text-chars s e)
 
+-- the lead of b's line of table 3-7, by tests of b
+unfoldable pub leadOf : ℕ → ℕ
+leadOf b = if ltb b 0x80 then 0x00 else if ltb b 0xE0 then 0xC0 else if ltb b 0xF0 then 0xE0 else 0xF0
+
 -- the other way: the encoding of a scalar value is valid, and decodes to it
 -- the row of a first byte, once a character stands there
 pub record Led (b : ℕ) (r : Row) : Type 0 where
   pub lead : r .lead ≡ leadOf b
   pub below : r .lead ≤ b
-  pub few : length (r .after) ≤ 3
-  pub some : 0x80 ≤ b → 1 ≤ length (r .after)
 
-led-2 : (b : ℕ) (r : Row) → 0xC2 ≤ b → b < 0xE0 → r .lead ≡ 0xC0 → length (r .after) ≡ 1 → Led b r
-unfolding if_then_else_ leadOf
-led-2 b r g h e n =
-    record { lead = rw (le-ltb b 0x80 (omega arith), lt-ltb b 0xE0 h) e; below = omega arith; few = omega arith; some = λ _. omega arith }
+module _ (b : ℕ) where
+  pub lead-2 : 0x80 ≤ b → b < 0xE0 → leadOf b ≡ 0xC0
+  unfolding if_then_else_ leadOf
+  lead-2 g h = rw (le-ltb b 0x80 g, lt-ltb b 0xE0 h)
 
-led-3 : (b : ℕ) (r : Row) → 0xE0 ≤ b → b < 0xF0 → r .lead ≡ 0xE0 → length (r .after) ≡ 2 → Led b r
-unfolding if_then_else_ leadOf
-led-3 b r g h e n =
-    record { lead = rw (le-ltb b 0x80 (omega arith), le-ltb b 0xE0 g, lt-ltb b 0xF0 h) e; below = omega arith; few = omega arith; some = λ _. omega arith }
+  pub lead-3 : 0xE0 ≤ b → b < 0xF0 → leadOf b ≡ 0xE0
+  unfolding if_then_else_ leadOf
+  lead-3 g h = rw (le-ltb b 0x80 (omega arith), le-ltb b 0xE0 g, lt-ltb b 0xF0 h)
 
-led-4 : (b : ℕ) (r : Row) → 0xF0 ≤ b → r .lead ≡ 0xF0 → length (r .after) ≡ 3 → Led b r
-unfolding if_then_else_ leadOf
-led-4 b r g e n =
-    record { lead = rw (le-ltb b 0x80 (omega arith), le-ltb b 0xE0 (omega arith), le-ltb b 0xF0 g) e; below = omega arith; few = omega arith; some = λ _. omega arith }
+  pub lead-4 : 0xF0 ≤ b → leadOf b ≡ 0xF0
+  unfolding if_then_else_ leadOf
+  lead-4 g = rw (le-ltb b 0x80 (omega arith), le-ltb b 0xE0 (omega arith), le-ltb b 0xF0 g)
+
+led-2 : (b : ℕ) (r : Row) → 0xC2 ≤ b → b < 0xE0 → r .lead ≡ 0xC0 → Led b r
+led-2 b r g h e = record { lead = e ∙ sym (lead-2 b (omega arith) h); below = omega arith }
+
+led-3 : (b : ℕ) (r : Row) → 0xE0 ≤ b → b < 0xF0 → r .lead ≡ 0xE0 → Led b r
+led-3 b r g h e = record { lead = e ∙ sym (lead-3 b g h); below = omega arith }
+
+led-4 : (b : ℕ) (r : Row) → 0xF0 ≤ b → r .lead ≡ 0xF0 → Led b r
+led-4 b r g e = record { lead = e ∙ sym (lead-4 b g); below = omega arith }
 
 pub led : (b : ℕ) (t : List ℕ) → begins (rowOf b .after) t ≡ true → Led b (rowOf b)
 unfolding if_then_else_ rowOf table leadOf Each
 led b t =
     by-row (λ r. begins (r .after) t ≡ true → Led b r) table b (
-      (λ w e. let g = between b 0x00 0x7F w in record { lead = rw (lt-ltb b 0x80 (omega arith)); below = omega arith; few = omega arith; some = λ h. omega arith }),
+      (λ w e. let g = between b 0x00 0x7F w in record { lead = rw (lt-ltb b 0x80 (omega arith)); below = omega arith }),
       (
-        (λ w e. let g = between b 0xC2 0xDF w in led-2 b _ (omega arith) (omega arith) refl refl),
+        (λ w e. let g = between b 0xC2 0xDF w in led-2 b _ (omega arith) (omega arith) refl),
         (
-          (λ w e. let g = between b 0xE0 0xE0 w in led-3 b _ (omega arith) (omega arith) refl refl),
+          (λ w e. let g = between b 0xE0 0xE0 w in led-3 b _ (omega arith) (omega arith) refl),
           (
-            (λ w e. let g = between b 0xE1 0xEC w in led-3 b _ (omega arith) (omega arith) refl refl),
+            (λ w e. let g = between b 0xE1 0xEC w in led-3 b _ (omega arith) (omega arith) refl),
             (
-              (λ w e. let g = between b 0xED 0xED w in led-3 b _ (omega arith) (omega arith) refl refl),
+              (λ w e. let g = between b 0xED 0xED w in led-3 b _ (omega arith) (omega arith) refl),
               (
-                (λ w e. let g = between b 0xEE 0xEF w in led-3 b _ (omega arith) (omega arith) refl refl),
+                (λ w e. let g = between b 0xEE 0xEF w in led-3 b _ (omega arith) (omega arith) refl),
                 (
-                  (λ w e. let g = between b 0xF0 0xF0 w in led-4 b _ (omega arith) refl refl),
+                  (λ w e. let g = between b 0xF0 0xF0 w in led-4 b _ (omega arith) refl),
                   (
-                    (λ w e. let g = between b 0xF1 0xF3 w in led-4 b _ (omega arith) refl refl),
+                    (λ w e. let g = between b 0xF1 0xF3 w in led-4 b _ (omega arith) refl),
                     (
-                      (λ w e. let g = between b 0xF4 0xF4 w in led-4 b _ (omega arith) refl refl),
+                      (λ w e. let g = between b 0xF4 0xF4 w in led-4 b _ (omega arith) refl),
                       (λ e. absurd (false≢true (begins-never t ∙ e))),
                     ),
                   ),
@@ -339,35 +347,32 @@ one-1 c h = record {
 }
 
 one-2 : (b x : ℕ) → 0xC2 ≤ b → b < 0xE0 → 0x80 ≤ x → x ≤ 0xBF → One (of2 (b - 0xC0) (x - 0x80)) (b ∷ x ∷ [])
-unfolding if_then_else_ leadOf
 one-2 b x g h k l =
     let w = inside x 0x80 0xBF k l in
     record {
       valid = first-fits b (x ∷ []) _ (due-2 b g h) ∙ rw w;
-      chars = first-chars b (x ∷ []) _ 0xC0 (due-2 b g h) (rw w) (rw (le-ltb b 0x80 (omega arith), lt-ltb b 0xE0 h));
+      chars = first-chars b (x ∷ []) _ 0xC0 (due-2 b g h) (rw w) (lead-2 b (omega arith) h);
     }
 
 one-3 : (b x y lo hi : ℕ) → 0xE0 ≤ b → b < 0xF0 → rowOf b .after ≡ lo to hi ∷ tail ∷ [] → lo ≤ x → x ≤ hi → 0x80 ≤ y → y ≤ 0xBF
     → One (of3 (b - 0xE0) (x - 0x80) (y - 0x80)) (b ∷ x ∷ y ∷ [])
-unfolding if_then_else_ leadOf
 one-3 b x y lo hi g h d k l m n =
     let w = inside x lo hi k l in
     let v = inside y 0x80 0xBF m n in
     record {
       valid = first-fits b (x ∷ y ∷ []) _ d ∙ rw (w, v);
-      chars = first-chars b (x ∷ y ∷ []) _ 0xE0 d (rw (w, v)) (rw (le-ltb b 0x80 (omega arith), le-ltb b 0xE0 g, lt-ltb b 0xF0 h));
+      chars = first-chars b (x ∷ y ∷ []) _ 0xE0 d (rw (w, v)) (lead-3 b g h);
     }
 
 one-4 : (b x y z lo hi : ℕ) → 0xF0 ≤ b → rowOf b .after ≡ lo to hi ∷ tail ∷ tail ∷ [] → lo ≤ x → x ≤ hi → 0x80 ≤ y → y ≤ 0xBF → 0x80 ≤ z → z ≤ 0xBF
     → One (of4 (b - 0xF0) (x - 0x80) (y - 0x80) (z - 0x80)) (b ∷ x ∷ y ∷ z ∷ [])
-unfolding if_then_else_ leadOf
 one-4 b x y z lo hi g d k l m n o p =
     let w = inside x lo hi k l in
     let v = inside y 0x80 0xBF m n in
     let u = inside z 0x80 0xBF o p in
     record {
       valid = first-fits b (x ∷ y ∷ z ∷ []) _ d ∙ rw (w, v, u);
-      chars = first-chars b (x ∷ y ∷ z ∷ []) _ 0xF0 d (rw (w, v, u)) (rw (le-ltb b 0x80 (omega arith), le-ltb b 0xE0 (omega arith), le-ltb b 0xF0 g));
+      chars = first-chars b (x ∷ y ∷ z ∷ []) _ 0xF0 d (rw (w, v, u)) (lead-4 b g);
     }
 
 -- c is put together from the payloads of its bytes

@@ -1,20 +1,25 @@
 -- What the functions inside this crate promise each other; no rule of 01 or of the Unicode standard stands here.
 use mathlib.Core.Path.{_≡_}
-use mathlib.Core.Bool.{false}
-use lib.Dec.{ltb}
+use mathlib.Core.Bool.{Bool, true, false}
 use mathlib.Core.List.{List, []}
 use Prim.Native.Nat.{ℕ, _≤_, _<_, _+_}
 use lib.ListN.{length, drop, getD}
-use Rattle.base.specs.Choice.{if_then_else_}
 use Rattle.utf8.specs.Utf8.{fits, characters}
-
--- the lead of b's line of table 3-7, by tests of b
-unfoldable pub leadOf : ℕ → ℕ
-leadOf b = if ltb b 0x80 then 0x00 else if ltb b 0xE0 then 0xC0 else if ltb b 0xF0 then 0xE0 else 0xF0
 
 -- no byte of the n from a on is over m
 pub record AtMost (s : List ℕ) (a n m : ℕ) : Type 0 where
   pub each : (k : ℕ) → k < n → getD s (a + k) 0 ≤ m
+
+-- where r is true, 64 bytes from a on are ASCII
+pub record Plain (s : List ℕ) (a : ℕ) (r : Bool) : Type 0 where
+  pub room : r ≡ true → a + 64 ≤ length s
+  pub skips : r ≡ true → fits [] (drop a s) ≡ fits [] (drop (a + 64) s)
+
+-- from a on, whole characters up to r, which is e at most
+pub record Skipped (s : List ℕ) (a e r : ℕ) : Type 0 where
+  pub low : a ≤ r
+  pub high : r ≤ e
+  pub same : fits [] (drop a s) ≡ fits [] (drop r s)
 
 -- from a on, characters up to r, which is e or past it; or none where r is 0
 pub record Ran (s : List ℕ) (a e r : ℕ) : Type 0 where
