@@ -61,23 +61,24 @@ module _ (s : List ℕ) {at : ℕ} {h : Head} (r : Read s at h) (l : at < length
   unfolding step go if_then_else_
   end-out {b} e c later = stray-here (kind.End b) e later ∙ rw c
 
-  start-leads : {b : Block} {v u : Want} → h .kind ≡ kind.Start b → inside w b ≡ opens v u
-      → (later : List Want) → stray (tokensFrom s at) w later ≡ stray (tokensFrom s (h .next)) v (u ∷ later)
+  -- after a start or end record, the next record stands where its body would start
+  pub start-leads : {b : Block} {v u : Want} → h .kind ≡ kind.Start b → h .start ≡ h .next → inside w b ≡ opens v u
+      → (later : List Want) → stray (tokensFrom s at) w later ≡ stray (tokensFrom s (h .start)) v (u ∷ later)
   unfolding step go entered
-  start-leads {b} e i later = stray-here (kind.Start b) e later ∙ rw i
+  start-leads {b} e q i later = stray-here (kind.Start b) e later ∙ rw (i, q)
 
   pub start-out : {b : Block} → h .kind ≡ kind.Start b → inside w b ≡ refuses → Strays s w at at
   unfolding step go entered
   start-out {b} e i later = stray-here (kind.Start b) e later ∙ rw i
 
-  pub turned : {b : Block} {v u : Want} (depth : ℕ) → h .kind ≡ kind.Start b → inside w b ≡ opens v u
-      → (a : Way) → Walked s v (depth + 1) (h .next) a → Turned s w u depth at (h .next) a
-  turned {b} {v} {u} depth e i (way.Stops q) k =
-      let c = k .closed depth refl in (k .fewer, λ later. start-leads e i later ∙ c .0 u later, c .1)
-  turned {b} {v} {u} depth e i (way.Out p) k = λ later. start-leads e i later ∙ k (u ∷ later)
+  pub turned : {b : Block} {v u : Want} (depth : ℕ) → h .kind ≡ kind.Start b → h .start ≡ h .next → inside w b ≡ opens v u
+      → (a : Way) → Walked s v (depth + 1) (h .start) a → Turned s w u depth at (h .start) a
+  turned {b} {v} {u} depth e q i (way.Stops p) k =
+      let c = k .closed depth refl in (k .fewer, λ later. start-leads e q i later ∙ c .0 u later, c .1)
+  turned {b} {v} {u} depth e q i (way.Out p) k = λ later. start-leads e q i later ∙ k (u ∷ later)
 
   -- where the block around may end, what may stand after it is wanted after its end record
-  pub end-leads : {b : Block} → h .kind ≡ kind.End b → closes w ≡ true
-      → (u : Want) (later : List Want) → stray (tokensFrom s at) w (u ∷ later) ≡ stray (tokensFrom s (h .next)) u later
+  pub end-leads : {b : Block} → h .kind ≡ kind.End b → h .start ≡ h .next → closes w ≡ true
+      → (u : Want) (later : List Want) → stray (tokensFrom s at) w (u ∷ later) ≡ stray (tokensFrom s (h .start)) u later
   unfolding step go left if_then_else_
-  end-leads {b} e c u later = stray-here (kind.End b) e (u ∷ later) ∙ rw c
+  end-leads {b} e q c u later = stray-here (kind.End b) e (u ∷ later) ∙ rw (c, q)

@@ -60,8 +60,11 @@ fn is_inline(b: Block) -> bool
     same_block(b, Block::InlineBlock)
 }
 
-// The three functions below go over the records of one content, in a loop, and call each other for a block in it. `depth` is how deep that call
-// stands: so many blocks are open around the records, at most 32, and each call hands on one more. So calls nest at most 33 deep.
+// The three functions below go over the records of one content, in a loop. Lists and what they hold are checked by calls: `parts` calls `pairs` for a
+// list, and that calls `inlines` for a term and `parts` for a body. Other blocks need no call: they hold what stands around them, so that `inner`, the number
+// of those that are open, is all that is kept of them. `depth` is how deep a call stands: so many blocks are open around its records, at most 32, and each
+// call hands on one more at least. So calls nest at most 33 deep.
+// In an accepted document a block record has no body: the next record stands where its body would start, and its length is not read again.
 
 // What a term holds, from a place on.
 fn inlines(document: &[u8], from: usize, depth: usize) -> Way
@@ -69,6 +72,7 @@ fn inlines(document: &[u8], from: usize, depth: usize) -> Way
     ensures { λ r. ⌜ Walked (now (document .entry)) want.inlines depth from r ⌝ }
 {
     let mut at = from;
+    let mut inner: usize = 0;
     while at < document.len() {
         let h = record_at(document, at);
         let kind = h.kind;
@@ -77,22 +81,19 @@ fn inlines(document: &[u8], from: usize, depth: usize) -> Way
                 at = h.next;
             }
             Kind::Start(b) => {
-                let way = if is_inline(b) {
-                    inlines(document, h.next, depth + 1)
+                if is_inline(b) {
+                    inner += 1;
+                    at = h.start;
                 } else {
-                    Way::Out(at)
-                };
-                match way {
-                    Way::Stops(next) => {
-                        at = next;
-                    }
-                    Way::Out(p) => {
-                        return Way::Out(p);
-                    }
+                    return Way::Out(at);
                 }
             }
             Kind::End(_) => {
-                return Way::Stops(h.next);
+                if inner == 0 {
+                    return Way::Stops(h.start);
+                }
+                inner -= 1;
+                at = h.start;
             }
             Kind::Unknown => {
                 return Way::Out(at);
@@ -108,6 +109,7 @@ fn parts(document: &[u8], from: usize, depth: usize) -> Way
     ensures { λ r. ⌜ Walked (now (document .entry)) want.parts depth from r ⌝ }
 {
     let mut at = from;
+    let mut inner: usize = 0;
     while at < document.len() {
         let h = record_at(document, at);
         let kind = h.kind;
@@ -116,24 +118,31 @@ fn parts(document: &[u8], from: usize, depth: usize) -> Way
                 at = h.next;
             }
             Kind::Start(b) => {
-                let way = if is_other(b) {
-                    parts(document, h.next, depth + 1)
-                } else if same_block(b, Block::DefinitionList) {
-                    pairs(document, h.next, depth + 1)
+                if is_other(b) {
+                    inner += 1;
+                    at = h.start;
                 } else {
-                    Way::Out(at)
-                };
-                match way {
-                    Way::Stops(next) => {
-                        at = next;
-                    }
-                    Way::Out(p) => {
-                        return Way::Out(p); // in that block
+                    let way = if same_block(b, Block::DefinitionList) {
+                        pairs(document, h.start, inner + depth + 1)
+                    } else {
+                        Way::Out(at)
+                    };
+                    match way {
+                        Way::Stops(next) => {
+                            at = next;
+                        }
+                        Way::Out(p) => {
+                            return Way::Out(p); // in that list
+                        }
                     }
                 }
             }
             Kind::End(_) => {
-                return Way::Stops(h.next);
+                if inner == 0 {
+                    return Way::Stops(h.start);
+                }
+                inner -= 1;
+                at = h.start;
             }
             Kind::Unknown => {
                 return Way::Out(at);
@@ -160,12 +169,12 @@ fn pairs(document: &[u8], from: usize, depth: usize) -> Way
             Kind::Start(b) => {
                 let way = if due {
                     if same_block(b, Block::ItemBody) {
-                        parts(document, h.next, depth + 1)
+                        parts(document, h.start, depth + 1)
                     } else {
                         Way::Out(at)
                     }
                 } else if same_block(b, Block::ItemTerm) {
-                    inlines(document, h.next, depth + 1)
+                    inlines(document, h.start, depth + 1)
                 } else {
                     Way::Out(at)
                 };
@@ -183,7 +192,7 @@ fn pairs(document: &[u8], from: usize, depth: usize) -> Way
                 if due {
                     return Way::Out(at);
                 }
-                return Way::Stops(h.next);
+                return Way::Stops(h.start);
             }
             Kind::Unknown => {
                 return Way::Out(at);

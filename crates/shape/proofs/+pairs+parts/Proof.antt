@@ -1,10 +1,10 @@
 -- The proof of the cycle of calls {pairs, parts}. The measure of both is the number of records left, which falls with the start record of each
--- block that is entered; the invariant of both loops is `Before`: what is out of place from the start on is what is out of place from here on.
+-- list, term and body that is entered; the invariant of both loops is `Before`: what is out of place from the start on is what is out of place from here on.
 -- Assumes nothing.
 use mathlib.Core.Path.{refl, sym, _∙_}
 use mathlib.Core.Logic.{⊎-elim}
 use mathlib.Core.Bool.{Bool, not}
-use Prim.Native.Nat.{ℕ, _<_}
+use Prim.Native.Nat.{ℕ, _+_, _≤_, _<_}
 use native.Mathlib.Omega.{arith}
 use borrow.Author.Needs.{needs}
 use borrow.Fn.Kinds.{In}
@@ -13,7 +13,8 @@ use Rattle.shape.specs.Steps.{ahead}
 use Rattle.shape.specs.Steps as want
 use Rattle.shape.proofs.Blocks.{is-part, is-list, no-part, wanted, no-text, no-end, due-body, due-other, next-term, next-other}
 use Rattle.shape.proofs.Records.{Turned, turned, start-out}
-use Rattle.shape.proofs.Loops.{Before, begins, over, on-text, text-strays, end-strays, unknown-strays, enters, on-block, block-strays, stops}
+use Rattle.shape.proofs.Loops.{Before, begins, over, on-text, text-strays, end-strays, unknown-strays}
+use Rattle.shape.proofs.Loops.{bare, enters, on-block, block-strays, on-start, on-end, stops}
 use Rattle.shape.proofs.pairs.Reads as pairs
 use Rattle.shape.proofs.pairs.Kinds as pairs-kinds
 use Rattle.shape.proofs.+pairs+parts.Lts-pairs as pairs-lts
@@ -58,7 +59,7 @@ pairs-claims t = (
 )
 
 abbrev pairs-Inv-loop : pairs-lts.InvT-loop
-pairs-Inv-loop document from depth at₀ due₀ at due = Before document want.pairs (wanted due) depth from at
+pairs-Inv-loop document from depth at₀ due₀ at due = Before document want.pairs (wanted due) depth from 0 at
 
 abbrev pairs-μ-loop : pairs-lts.MeasureT-loop
 pairs-μ-loop document from depth at₀ due₀ at due = ahead document at
@@ -82,7 +83,8 @@ pairs-parts-requires t c κs =
     let i = c .before .before .before .before .before .before .before .before .loop .inv in
     let r = c .before .before .before .before .before .before .record-at .ensures in
     let l = c .before .before .before .before .before .before .before .loop-test .taken in
-    enters i r l (c .before .before .before .before .kind .given .1) (c .before .before .before .before .before .before .before .before .before .before .pre .0)
+    let k = c .before .before .before .before .kind .given .1 in
+    enters i r l (omega arith) k (c .before .before .before .before .before .before .before .before .before .before .pre .0)
 
 pairs-add-inlines : (t : ℕ) → pairs-lts.Need-add-inlines (pairs-claims t) (pairs-at t) pairs.Post pairs-Inv-loop pairs-μ-loop
 pairs-add-inlines t c = omega (arith, c .before .before .before .before .before .before .before .before .before .before .pre .1 .0)
@@ -92,7 +94,8 @@ pairs-inlines-requires t c κs =
     let i = c .before .before .before .before .before .before .before .before .loop .inv in
     let r = c .before .before .before .before .before .before .record-at .ensures in
     let l = c .before .before .before .before .before .before .before .loop-test .taken in
-    enters i r l (c .before .before .before .before .kind .given .1) refl .1
+    let d = c .before .before .before .before .before .before .before .before .before .before .args .depth in
+    enters i r l {all = d} (omega arith) (c .before .before .before .before .kind .given .1) refl .1
 
 -- what was found of a block, where its way is known
 abbrev Joined-pairs : ℕ → Type 0
@@ -106,17 +109,19 @@ pairs-turned : (t : ℕ) (c : Joined-pairs t)
     (wanted (c .before .before .before .before .before .before .loop .due))
     (wanted (not (c .before .before .before .before .before .before .loop .due)))
     (c .before .before .before .before .before .before .before .before .args .depth) (c .before .before .before .before .before .before .loop .at)
-    (c .before .before .before .before .record-at .result .next) (c .if1 .way)
+    (c .before .before .before .before .record-at .result .start) (c .if1 .way)
 pairs-turned t c =
+    let i = c .before .before .before .before .before .before .loop .inv in
     let r = c .before .before .before .before .record-at .ensures in
     let l = c .before .before .before .before .before .loop-test .taken in
     let k = c .before .before .kind .given .1 in
+    let q = bare i r l k in
     let due = c .before .before .before .before .before .before .loop .due in
     ⊎-elim
-    (λ w. rw (w .4) (turned _ r l (wanted due) _ k (due-body _ due (w .0 .taken) (sym (w .1 .ensures) ∙ w .2 .taken)) (w .3 .result) (w .3 .ensures)))
+    (λ w. rw (w .4) (turned _ r l (wanted due) _ k q (due-body _ due (w .0 .taken) (sym (w .1 .ensures) ∙ w .2 .taken)) (w .3 .result) (w .3 .ensures)))
     (⊎-elim (λ w. rw (w .3) (start-out _ r l (wanted due) k (due-other _ due (w .0 .taken) (sym (w .1 .ensures) ∙ w .2 .left))))
     (⊎-elim
-    (λ w. rw (w .4) (turned _ r l (wanted due) _ k (next-term _ due (w .0 .left) (sym (w .1 .ensures) ∙ w .2 .taken)) (w .3 .result) (w .3 .ensures)))
+    (λ w. rw (w .4) (turned _ r l (wanted due) _ k q (next-term _ due (w .0 .left) (sym (w .1 .ensures) ∙ w .2 .taken)) (w .3 .result) (w .3 .ensures)))
     (λ w. rw (w .3) (start-out _ r l (wanted due) k (next-other _ due (w .0 .left) (sym (w .1 .ensures) ∙ w .2 .left))))))
     (c .if1 .came)
 
@@ -126,7 +131,8 @@ pairs-loop-less t c =
     let r = c .before .before .before .before .before .before .before .record-at .ensures in
     let l = c .before .before .before .before .before .before .before .before .loop-test .taken in
     let j = c .before .before .before in
-    on-block i r l (wanted (not (pairs-due t j))) (pairs-turned t j) (c .before .way .given .1) .0
+    let k = c .before .before .before .before .before .kind .given .1 in
+    on-block i r l (omega arith) k (wanted (not (pairs-due t j))) (pairs-turned t j) (c .before .way .given .1) .0
 
 pairs-loop-again : (t : ℕ) → pairs-lts.Need-loop-again (pairs-claims t) (pairs-at t) pairs.Post pairs-Inv-loop pairs-μ-loop
 pairs-loop-again t c =
@@ -134,7 +140,8 @@ pairs-loop-again t c =
     let r = c .before .before .before .before .before .before .before .record-at .ensures in
     let l = c .before .before .before .before .before .before .before .before .loop-test .taken in
     let j = c .before .before .before in
-    on-block i r l (wanted (not (pairs-due t j))) (pairs-turned t j) (c .before .way .given .1) .1
+    let k = c .before .before .before .before .before .kind .given .1 in
+    on-block i r l (omega arith) k (wanted (not (pairs-due t j))) (pairs-turned t j) (c .before .way .given .1) .1
 
 pairs-returns-2 : (t : ℕ) → pairs-lts.Need-returns-2 (pairs-claims t) (pairs-at t) pairs.Post pairs-Inv-loop pairs-μ-loop
 pairs-returns-2 t c =
@@ -142,7 +149,8 @@ pairs-returns-2 t c =
     let r = c .before .before .before .before .before .before .before .record-at .ensures in
     let l = c .before .before .before .before .before .before .before .before .loop-test .taken in
     let j = c .before .before .before in
-    block-strays i r l (wanted (not (pairs-due t j))) (pairs-turned t j) (c .before .way2 .given .1)
+    let k = c .before .before .before .before .before .kind .given .1 in
+    block-strays i r l (omega arith) k (wanted (not (pairs-due t j))) (pairs-turned t j) (c .before .way2 .given .1)
 
 -- the list ends, where a body is due and where none is
 pairs-returns-3 : (t : ℕ) → pairs-lts.Need-returns-3 (pairs-claims t) (pairs-at t) pairs.Post pairs-Inv-loop pairs-μ-loop
@@ -170,8 +178,6 @@ parts-claims t = (
   record-at-reads.Learnt,
   is-other-reads.Asked,
   is-other-reads.Learnt,
-  parts-below t,
-  parts.Post,
   same-block-reads.Asked,
   same-block-reads.Learnt,
   pairs-below t,
@@ -179,10 +185,10 @@ parts-claims t = (
 )
 
 abbrev parts-Inv-loop : parts-lts.InvT-loop
-parts-Inv-loop document from depth at₀ at = Before document want.parts want.parts depth from at
+parts-Inv-loop document from depth at₀ inner₀ at inner = Before document want.parts want.parts depth from inner at
 
 abbrev parts-μ-loop : parts-lts.MeasureT-loop
-parts-μ-loop document from depth at₀ at = ahead document at
+parts-μ-loop document from depth at₀ inner₀ at inner = ahead document at
 
 parts-loop-holds : (t : ℕ) → parts-lts.Need-loop-holds (parts-claims t) (parts-at t) parts.Post parts-Inv-loop parts-μ-loop
 parts-loop-holds t c = begins want.parts (c .before .pre .1 .1)
@@ -197,19 +203,49 @@ parts-loop-again t c =
     let i = c .before .before .before .before .loop .inv in
     on-text i (c .before .before .record-at .ensures) (c .before .before .before .loop-test .taken) (c .enum-told .given .1) refl .1
 
--- a block around parts, or a list: its call
-parts-add-parts : (t : ℕ) → parts-lts.Need-add-parts (parts-claims t) (parts-at t) parts.Post parts-Inv-loop parts-μ-loop
-parts-add-parts t c = omega (arith, c .before .before .before .before .before .before .before .before .before .pre .1 .0)
-
-parts-parts-requires : (t : ℕ) → parts-lts.Need-parts-requires (parts-claims t) (parts-at t) parts.Post parts-Inv-loop parts-μ-loop
-parts-parts-requires t c κs =
+-- a block around parts is entered
+parts-add-inner : (t : ℕ) → parts-lts.Need-add-inner (parts-claims t) (parts-at t) parts.Post parts-Inv-loop parts-μ-loop
+parts-add-inner t c =
     let i = c .before .before .before .before .before .before .before .loop .inv in
     let r = c .before .before .before .before .before .record-at .ensures in
     let l = c .before .before .before .before .before .before .loop-test .taken in
-    enters i r l (c .before .before .before .kind .given .1) (c .before .before .before .before .before .before .before .before .before .pre .0)
+    let e = on-start i r l (c .before .before .before .kind .given .1) (is-part _ (sym (c .before .is-other .ensures) ∙ c .if1 .taken)) in
+    omega (arith, e .0)
+
+parts-loop-less-2 : (t : ℕ) → parts-lts.Need-loop-less-2 (parts-claims t) (parts-at t) parts.Post parts-Inv-loop parts-μ-loop
+parts-loop-less-2 t c =
+    let i = c .before .before .before .before .before .before .before .loop .inv in
+    let o = is-part _ (sym (c .before .is-other .ensures) ∙ c .if1 .taken) in
+    let r = c .before .before .before .before .before .record-at .ensures in
+    let l = c .before .before .before .before .before .before .loop-test .taken in
+    on-start i r l (c .before .before .before .kind .given .1) o .1
+
+parts-loop-again-2 : (t : ℕ) → parts-lts.Need-loop-again-2 (parts-claims t) (parts-at t) parts.Post parts-Inv-loop parts-μ-loop
+parts-loop-again-2 t c =
+    let i = c .before .before .before .before .before .before .before .loop .inv in
+    let o = is-part _ (sym (c .before .is-other .ensures) ∙ c .if1 .taken) in
+    let r = c .before .before .before .before .before .record-at .ensures in
+    let l = c .before .before .before .before .before .before .loop-test .taken in
+    on-start i r l (c .before .before .before .kind .given .1) o .2
+
+-- a list: its call
+abbrev Listed : ℕ → Type 0
+Listed t = parts-lts.Then2 (parts-claims t) (parts-at t) parts.Post parts-Inv-loop parts-μ-loop
+
+parts-shallow : (t : ℕ) (c : Listed t)
+    → c .before .before .before .before .before .before .before .before .before .loop .inner
+    + c .before .before .before .before .before .before .before .before .before .before .before .args .depth + 1 ≤ 32
+parts-shallow t c =
+    let i = c .before .before .before .before .before .before .before .before .before .loop .inv in
+    let r = c .before .before .before .before .before .before .before .record-at .ensures in
+    let l = c .before .before .before .before .before .before .before .before .loop-test .taken in
+    enters i r l refl (c .before .before .before .before .before .kind .given .1) refl .1 .0
 
 parts-add-pairs : (t : ℕ) → parts-lts.Need-add-pairs (parts-claims t) (parts-at t) parts.Post parts-Inv-loop parts-μ-loop
-parts-add-pairs t c = omega (arith, c .before .before .before .before .before .before .before .before .before .before .before .pre .1 .0)
+parts-add-pairs t c = omega (arith, parts-shallow t c)
+
+parts-add-pairs-2 : (t : ℕ) → parts-lts.Need-add-pairs-2 (parts-claims t) (parts-at t) parts.Post parts-Inv-loop parts-μ-loop
+parts-add-pairs-2 t c = omega (arith, parts-shallow t c)
 
 parts-pairs-requires : (t : ℕ) → parts-lts.Need-pairs-requires (parts-claims t) (parts-at t) parts.Post parts-Inv-loop parts-μ-loop
 parts-pairs-requires t c κs =
@@ -217,54 +253,71 @@ parts-pairs-requires t c κs =
     let r = c .before .before .before .before .before .before .before .record-at .ensures in
     let l = c .before .before .before .before .before .before .before .before .loop-test .taken in
     let k = c .before .before .before .before .before .kind .given .1 in
-    enters i r l k (c .before .before .before .before .before .before .before .before .before .before .before .pre .0)
+    enters i r l refl k (c .before .before .before .before .before .before .before .before .before .before .before .pre .0)
 
--- what was found of a block, where its way is known
+-- what was found of a list, where its way is known
 abbrev Joined-parts : ℕ → Type 0
-Joined-parts t = parts-lts.Joined1 (parts-claims t) (parts-at t) parts.Post parts-Inv-loop parts-μ-loop
+Joined-parts t = parts-lts.Joined2 (parts-claims t) (parts-at t) parts.Post parts-Inv-loop parts-μ-loop
 
 parts-turned : (t : ℕ) (c : Joined-parts t)
-    → Turned (c .before .before .before .before .before .before .before .before .before .args .document .now) want.parts want.parts
-    (c .before .before .before .before .before .before .before .before .before .args .depth)
-    (c .before .before .before .before .before .before .before .loop .at)
-    (c .before .before .before .before .before .record-at .result .next) (c .if1 .way)
+    → Turned (c .before .before .before .before .before .before .before .before .before .before .before .args .document .now) want.parts want.parts
+    (c .before .before .before .before .before .before .before .before .before .loop .inner
+    + c .before .before .before .before .before .before .before .before .before .before .before .args .depth)
+    (c .before .before .before .before .before .before .before .before .before .loop .at)
+    (c .before .before .before .before .before .before .before .record-at .result .start) (c .if2 .way)
 parts-turned t c =
-    let r = c .before .before .before .before .before .record-at .ensures in
-    let l = c .before .before .before .before .before .before .loop-test .taken in
-    let k = c .before .before .before .kind .given .1 in
-    let o = sym (c .before .is-other .ensures) in
-    ⊎-elim (λ w. rw (w .2) (turned _ r l want.parts _ k (is-part _ (o ∙ w .0 .taken)) (w .1 .result) (w .1 .ensures)))
-    (⊎-elim
-    (λ w. rw (w .4) (turned _ r l want.parts _ k (is-list _ (o ∙ w .0 .left) (sym (w .1 .ensures) ∙ w .2 .taken)) (w .3 .result) (w .3 .ensures)))
-    (λ w. rw (w .3) (start-out _ r l want.parts k (no-part _ (o ∙ w .0 .left) (sym (w .1 .ensures) ∙ w .2 .left)))))
-    (c .if1 .came)
+    let i = c .before .before .before .before .before .before .before .before .before .loop .inv in
+    let r = c .before .before .before .before .before .before .before .record-at .ensures in
+    let l = c .before .before .before .before .before .before .before .before .loop-test .taken in
+    let k = c .before .before .before .before .before .kind .given .1 in
+    let o = sym (c .before .before .before .is-other .ensures) ∙ c .before .before .if1 .left in
+    let b = sym (c .before .same-block .ensures) in
+    ⊎-elim (λ w. rw (w .2) (turned _ r l want.parts _ k (bare i r l k) (is-list _ o (b ∙ w .0 .taken)) (w .1 .result) (w .1 .ensures)))
+    (λ w. rw (w .1) (start-out _ r l want.parts k (no-part _ o (b ∙ w .0 .left)))) (c .if2 .came)
 
-parts-loop-less-2 : (t : ℕ) → parts-lts.Need-loop-less-2 (parts-claims t) (parts-at t) parts.Post parts-Inv-loop parts-μ-loop
-parts-loop-less-2 t c =
-    let i = c .before .before .before .before .before .before .before .before .before .before .loop .inv in
-    let r = c .before .before .before .before .before .before .before .before .record-at .ensures in
-    let l = c .before .before .before .before .before .before .before .before .before .loop-test .taken in
-    on-block i r l want.parts (parts-turned t (c .before .before .before)) (c .before .way .given .1) .0
+parts-loop-less-3 : (t : ℕ) → parts-lts.Need-loop-less-3 (parts-claims t) (parts-at t) parts.Post parts-Inv-loop parts-μ-loop
+parts-loop-less-3 t c =
+    let i = c .before .before .before .before .before .before .before .before .before .before .before .before .loop .inv in
+    let r = c .before .before .before .before .before .before .before .before .before .before .record-at .ensures in
+    let l = c .before .before .before .before .before .before .before .before .before .before .before .loop-test .taken in
+    let k = c .before .before .before .before .before .before .before .before .kind .given .1 in
+    on-block i r l refl k want.parts (parts-turned t (c .before .before .before)) (c .before .way .given .1) .0
 
-parts-loop-again-2 : (t : ℕ) → parts-lts.Need-loop-again-2 (parts-claims t) (parts-at t) parts.Post parts-Inv-loop parts-μ-loop
-parts-loop-again-2 t c =
-    let i = c .before .before .before .before .before .before .before .before .before .before .loop .inv in
-    let r = c .before .before .before .before .before .before .before .before .record-at .ensures in
-    let l = c .before .before .before .before .before .before .before .before .before .loop-test .taken in
-    on-block i r l want.parts (parts-turned t (c .before .before .before)) (c .before .way .given .1) .1
+parts-loop-again-3 : (t : ℕ) → parts-lts.Need-loop-again-3 (parts-claims t) (parts-at t) parts.Post parts-Inv-loop parts-μ-loop
+parts-loop-again-3 t c =
+    let i = c .before .before .before .before .before .before .before .before .before .before .before .before .loop .inv in
+    let r = c .before .before .before .before .before .before .before .before .before .before .record-at .ensures in
+    let l = c .before .before .before .before .before .before .before .before .before .before .before .loop-test .taken in
+    let k = c .before .before .before .before .before .before .before .before .kind .given .1 in
+    on-block i r l refl k want.parts (parts-turned t (c .before .before .before)) (c .before .way .given .1) .1
 
 parts-returns : (t : ℕ) → parts-lts.Need-returns (parts-claims t) (parts-at t) parts.Post parts-Inv-loop parts-μ-loop
 parts-returns t c =
-    let i = c .before .before .before .before .before .before .before .before .before .before .loop .inv in
-    let r = c .before .before .before .before .before .before .before .before .record-at .ensures in
-    let l = c .before .before .before .before .before .before .before .before .before .loop-test .taken in
-    block-strays i r l want.parts (parts-turned t (c .before .before .before)) (c .before .way2 .given .1)
+    let i = c .before .before .before .before .before .before .before .before .before .before .before .before .loop .inv in
+    let r = c .before .before .before .before .before .before .before .before .before .before .record-at .ensures in
+    let l = c .before .before .before .before .before .before .before .before .before .before .before .loop-test .taken in
+    let k = c .before .before .before .before .before .before .before .before .kind .given .1 in
+    block-strays i r l refl k want.parts (parts-turned t (c .before .before .before)) (c .before .way2 .given .1)
 
--- the block or body around ends
+-- the body around ends, or a block among the parts
 parts-returns-2 : (t : ℕ) → parts-lts.Need-returns-2 (parts-claims t) (parts-at t) parts.Post parts-Inv-loop parts-μ-loop
 parts-returns-2 t c =
-    let i = c .before .before .before .before .loop .inv in
-    stops i (c .before .before .record-at .ensures) (c .before .before .before .loop-test .taken) (c .enum-told2 .given .1) refl
+    let i = rw (c .if3 .taken) at (c .before .before .before .before .before .loop .inv) in
+    stops i (c .before .before .before .record-at .ensures) (c .before .before .before .before .loop-test .taken) (c .before .enum-told2 .given .1) refl
+
+parts-loop-less-4 : (t : ℕ) → parts-lts.Need-loop-less-4 (parts-claims t) (parts-at t) parts.Post parts-Inv-loop parts-μ-loop
+parts-loop-less-4 t c =
+    let i = c .before .before .before .before .before .loop .inv in
+    let r = c .before .before .before .record-at .ensures in
+    let l = c .before .before .before .before .loop-test .taken in
+    on-end _ i r l (c .before .enum-told2 .given .1) refl (c .if3 .left) .0
+
+parts-loop-again-4 : (t : ℕ) → parts-lts.Need-loop-again-4 (parts-claims t) (parts-at t) parts.Post parts-Inv-loop parts-μ-loop
+parts-loop-again-4 t c =
+    let i = c .before .before .before .before .before .loop .inv in
+    let r = c .before .before .before .record-at .ensures in
+    let l = c .before .before .before .before .loop-test .taken in
+    on-end _ i r l (c .before .enum-told2 .given .1) refl (c .if3 .left) .1
 
 parts-returns-3 : (t : ℕ) → parts-lts.Need-returns-3 (parts-claims t) (parts-at t) parts.Post parts-Inv-loop parts-μ-loop
 parts-returns-3 t c =
@@ -314,18 +367,23 @@ pub +pairs+parts-spec : {M : Type 1} → statement M
     (parts-loop-again t)
     (λ c. search needs)
     (λ c κs. search needs)
-    (parts-add-parts t)
-    (parts-parts-requires t)
-    (λ c κs. search needs)
-    (parts-add-pairs t)
-    (parts-pairs-requires t)
-    (λ c. search needs)
+    (parts-add-inner t)
     (parts-loop-less-2 t)
     (parts-loop-again-2 t)
+    (λ c κs. search needs)
+    (parts-add-pairs t)
+    (parts-add-pairs-2 t)
+    (parts-pairs-requires t)
+    (λ c. search needs)
+    (parts-loop-less-3 t)
+    (parts-loop-again-3 t)
     (λ c. search needs)
     (parts-returns t)
     (λ c. search needs)
     (parts-returns-2 t)
+    (λ c. search needs)
+    (parts-loop-less-4 t)
+    (parts-loop-again-4 t)
     (λ c. search needs)
     (parts-returns-3 t)
     (parts-returns-4 t)
