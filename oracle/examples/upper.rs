@@ -89,20 +89,31 @@ fn columns(version: &str, table: &Table) -> String {
     let mut text = format!(
         "// The columns of the upper-case table of Unicode {version}, as specs/Table.antt has it. Made by oracle/examples/upper.rs.\n"
     );
-    for (name, column) in [("NEAR", &from), ("LONG", &longer), ("FAR", &far_from)] {
-        writeln!(text, "\npub const {name}: usize = {};", column.len()).unwrap();
+    let sizes = [
+        ("NEAR", from.len()),
+        ("LONG", longer.len()),
+        ("FAR", far_from.len()),
+        ("ALL", table.len()),
+    ];
+    for (name, size) in sizes {
+        writeln!(text, "\npub const {name}: usize = {size};").unwrap();
     }
+    from.extend(far_from);
+    to.extend(far_to);
     for (name, size, about, column) in [
-        ("FROM", "NEAR", "The mapped characters below U+10000.", from),
+        (
+            "FROM",
+            "ALL",
+            "The mapped characters: those below U+10000, and then those from there on, less 0x10000.",
+            from,
+        ),
         (
             "TO",
-            "NEAR",
-            "What each of them maps to: a character, or 0xD800 and the place in LONGER of several.",
+            "ALL",
+            "What each of them maps to. Of those below U+10000: a character, or 0xD800 and the place in LONGER of several; of the others: a character, less 0x10000.",
             to,
         ),
         ("LONGER", "LONG", "Two or three characters that one maps to; 0 for no third.", longer),
-        ("FAR_FROM", "FAR", "The mapped characters from U+10000 on, less 0x10000.", far_from),
-        ("FAR_TO", "FAR", "What each of them maps to, less 0x10000.", far_to),
     ] {
         assert!(column.iter().all(|&c| c < FAR), "{name} has a number of more than 16 bits");
         writeln!(text, "\n// {about}\npub const {name}: [u16; {size}] = [").unwrap();
@@ -321,6 +332,7 @@ mod tests {
         let text = columns("17.0.0", &table);
         assert!(text.contains(&format!("pub const NEAR: usize = {};", table.len())), "{text}");
         assert!(text.contains("pub const FAR: usize = 0;"));
+        assert!(text.contains(&format!("pub const ALL: usize = {};", table.len())), "{text}");
         // ß and ŉ grow
         assert!(text.contains("    0xD800,\n") && text.contains("    0xD803,\n"));
         assert!(text.contains("    0x0053,\n    0x0053,\n    0x0000,\n    0x02BC,\n    0x004E,\n"));

@@ -7,13 +7,13 @@ use Prim.Native.Nat.{ℕ, zero, suc, _+_, _-_, _<_, _≤_}
 use native.Mathlib.Nat.{not-suc-le-zero, le-of-suc-le-suc}
 use native.Mathlib.Omega.{arith}
 use lib.Dec.{leb, eqb}
-use lib.ListN.{length, getD, length-map, List·getD-map}
+use lib.ListN.{length, getD, take, drop, length-map, List·getD-map}
 use borrow.Author.Tests.{ltb-true, leb-true, eqb-true, le-leb, lt-leb, lt-ltb}
 use Rattle.base.specs.Choice.{if_then_else_, among}
 use Rattle.base.proofs.Choice.{if-true, if-false, and-left, and-right, and-both}
 use Rattle.upper.specs.Table.{Entry, table}
 use Rattle.upper.specs.Upper.{from, to, entryOf, mapsTo, ascending, inOrder}
-use Rattle.upper.specs.Parts.{single, codes, near, far, fromColumn, toColumn, longerColumn, farFromColumn, farToColumn, Columns, Found, threeAt}
+use Rattle.upper.specs.Parts.{single, codes, near, far, nearFromColumn, nearToColumn, longerColumn, farFromColumn, farToColumn, fromColumn, toColumn, Columns, NearColumns, FarColumns, Found, threeAt}
 use Rattle.upper.proofs.Tables.{none, is-before, rest-in-order, in-order, each-entry, no-entry, below-order, beyond-order, entry-below, entry-beyond}
 use Rattle.upper.proofs.Whole.{whole}
 
@@ -26,8 +26,8 @@ unfolding far
 far-order = beyond-order 0x10000 table whole
 
 -- both columns that are searched ascend
-pub from-ascends : ascending fromColumn ≡ true
-unfolding fromColumn
+pub from-ascends : ascending nearFromColumn ≡ true
+unfolding nearFromColumn
 from-ascends = in-order near near-order
 
 -- an entry is found by its character, and only by it
@@ -64,8 +64,8 @@ agree long [] us = true
 agree long (e ∷ es) [] = false
 agree long (e ∷ es) (u ∷ us) = inside long u && same (said long u) (to e) && agree long es us
 
-near-agree : agree longerColumn near toColumn ≡ true
-unfolding if_then_else_ table near toColumn longerColumn
+near-agree : agree longerColumn near nearToColumn ≡ true
+unfolding if_then_else_ table near nearToColumn longerColumn
 near-agree = refl
 
 record Agrees (long : List ℕ) (e : Entry) (u : ℕ) : Type 0 where
@@ -101,22 +101,22 @@ pub record NearRow (c u : ℕ) : Type 0 where
   pub place : 0xD800 ≤ u → u ≤ 0xDFFF → u - 0xD800 + 3 ≤ length longerColumn
   pub several : 0xD800 ≤ u → u ≤ 0xDFFF → threeAt longerColumn (u - 0xD800) ≡ mapsTo c
 
--- A character below U+10000, and where the search in the column `FROM` ended.
-module _ (c k : ℕ) (l : c < 0x10000) (xs ys : List ℕ) (p : Columns xs ys) (f : Found xs c k) where
+-- A character below U+10000, and where the search in its part of the column `FROM` ended.
+module _ (c k : ℕ) (l : c < 0x10000) (xs ys : List ℕ) (p : NearColumns xs ys) (f : Found xs c k) where
   near-map : mapsTo c ≡ entryOf near c
   unfolding mapsTo near
   near-map = entry-below 0x10000 table c whole l
 
   from-length : length xs ≡ length near
-  unfolding fromColumn
+  unfolding nearFromColumn
   from-length = ap length (p .0) ∙ length-map near from
 
   to-length : length ys ≡ length near
-  unfolding toColumn
+  unfolding nearToColumn
   to-length = ap length (p .1) ∙ codes-length 0 near
 
   from-at : (j : ℕ) → getD xs j 0 ≡ from (getD near j none)
-  unfolding fromColumn
+  unfolding nearFromColumn
   from-at j = ap (λ (l : List ℕ). getD l j 0) (p .0) ∙ List·getD-map from near j none
 
   pub near-none : length ys ≤ k → c ∷ [] ≡ mapsTo c
@@ -129,7 +129,7 @@ module _ (c k : ℕ) (l : c < 0x10000) (xs ys : List ℕ) (p : Columns xs ys) (f
     found = rw (← to-length) h
 
     entry : Agrees longerColumn (getD near k none) (getD ys k 0)
-    entry = rw (p .1) (agree-at longerColumn near toColumn near-agree k found)
+    entry = rw (p .1) (agree-at longerColumn near nearToColumn near-agree k found)
 
     near-entry : mapsTo c ≡ said longerColumn (getD ys k 0)
     near-entry = near-map ∙ entry-found near near-order c k found (sym (from-at k) ∙ f .here (rw from-length found)) ∙ sym (entry .says)
@@ -193,7 +193,7 @@ pub far-from-ascends : ascending farFromColumn ≡ true
 unfolding farFromColumn
 far-from-ascends = low-order far far-order far-entries
 
--- A character from U+10000 on, and where the search in the column `FAR_FROM` ended.
+-- A character from U+10000 on, and where the search in its part of the column `FROM` ended.
 module _ (c : ℕ) (l : 0x10000 ≤ c) where
   far-map : mapsTo c ≡ entryOf far c
   unfolding mapsTo far
@@ -233,7 +233,25 @@ module _ (c : ℕ) (l : 0x10000 ≤ c) where
 pub just-one : {l x : List ℕ} {w u : ℕ} → l ≡ w ∷ [] → w ≡ u → u ∷ [] ≡ x → l ≡ x
 just-one e f g = e ∙ ap (λ (k : ℕ). k ∷ []) f ∙ g
 
--- the sizes of the columns that are named where they are used
+-- the parts of the columns that are lent
+module _ {xs ys : List ℕ} (p : Columns xs ys) where
+  pub near-part : NearColumns (take (1273 - 0) (drop 0 xs)) (take (1273 - 0) (drop 0 ys))
+  unfolding if_then_else_ table near far nearFromColumn nearToColumn farFromColumn farToColumn fromColumn toColumn
+  near-part = (ap (λ (l : List ℕ). take (1273 - 0) (drop 0 l)) (p .0), ap (λ (l : List ℕ). take (1273 - 0) (drop 0 l)) (p .1))
+
+  pub far-part : FarColumns (take (1580 - 1273) (drop 1273 xs)) (take (1580 - 1273) (drop 1273 ys))
+  unfolding if_then_else_ table near far nearFromColumn nearToColumn farFromColumn farToColumn fromColumn toColumn
+  far-part = (ap (λ (l : List ℕ). take (1580 - 1273) (drop 1273 l)) (p .0), ap (λ (l : List ℕ). take (1580 - 1273) (drop 1273 l)) (p .1))
+
+-- the sizes of the columns
+pub from-size : length fromColumn ≡ 1580
+unfolding if_then_else_ table near far nearFromColumn farFromColumn fromColumn
+from-size = refl
+
+pub to-size : length toColumn ≡ 1580
+unfolding if_then_else_ table near far nearToColumn farToColumn toColumn
+to-size = refl
+
 pub longer-size : length longerColumn ≡ 306
 unfolding if_then_else_ table near longerColumn
 longer-size = refl
@@ -241,3 +259,7 @@ longer-size = refl
 pub far-size : length farFromColumn ≡ 307
 unfolding if_then_else_ table far farFromColumn
 far-size = refl
+
+pub far-to-size : length farToColumn ≡ 307
+unfolding if_then_else_ table far farToColumn
+far-to-size = refl

@@ -46,11 +46,11 @@ abbrev pub longs : List Entry → List ℕ
 longs [] = []
 longs (e ∷ es) = (if single (to e) then [] else three (to e)) ++ longs es
 
-unfoldable pub fromColumn : List ℕ
-fromColumn = map from near
+unfoldable pub nearFromColumn : List ℕ
+nearFromColumn = map from near
 
-unfoldable pub toColumn : List ℕ
-toColumn = codes 0 near
+unfoldable pub nearToColumn : List ℕ
+nearToColumn = codes 0 near
 
 unfoldable pub longerColumn : List ℕ
 longerColumn = longs near
@@ -61,9 +61,22 @@ farFromColumn = map (λ e. from e - 0x10000) far
 unfoldable pub farToColumn : List ℕ
 farToColumn = map (λ e. getD (to e) 0 0 - 0x10000) far
 
--- the two columns that a caller lends: promises hold where they are these
+-- the two columns that a caller lends have both parts
+unfoldable pub fromColumn : List ℕ
+fromColumn = nearFromColumn ++ farFromColumn
+
+unfoldable pub toColumn : List ℕ
+toColumn = nearToColumn ++ farToColumn
+
+-- promises hold where the columns are these
 abbrev pub Columns : List ℕ → List ℕ → Type 0
 Columns from to = (from ≡ fromColumn) × (to ≡ toColumn)
+
+abbrev pub NearColumns : List ℕ → List ℕ → Type 0
+NearColumns from to = (from ≡ nearFromColumn) × (to ≡ nearToColumn)
+
+abbrev pub FarColumns : List ℕ → List ℕ → Type 0
+FarColumns from to = (from ≡ farFromColumn) × (to ≡ farToColumn)
 
 -- r is where c stands in a list, or its length where the list ascends and c does not stand in it
 pub record Found (xs : List ℕ) (c r : ℕ) : Type 0 where

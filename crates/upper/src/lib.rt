@@ -5,13 +5,12 @@ ghost use Prim.Native.Nat.{_<_, _≤_, _+_, _%_};
 ghost use lib.ListN.{length};
 ghost use Rattle.utf8.specs.Utf8.{encodeAll};
 ghost use Rattle.upper.specs.Upper.{mapsTo, asciiUpper};
-ghost use Rattle.upper.specs.Parts.{fromColumn, toColumn, longerColumn, farFromColumn, farToColumn, Columns, Found, Points, charactersOf, threeAt, bytesOf, EncodedAs, Wrote, UppercasedAt};
+ghost use Rattle.upper.specs.Parts.{fromColumn, toColumn, longerColumn, farToColumn, NearColumns, FarColumns, Columns, Found, Points, charactersOf, threeAt, bytesOf, EncodedAs, Wrote, UppercasedAt};
 
 mod table;
 
+use table::ALL;
 use table::FAR;
-use table::FAR_FROM;
-use table::FAR_TO;
 use table::FROM;
 use table::LONG;
 use table::LONGER;
@@ -43,35 +42,23 @@ pub struct Uppercased {
 }
 
 // A column is built anew wherever it is named. These two are named once for all text that a caller has, and lent.
-pub fn from_column() -> [u16; NEAR]
+pub fn from_column() -> [u16; ALL]
     ensures { λ r. ⌜ r ≡ fromColumn ⌝ }
 {
     FROM
 }
 
-pub fn to_column() -> [u16; NEAR]
+pub fn to_column() -> [u16; ALL]
     ensures { λ r. ⌜ r ≡ toColumn ⌝ }
 {
     TO
 }
 
-// These are named where one character needs them: the longer mappings are few, and the others are short.
+// This one is named where one character needs it: the longer mappings are few.
 fn longer_column() -> [u16; LONG]
     ensures { λ r. ⌜ r ≡ longerColumn ⌝ }
 {
     LONGER
-}
-
-fn far_from_column() -> [u16; FAR]
-    ensures { λ r. ⌜ r ≡ farFromColumn ⌝ }
-{
-    FAR_FROM
-}
-
-fn far_to_column() -> [u16; FAR]
-    ensures { λ r. ⌜ r ≡ farToColumn ⌝ }
-{
-    FAR_TO
 }
 
 // Where c stands in an ascending column, or the column's length: binary search.
@@ -129,9 +116,9 @@ fn longer(place: usize) -> Mapped
     }
 }
 
-// What a character below U+10000 maps to, by the two columns. Whatever columns are lent, no place beyond the longer mappings is read.
+// What a character below U+10000 maps to, by what the two columns have of these. Whatever columns are lent, no place beyond the longer mappings is read.
 fn near(from: &[u16], to: &[u16], c: u16) -> Mapped
-    ensures characters { λ r. ⌜ (Columns (now (from .entry)) (now (to .entry)) → charactersOf r ≡ mapsTo c) ⌝ }
+    ensures characters { λ r. ⌜ (NearColumns (now (from .entry)) (now (to .entry)) → charactersOf r ≡ mapsTo c) ⌝ }
     ensures points { λ r. ⌜ Points r ⌝ }
 {
     let k = find(from, c);
@@ -152,21 +139,19 @@ fn near(from: &[u16], to: &[u16], c: u16) -> Mapped
     longer(place)
 }
 
-// What a character from U+10000 on maps to.
-fn far(c: u32) -> Mapped
-    requires { ⌜ (0x10000 ≤ c) × (c ≤ 0x10FFFF) ⌝ }
-    ensures characters { λ r. ⌜ charactersOf r ≡ mapsTo c ⌝ }
+// What a character from U+10000 on maps to, by what the two columns have of these.
+fn far(from: &[u16], to: &[u16], c: u32) -> Mapped
+    requires { ⌜ (0x10000 ≤ c) × (c ≤ 0x10FFFF) × (length farToColumn ≤ length (now to)) ⌝ }
+    ensures characters { λ r. ⌜ (FarColumns (now (from .entry)) (now (to .entry)) → charactersOf r ≡ mapsTo c) ⌝ }
     ensures points { λ r. ⌜ Points r ⌝ }
 {
     if 0x1FFFF < c {
         return one(c);
     }
-    let from = far_from_column();
-    let k = find(&from, (c - 0x10000) as u16);
+    let k = find(from, (c - 0x10000) as u16);
     if FAR <= k {
         return one(c);
     }
-    let to = far_to_column();
     let u = 0x10000 + wide(to[k]);
     one(u)
 }
@@ -184,7 +169,7 @@ pub fn to_ascii_uppercase(c: u8) -> u8
     c - 32
 }
 
-// What a character maps to: its entry of the table, or itself; the columns are lent.
+// What a character maps to: its entry of the table, or itself; the columns are lent. By shorter ones no other character than ASCII is mapped.
 fn maps_to(from: &[u16], to: &[u16], c: u32) -> Mapped
     requires { ⌜ c ≤ 0x10FFFF ⌝ }
     ensures characters { λ r. ⌜ (Columns (now (from .entry)) (now (to .entry)) → charactersOf r ≡ mapsTo c) ⌝ }
@@ -193,10 +178,16 @@ fn maps_to(from: &[u16], to: &[u16], c: u32) -> Mapped
     if c < 0x80 {
         return one(to_ascii_uppercase(c as u8) as u32);
     }
-    if c < 0x10000 {
-        return near(from, to, c as u16);
+    if from.len() < ALL {
+        return one(c);
     }
-    far(c)
+    if to.len() < ALL {
+        return one(c);
+    }
+    if c < 0x10000 {
+        return near(&from[0..NEAR], &to[0..NEAR], c as u16);
+    }
+    far(&from[NEAR..ALL], &to[NEAR..ALL], c)
 }
 
 // A byte that goes on with a character, by the six bits that it holds.

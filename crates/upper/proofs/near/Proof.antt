@@ -5,14 +5,14 @@ use borrow.Author.Needs.{needs}
 use lib.ListN.{getD}
 use Rattle.upper.proofs.near.Statement.{statement}
 use Rattle.upper.proofs.near.Tie as tie
-use Rattle.upper.specs.Parts.{Columns}
+use Rattle.upper.specs.Parts.{NearColumns}
 use Rattle.upper.proofs.Columns.{near-none, NearRow, near-row, just-one, longer-size}
 
 abbrev entry : tie.Else1 → tie.Start
 entry c = c .before .before .before .before
 
 -- what is known once c is found
-row : (c : tie.Else1) → Columns (entry c .args .from .now) (entry c .args .to .now)
+row : (c : tie.Else1) → NearColumns (entry c .args .from .now) (entry c .args .to .now)
     → NearRow (entry c .args .c) (getD (entry c .args .to .now) (c .before .find .result) 0)
 row c p = near-row _ _ (entry c .fits .c .fits) _ _ p (c .before .find .ensures) (c .if1 .left)
 
