@@ -1,0 +1,4 @@
+pub mod Scans
+pub mod Runs
+pub mod Writes
+pub mod Steps
