@@ -108,7 +108,8 @@ module _ (s : List ℕ) (i : ℕ) (w : Bool) (h : i < length s) where
         let m : i + 1 + (r - (i + 1)) ≡ r = omega (arith, t .order) in
         let q : part s i r ≡ getD s i 0 ∷ part s (i + 1) r = ap₂ (λ (k : ℕ) (x : List ℕ). take k x) n cons in
         let d : drop (i + 1) s ≡ part s (i + 1) r ++ drop r s =
-        sym (take-append-drop (r - (i + 1)) (drop (i + 1) s)) ∙ ap (λ (y : List ℕ). part s (i + 1) r ++ y) (drop-drop (r - (i + 1)) (i + 1) s ∙ ap (λ (k : ℕ). drop k s) m) in
+        sym (take-append-drop (r - (i + 1)) (drop (i + 1) s))
+        ∙ ap (λ (y : List ℕ). part s (i + 1) r ++ y) (drop-drop (r - (i + 1)) (i + 1) s ∙ ap (λ (k : ℕ). drop k s) m) in
         byte-on ∙ ap (λ (y : List ℕ). styledAs w (getD s i 0) ∷ styled w y) d
         ∙ ap (λ (ms : List Styled). styledAs w (getD s i 0) ∷ ms) (styled-all w (part s (i + 1) r) (drop r s) (t .none))
         ∙ ap (λ (x : List ℕ). all w x ++ styled w (drop r s)) (sym q)
@@ -161,8 +162,10 @@ module _ (s : List ℕ) (from : ℕ) (l : Bool) (size i : ℕ) (w : Bool) (r : R
   ran-span h p q e t =
       let m : length (part s i e) ≡ e - i = length-take-le (e - i) (drop i s) (omega (arith, length-drop i s, t .inside)) in
       let x = lead l (styled w (drop e s)) in
-      let f : lead l (styled w (drop i s)) ≡ part s i e ++ x = subst (λ (k : Bool). lead k (styled w (drop i s)) ≡ part s i e ++ lead k (styled w (drop e s))) q (lead-on s i w h p e t) in
-      let g : behind l (styled w (drop i s)) ≡ behind l (styled w (drop e s)) = subst (λ (k : Bool). behind k (styled w (drop i s)) ≡ behind k (styled w (drop e s))) q (behind-on s i w h p e t) in
+      let f : lead l (styled w (drop i s)) ≡ part s i e ++ x =
+      subst (λ (k : Bool). lead k (styled w (drop i s)) ≡ part s i e ++ lead k (styled w (drop e s))) q (lead-on s i w h p e t) in
+      let g : behind l (styled w (drop i s)) ≡ behind l (styled w (drop e s)) =
+      subst (λ (k : Bool). behind k (styled w (drop i s)) ≡ behind k (styled w (drop e s))) q (behind-on s i w h p e t) in
       let n : length (lead l (styled w (drop i s))) ≡ (e - i) + length x = ap length f ∙ length-append (part s i e) x ∙ ap (λ (k : ℕ). k + length x) m in
       record {
         count = omega (arith, r .count, n);
@@ -171,7 +174,8 @@ module _ (s : List ℕ) (from : ℕ) (l : Bool) (size i : ℕ) (w : Bool) (r : R
         inside = t .inside;
       }
 
-  ran-done : lead l (styled w (drop i s)) ≡ [] → behind l (styled w (drop i s)) ≡ styled w (drop i s) → Runs s from l (record { size = size; at = i; within = w })
+  ran-done : lead l (styled w (drop i s)) ≡ [] → behind l (styled w (drop i s)) ≡ styled w (drop i s)
+      → Runs s from l (record { size = size; at = i; within = w })
   ran-done e f =
       let n : length (lead l (styled w (drop i s))) ≡ 0 = ap length e in
       record { size = omega (arith, r .count, n); rest = sym f ∙ r .rest; moved = r .moved; inside = r .inside }
@@ -185,9 +189,13 @@ module _ (s : List ℕ) (from : ℕ) (l : Bool) (size i : ℕ) (w : Bool) (r : R
 -- The records of a text
 
 -- the first stretch is the bytes of its style that stand first
-stretch-first : (m : Styled) (ms : List Styled) → stretches (m ∷ ms) ≡ stretch (m .literal) (lead (m .literal) (m ∷ ms)) ∷ stretches (behind (m .literal) (m ∷ ms))
+stretch-first : (m : Styled) (ms : List Styled)
+    → stretches (m ∷ ms) ≡ stretch (m .literal) (lead (m .literal) (m ∷ ms)) ∷ stretches (behind (m .literal) (m ∷ ms))
 unfolding stretches
-stretch-first m [] = sym (ap₂ (λ (x : List ℕ) (y : List Styled). stretch (m .literal) x ∷ stretches y) (lead-same (m .literal) (m .byte) [] ∙ ap (λ (x : List ℕ). m .byte ∷ x) (lead-none (m .literal))) (behind-same (m .literal) (m .byte) [] ∙ behind-none (m .literal)))
+stretch-first m [] =
+    sym (ap₂ (λ (x : List ℕ) (y : List Styled). stretch (m .literal) x ∷ stretches y)
+    (lead-same (m .literal) (m .byte) [] ∙ ap (λ (x : List ℕ). m .byte ∷ x) (lead-none (m .literal)))
+    (behind-same (m .literal) (m .byte) [] ∙ behind-none (m .literal)))
 stretch-first m (k ∷ ms) =
     let i = stretch-first k ms in
     let l = m .literal in
@@ -233,5 +241,6 @@ module _ (s : List ℕ) (i : ℕ) (w : Bool) (h : i < length s) (p : Pair s i w 
 
   pub run-moves : (i < r .at) × (r .at ≤ length s)
   run-moves =
-      let n : length (lead w (styled w (drop i s))) ≡ suc (length (lead w (styled w (drop (i + 1) s)))) = ap length (ap (lead w) (byte-on s i w h p) ∙ lead-same w (getD s i 0) (styled w (drop (i + 1) s))) in
+      let n : length (lead w (styled w (drop i s))) ≡ suc (length (lead w (styled w (drop (i + 1) s)))) =
+      ap length (ap (lead w) (byte-on s i w h p) ∙ lead-same w (getD s i 0) (styled w (drop (i + 1) s))) in
       (omega (arith, q .size, q .moved, n), q .inside)

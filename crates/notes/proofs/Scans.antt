@@ -119,7 +119,8 @@ ticked-later s e k h f =
 
 ticked-before : (s : List ℕ) (k p : ℕ) → k ≤ p → ticked (drop p s) ≡ true → ticked (drop k s) ≡ true
 ticked-before s k p h f =
-    ⊎-elim (λ (e : ticked (drop k s) ≡ true). e) (λ (e : ticked (drop k s) ≡ false). absurd (false≢true (sym (ticked-later s k p h e) ∙ f))) (either (ticked (drop k s)))
+    ⊎-elim (λ (e : ticked (drop k s) ≡ true). e) (λ (e : ticked (drop k s) ≡ false). absurd (false≢true (sym (ticked-later s k p h e) ∙ f)))
+    (either (ticked (drop k s)))
 
 ticked-here : (s : List ℕ) (i : ℕ) → i < length s → getD s i 0 ≡ 0x60 → ticked (drop i s) ≡ true
 unfolding ticked
@@ -199,7 +200,8 @@ pub tickless-none : (s : List ℕ) (a : ℕ) → ticked (part s a (a + 0)) ≡ f
 unfolding ticked
 tickless-none s a = ap ticked (part-none s a (a + 0) (omega arith))
 
-pub tickless-next : (s : List ℕ) (a i : ℕ) → a + i < length s → ticked (part s a (a + i)) ≡ false → (getD s (a + i) 0 ≡ 0x60 → ⊥) → ticked (part s a (a + (i + 1))) ≡ false
+pub tickless-next : (s : List ℕ) (a i : ℕ) → a + i < length s → ticked (part s a (a + i)) ≡ false → (getD s (a + i) 0 ≡ 0x60 → ⊥)
+    → ticked (part s a (a + (i + 1))) ≡ false
 unfolding ticked
 tickless-next s a i h e f =
     let n : a + (i + 1) ≡ a + i + 1 = omega arith in
@@ -207,11 +209,13 @@ tickless-next s a i h e f =
     ∙ tickless-both (part s a (a + i)) (getD s (a + i) 0 ∷ []) e (ap (λ (t : Bool). t || false) (ne-eqb (getD s (a + i) 0) 0x60 f))
 
 -- a block before a place
-pub tickless-block : (s : List ℕ) (e : ℕ) → 64 ≤ e → e ≤ length s → ticked (part s (e - 64) (e - 64 + 64)) ≡ false → ticked (drop e s) ≡ false → ticked (drop (e - 64) s) ≡ false
+pub tickless-block : (s : List ℕ) (e : ℕ) → 64 ≤ e → e ≤ length s → ticked (part s (e - 64) (e - 64 + 64)) ≡ false → ticked (drop e s) ≡ false
+    → ticked (drop (e - 64) s) ≡ false
 tickless-block s e h k f g =
     let n : e - 64 + 64 ≡ e = omega arith in
     let m : e - 64 + (e - (e - 64)) ≡ e = omega arith in
-    ap ticked (sym (take-append-drop (e - (e - 64)) (drop (e - 64) s)) ∙ ap (λ (l : List ℕ). part s (e - 64) e ++ l) (drop-drop (e - (e - 64)) (e - 64) s ∙ ap (λ (j : ℕ). drop j s) m))
+    ap ticked (sym (take-append-drop (e - (e - 64)) (drop (e - 64) s))
+    ∙ ap (λ (l : List ℕ). part s (e - 64) e ++ l) (drop-drop (e - (e - 64)) (e - 64) s ∙ ap (λ (j : ℕ). drop j s) m))
     ∙ tickless-both (part s (e - 64) e) (drop e s) (ap (λ (j : ℕ). ticked (part s (e - 64) j)) (sym n) ∙ f) g
 
 -- a block behind a place

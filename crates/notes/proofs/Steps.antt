@@ -70,7 +70,8 @@ module _ (s : List ℕ) (at : ℕ) where
       (marked-rest itemMark refl n (next-mark itemMark (drop at s) refl refl h))
 
   -- a line that separates
-  pub step-blank : {e : ℕ} → at < length s → startsWith headerMark (drop at s) ≡ false → startsWith itemMark (drop at s) ≡ false → blankLine (drop at s) ≡ true → Ends s true at e
+  pub step-blank : {e : ℕ} → at < length s → startsWith headerMark (drop at s) ≡ false → startsWith itemMark (drop at s) ≡ false
+      → blankLine (drop at s) ≡ true → Ends s true at e
       → documentAt s at ≡ documentAt s (e + 1)
   unfolding document parts
   step-blank l g h b n =
@@ -78,7 +79,8 @@ module _ (s : List ℕ) (at : ℕ) where
       ∙ ap (λ (y : List ℕ). parts (joined (lines y))) (after-text n)
 
   -- neighbouring lines
-  pub step-other : {e : ℕ} → startsWith headerMark (drop at s) ≡ false → startsWith itemMark (drop at s) ≡ false → blankLine (drop at s) ≡ false → Ends s false at e
+  pub step-other : {e : ℕ} → startsWith headerMark (drop at s) ≡ false → startsWith itemMark (drop at s) ≡ false → blankLine (drop at s) ≡ false
+      → Ends s false at e
       → documentAt s at ≡ around block.Block (textRecords (part s at e)) ++ documentAt s (e + 1)
   unfolding document parts
   step-other g h b n =
@@ -133,7 +135,8 @@ module _ (notes room : List ℕ) where
       -- past the room
       fit-out : length room < length (document notes) → refused 13 0 ≡ takenIn (length room) notes
       unfolding fit
-      fit-out k = sym (taken-fit ∙ if-false _ _ (ap (λ (t : Bool). t && leb (length (document notes)) 32768) (lt-leb (length (document notes)) (length room) k)))
+      fit-out k =
+          sym (taken-fit ∙ if-false _ _ (ap (λ (t : Bool). t && leb (length (document notes)) 32768) (lt-leb (length (document notes)) (length room) k)))
 
       pub taken-over : 32768 < n → refused 13 0 ≡ takenIn (length room) notes
       unfolding fit
@@ -141,7 +144,8 @@ module _ (notes room : List ℕ) where
           ⊎-elim
           (λ (k : n ≤ length room).
           let r = reached k in
-          sym (taken-fit ∙ if-false _ _ (ap₂ _&&_ (le-leb (length (document notes)) (length room) (omega arith)) (lt-leb (length (document notes)) 32768 (omega arith)))))
+          sym (taken-fit ∙ if-false _ _
+          (ap₂ _&&_ (le-leb (length (document notes)) (length room) (omega arith)) (lt-leb (length (document notes)) 32768 (omega arith)))))
           (λ (k : length room < n). fit-out (unreached k))
           (le-or-lt n (length room))
 
@@ -152,6 +156,7 @@ module _ (notes room : List ℕ) where
           (λ (k : n ≤ length room).
           let r = reached k in
           seen-in room n k ∙ ap gives (r .0)
-          ∙ sym (taken-fit ∙ if-true _ _ (and-both (le-leb (length (document notes)) (length room) (omega arith)) (le-leb (length (document notes)) 32768 (omega arith)))))
+          ∙ sym (taken-fit
+          ∙ if-true _ _ (and-both (le-leb (length (document notes)) (length room) (omega arith)) (le-leb (length (document notes)) 32768 (omega arith)))))
           (λ (k : length room < n). seen-out room n k ∙ fit-out (unreached k))
           (le-or-lt n (length room))

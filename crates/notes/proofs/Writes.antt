@@ -17,7 +17,8 @@ use Rattle.buffer.proofs.Pasting.{stored-none}
 use Rattle.room.proofs.Laws.{seen-in, seen-out, extended-in, extended-twice}
 
 -- some bytes, and then others
-pub wrote-more : (old new : Result (List ℕ)) (limit : ℕ) (x y : List ℕ) → new ≡ (old >>= extended limit x) → (new >>= extended limit y) ≡ (old >>= extended limit (x ++ y))
+pub wrote-more : (old new : Result (List ℕ)) (limit : ℕ) (x y : List ℕ) → new ≡ (old >>= extended limit x)
+    → (new >>= extended limit y) ≡ (old >>= extended limit (x ++ y))
 wrote-more old new limit x y e =
     ap (λ (r : Result (List ℕ)). r >>= extended limit y) e
     ∙ sym (bind-assoc old (extended limit x) (extended limit y))
@@ -48,7 +49,8 @@ module _ {old : Result (List ℕ)} {limit : ℕ} {room : List ℕ} {n : ℕ} {x 
   puts-as y e = record { long = p .long; same = ap (λ (l : List ℕ). seen room n >>= extended limit l) (sym e) ∙ p .same }
 
   -- some of them are written
-  pub puts-more : (room₁ : List ℕ) (n₁ : ℕ) (y z : List ℕ) → length room₁ ≡ length room → seen room₁ n₁ ≡ (seen room n >>= extended (length room) y) → x ≡ y ++ z
+  pub puts-more : (room₁ : List ℕ) (n₁ : ℕ) (y z : List ℕ) → length room₁ ≡ length room → seen room₁ n₁ ≡ (seen room n >>= extended (length room) y)
+      → x ≡ y ++ z
       → Puts old limit room₁ n₁ z whole
   puts-more room₁ n₁ y z h e f = record {
     long = h ∙ p .long;

@@ -249,17 +249,17 @@ fn put_text(room: &mut [u8], len: usize, s: &[u8]) -> usize
 {
     let last = last_tick(s);
     let mut n: usize = len;
-    let mut i: usize = 0;
+    let mut at: usize = 0;
     let mut within = false;
-    while i < s.len() {
-        if paired(s, i, within, last) {
+    while at < s.len() {
+        if paired(s, at, within, last) {
             within = !within;
-            i += 1;
+            at += 1;
         } else {
-            let run = run_at(s, i, within, last);
+            let run = run_at(s, at, within, last);
             n = record_writer::put_head(room, n, run.size, kind_of(within));
-            n = put_run(room, n, s, i, within, last);
-            i = run.at;
+            n = put_run(room, n, s, at, within, last);
+            at = run.at;
             within = run.within;
         }
     }

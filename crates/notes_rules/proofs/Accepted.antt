@@ -132,9 +132,11 @@ module _ (stack : List ℕ) (low : length stack < 32) where
   unfolding textRecords
   reads-part b x p v h =
       let n = length-around b (textRecords x) in
-      around-given p b (textRecords x) stack low (reads-records (stretches (styled false x)) (p + 6) (pushed (index b) stack) (stretches-valid x v) (omega arith))
+      around-given p b (textRecords x) stack low
+      (reads-records (stretches (styled false x)) (p + 6) (pushed (index b) stack) (stretches-valid x v) (omega arith))
 
-  both-read : (a c : List ℕ) (p : ℕ) → length (a ++ c) ≤ 32768 → (length a ≤ 32768 → reads p 0 stack a ≡ gives stack) → (length c ≤ 32768 → reads (p + length a) 0 stack c ≡ gives stack)
+  both-read : (a c : List ℕ) (p : ℕ) → length (a ++ c) ≤ 32768 → (length a ≤ 32768 → reads p 0 stack a ≡ gives stack)
+      → (length c ≤ 32768 → reads (p + length a) 0 stack c ≡ gives stack)
       → reads p 0 stack (a ++ c) ≡ gives stack
   both-read a c p h f g = let n = length-append a c in reads-before a c p stack stack (f (omega arith)) ∙ g (omega arith)
 

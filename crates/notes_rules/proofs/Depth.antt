@@ -40,7 +40,8 @@ deep-records (x ∷ xs) rest h d =
     omega (arith, e, f, i)
 
 -- a part, and others after it
-deep-part : (b : Block) (x rest : List ℕ) → length (around b (textRecords x) ++ rest) ≤ 32768 → (length rest ≤ 32768 → deep 0 rest ≤ 1) → deep 0 (around b (textRecords x) ++ rest) ≤ 1
+deep-part : (b : Block) (x rest : List ℕ) → length (around b (textRecords x) ++ rest) ≤ 32768 → (length rest ≤ 32768 → deep 0 rest ≤ 1)
+    → deep 0 (around b (textRecords x) ++ rest) ≤ 1
 unfolding around start end textRecords
 deep-part b x rest h i =
     let xs = stretches (styled false x) in

@@ -37,6 +37,8 @@ taken-given room s d e =
 pub taken-faithful : (room : ℕ) (s : List ℕ) → Faithful s (takenIn room s)
 taken-faithful room s = record {
   accepted = λ d e. let g = taken-given room s d e in subst (λ (x : List ℕ). check x ≡ gives []) (sym (g .0)) (document-accepted s (g .1) (g .2));
-  prints = λ d e. let g = taken-given room s d e in subst (λ (x : List ℕ). printingOrder x ≡ printing (without s)) (sym (g .0)) (document-prints s (g .1) (g .2));
+  prints =
+      λ d e. let g = taken-given room s d e in subst (λ (x : List ℕ). printingOrder x ≡ printing (without s)) (sym (g .0))
+      (document-prints s (g .1) (g .2));
   shallow = λ d e. let g = taken-given room s d e in subst (λ (x : List ℕ). deepest 0 (tokens 0 0 x) ≤ 1) (sym (g .0)) (document-shallow s (g .2));
 }

@@ -56,7 +56,9 @@ module _ (b : ℕ) (s : List ℕ) where
   next-feed e = ap (λ (x : List ℕ). drop (length x + 1) (b ∷ s)) (line-feed e)
 
   pub next-go : eqb b 0x0A ≡ false → next (b ∷ s) ≡ next s
-  next-go e = let n : length (b ∷ line s) + 1 ≡ suc (length (line s) + 1) = omega arith in ap (λ (x : List ℕ). drop (length x + 1) (b ∷ s)) (line-go e) ∙ ap (λ (k : ℕ). drop k (b ∷ s)) n
+  next-go e =
+      let n : length (b ∷ line s) + 1 ≡ suc (length (line s) + 1) = omega arith in
+      ap (λ (x : List ℕ). drop (length x + 1) (b ∷ s)) (line-go e) ∙ ap (λ (k : ℕ). drop k (b ∷ s)) n
 
 none : line [] ≡ []
 unfolding textLeft
@@ -67,13 +69,16 @@ unfolding lines
 lines-first b [] =
     ⊎-elim
     (λ (e : eqb b 0x0A ≡ true). if-true _ _ e ∙ sym (ap₂ (λ (x : List ℕ) (y : List ℕ). x ∷ lines y) (line-feed b [] e) (next-feed b [] e)))
-    (λ (e : eqb b 0x0A ≡ false). if-false _ _ e ∙ sym (ap₂ (λ (x : List ℕ) (y : List ℕ). x ∷ lines y) (line-go b [] e ∙ ap (λ (x : List ℕ). b ∷ x) none) (next-go b [] e ∙ ap (λ (x : List ℕ). drop (length x + 1) []) none)))
+    (λ (e : eqb b 0x0A ≡ false). if-false _ _ e
+    ∙ sym (ap₂ (λ (x : List ℕ) (y : List ℕ). x ∷ lines y) (line-go b [] e ∙ ap (λ (x : List ℕ). b ∷ x) none)
+    (next-go b [] e ∙ ap (λ (x : List ℕ). drop (length x + 1) []) none)))
     (either (eqb b 0x0A))
 lines-first b (c ∷ t) =
     let i = lines-first c t in
     ⊎-elim
     (λ (e : eqb b 0x0A ≡ true). if-true _ _ e ∙ sym (ap₂ (λ (x : List ℕ) (y : List ℕ). x ∷ lines y) (line-feed b (c ∷ t) e) (next-feed b (c ∷ t) e)))
-    (λ (e : eqb b 0x0A ≡ false). if-false _ _ e ∙ ap (starting b) i ∙ sym (ap₂ (λ (x : List ℕ) (y : List ℕ). x ∷ lines y) (line-go b (c ∷ t) e) (next-go b (c ∷ t) e)))
+    (λ (e : eqb b 0x0A ≡ false). if-false _ _ e ∙ ap (starting b) i
+    ∙ sym (ap₂ (λ (x : List ℕ) (y : List ℕ). x ∷ lines y) (line-go b (c ∷ t) e) (next-go b (c ∷ t) e)))
     (either (eqb b 0x0A))
 
 -- what a line is, by tests of the bytes from its start on
@@ -91,7 +96,8 @@ starts-line (x ∷ p) (b ∷ s) u =
     let i = starts-line p s (and-right (not (eqb x 0x0A)) (unbroken p) u) in
     let n = eqb-false x 0x0A (not-true _ (and-left (not (eqb x 0x0A)) (unbroken p) u)) in
     ⊎-elim
-    (λ (e : eqb b 0x0A ≡ true). ap (startsWith (x ∷ p)) (line-feed b s e) ∙ sym (ap (λ (t : Bool). t && startsWith p s) (ne-eqb b x (λ f. n (sym f ∙ eqb-true b 0x0A e)))))
+    (λ (e : eqb b 0x0A ≡ true). ap (startsWith (x ∷ p)) (line-feed b s e)
+    ∙ sym (ap (λ (t : Bool). t && startsWith p s) (ne-eqb b x (λ f. n (sym f ∙ eqb-true b 0x0A e)))))
     (λ (e : eqb b 0x0A ≡ false). ap (startsWith (x ∷ p)) (line-go b s e) ∙ ap (λ (t : Bool). eqb b x && t) i)
     (either (eqb b 0x0A))
 
@@ -109,7 +115,8 @@ spaces-line (b ∷ s) =
 pub left-mark : (one : Bool) (p s : List ℕ) → unbroken p ≡ true → textLeft one (p ++ s) ≡ p ++ textLeft one s
 left-mark one [] s u = refl
 left-mark one (x ∷ p) s u =
-    left-go one x (p ++ s) (not-true _ (and-left (not (eqb x 0x0A)) (unbroken p) u)) ∙ ap (λ (l : List ℕ). x ∷ l) (left-mark one p s (and-right (not (eqb x 0x0A)) (unbroken p) u))
+    left-go one x (p ++ s) (not-true _ (and-left (not (eqb x 0x0A)) (unbroken p) u))
+    ∙ ap (λ (l : List ℕ). x ∷ l) (left-mark one p s (and-right (not (eqb x 0x0A)) (unbroken p) u))
 
 -- the text goes on over a line feed where an ordinary line follows
 abbrev onto : List ℕ → List ℕ → List ℕ
@@ -139,7 +146,8 @@ left-on (b ∷ s) =
     (λ (f : ordinary s ≡ true). left-feed false b s q (ap not f) ∙ ap (λ (k : ℕ). k ∷ textLeft false s) q ∙ sym (r ∙ if-true _ _ f))
     (λ (f : ordinary s ≡ false). left-stop false b s q (ap not f) ∙ sym (r ∙ if-false _ _ f))
     (either (ordinary s)))
-    (λ (e : eqb b 0x0A ≡ false). left-go false b s e ∙ ap (λ (l : List ℕ). b ∷ l) i ∙ onto-more b (next s) (line s) ∙ sym (ap₂ onto (next-go b s e) (line-go b s e)))
+    (λ (e : eqb b 0x0A ≡ false). left-go false b s e ∙ ap (λ (l : List ℕ). b ∷ l) i ∙ onto-more b (next s) (line s)
+    ∙ sym (ap₂ onto (next-go b s e) (line-go b s e)))
     (either (eqb b 0x0A))
 
 -- The parts
@@ -208,7 +216,8 @@ module _ (p t : List ℕ) (two : length p ≡ 2) (u : unbroken p ≡ true) (e : 
 
   pub next-mark : next t ≡ drop (length (line (drop 2 t)) + 1) (drop 2 t)
   next-mark =
-      let n : length (line t) ≡ 2 + length (line (drop 2 t)) = ap length line-mark ∙ length-append p (line (drop 2 t)) ∙ ap (λ (n : ℕ). n + length (line (drop 2 t))) two in
+      let n : length (line t) ≡ 2 + length (line (drop 2 t)) =
+      ap length line-mark ∙ length-append p (line (drop 2 t)) ∙ ap (λ (n : ℕ). n + length (line (drop 2 t))) two in
       let m : length (line t) + 1 ≡ 2 + (length (line (drop 2 t)) + 1) = omega arith in
       ap (λ (k : ℕ). drop k t) m ∙ sym (drop-drop (length (line (drop 2 t)) + 1) 2 t)
 
@@ -221,11 +230,13 @@ header-part (b ∷ s) e =
     joined-first b s
     ∙ ap (λ (l : Line). join l (joined (lines (next (b ∷ s))))) (lineOf-first b s ∙ if-true _ _ e ∙ ap header (drop-mark headerMark (b ∷ s) refl refl e))
 
-pub item-part : (t : List ℕ) → startsWith headerMark t ≡ false → startsWith itemMark t ≡ true → joined (lines t) ≡ item (line (drop 2 t)) ∷ joined (lines (next t))
+pub item-part : (t : List ℕ) → startsWith headerMark t ≡ false → startsWith itemMark t ≡ true
+    → joined (lines t) ≡ item (line (drop 2 t)) ∷ joined (lines (next t))
 item-part [] e f = absurd (not-suc-le-zero (starts-length itemMark [] f))
 item-part (b ∷ s) e f =
     joined-first b s
-    ∙ ap (λ (l : Line). join l (joined (lines (next (b ∷ s))))) (lineOf-first b s ∙ if-false _ _ e ∙ if-true _ _ f ∙ ap item (drop-mark itemMark (b ∷ s) refl refl f))
+    ∙ ap (λ (l : Line). join l (joined (lines (next (b ∷ s)))))
+    (lineOf-first b s ∙ if-false _ _ e ∙ if-true _ _ f ∙ ap item (drop-mark itemMark (b ∷ s) refl refl f))
 
 pub blank-part : (t : List ℕ) → 1 ≤ length t → Plain t → blankLine t ≡ true → joined (lines t) ≡ separator ∷ joined (lines (next t))
 blank-part [] h p e = absurd (not-suc-le-zero h)

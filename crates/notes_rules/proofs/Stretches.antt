@@ -72,12 +72,14 @@ module _ (due after : List Range) (w : Bool) (b : ℕ) (step : (y : List ℕ) �
   first-joined : (x : Stretch) (xs : List Stretch) → x .literal ≡ w → fits after (x .body) ≡ true → Valids xs → First due w (grown (styledAs w b) (x ∷ xs))
   first-joined x xs e f v = subst (First due w) (sym (if-true _ _ (same-beq w (x .literal) e))) (refl, step (x .body) f, v)
 
-grown-none : (due : List Range) (w : Bool) (b : ℕ) → ((y : List ℕ) → fits [] y ≡ true → fits due (b ∷ y) ≡ true) → (xs : List Stretch) → Valids xs → First due w (grown (styledAs w b) xs)
+grown-none : (due : List Range) (w : Bool) (b : ℕ) → ((y : List ℕ) → fits [] y ≡ true → fits due (b ∷ y) ≡ true) → (xs : List Stretch) → Valids xs
+    → First due w (grown (styledAs w b) xs)
 grown-none due w b step [] v = (refl, step [] refl, v)
 grown-none due w b step (x ∷ xs) (one-more e v) =
     pick (First due w) _ (λ _. (refl, step (x .body) e, v)) (λ _. (refl, step [] refl, one-more e v))
 
-grown-first : (due after : List Range) (w : Bool) (b : ℕ) → ((y : List ℕ) → fits after y ≡ true → fits due (b ∷ y) ≡ true) → (xs : List Stretch) → Good after w xs → First due w (grown (styledAs w b) xs)
+grown-first : (due after : List Range) (w : Bool) (b : ℕ) → ((y : List ℕ) → fits after y ≡ true → fits due (b ∷ y) ≡ true) → (xs : List Stretch)
+    → Good after w xs → First due w (grown (styledAs w b) xs)
 grown-first due [] w b step xs g = grown-none due w b step xs g
 grown-first due (r ∷ after) w b step [] g = absurd g
 grown-first due (r ∷ after) w b step (x ∷ xs) g = first-joined due (r ∷ after) w b step x xs (g .0) (g .1) (g .2)
@@ -103,7 +105,8 @@ good [] w (b ∷ s) p e =
     let l : b < 0x80 = omega arith in
     subst (λ (ms : List Styled). Valids (stretches ms)) (sym (styled-pair w b s f)) (pair (ap (λ (d : List Range). fits d s) (sym (due-1 b l)) ∙ e)))
     (λ (f : eqb b 0x60 && (w || ticked s) ≡ false).
-    subst (λ (ms : List Styled). Valids (stretches ms)) (sym (styled-byte w b s f)) (first-valid w _ (grown-first [] (rowOf b .after) w b (λ y g. g) (stretches (styled w s)) byte)))
+    subst (λ (ms : List Styled). Valids (stretches ms)) (sym (styled-byte w b s f))
+    (first-valid w _ (grown-first [] (rowOf b .after) w b (λ y g. g) (stretches (styled w s)) byte)))
     (either (eqb b 0x60 && (w || ticked s)))
 good (r ∷ due) w (b ∷ s) p e =
     let i = good due w s (follows-rest r due p) (and-right (within b r) (fits due s) e) in
@@ -121,7 +124,8 @@ some b x = omega arith
 
 grown-apart : (m : Styled) (xs : List Stretch) → Apart xs → Apart (grown m xs)
 grown-apart m [] none-left = last-left (some (m .byte) [])
-grown-apart m (x ∷ []) (last-left h) = pick Apart (Bool·beq (m .literal) (x .literal)) (λ e. last-left (some (m .byte) (x .body))) (λ e. and-more (some (m .byte) []) e (last-left h))
+grown-apart m (x ∷ []) (last-left h) =
+    pick Apart (Bool·beq (m .literal) (x .literal)) (λ e. last-left (some (m .byte) (x .body))) (λ e. and-more (some (m .byte) []) e (last-left h))
 grown-apart m (x ∷ y ∷ xs) (and-more h f a) =
     pick Apart (Bool·beq (m .literal) (x .literal))
     (λ e. and-more (some (m .byte) (x .body)) (ap (λ (l : Bool). Bool·beq l (y .literal)) (beq-same (m .literal) (x .literal) e) ∙ f) a)

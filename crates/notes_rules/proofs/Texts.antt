@@ -44,7 +44,8 @@ module _ (one within : Bool) (b : ℕ) (s : List ℕ) where
   unfolding withoutFrom
   from-feed e = if-true _ _ e
 
-  from-pair : eqb b 0x0A ≡ false → eqb b 0x60 && (within || ticked (textLeft one s)) ≡ true → withoutFrom 0 one within (b ∷ s) ≡ withoutFrom 0 one (not within) s
+  from-pair : eqb b 0x0A ≡ false → eqb b 0x60 && (within || ticked (textLeft one s)) ≡ true
+      → withoutFrom 0 one within (b ∷ s) ≡ withoutFrom 0 one (not within) s
   unfolding withoutFrom
   from-pair e f = if-false _ _ e ∙ if-true _ _ f
 
@@ -110,7 +111,8 @@ module _ (one within : Bool) (b : ℕ) (s : List ℕ) (h : Closes one within (b 
       ∙ sym (ap (λ (x : List ℕ). bytesOf (styled within x) ++ onward (drop (length x) (b ∷ s))) q)
 
   module _ (q : textLeft one (b ∷ s) ≡ b ∷ textLeft one s) where
-    again : (x : List ℕ) → bytesOf (styled within (b ∷ textLeft one s)) ≡ x → bytesOf (styled within (textLeft one (b ∷ s))) ++ onward (behindText one (b ∷ s)) ≡ x ++ onward (behindText one s)
+    again : (x : List ℕ) → bytesOf (styled within (b ∷ textLeft one s)) ≡ x
+        → bytesOf (styled within (textLeft one (b ∷ s))) ++ onward (behindText one (b ∷ s)) ≡ x ++ onward (behindText one s)
     again x f = ap (λ (l : List ℕ). bytesOf (styled within l) ++ onward (drop (length l) (b ∷ s))) q ∙ ap (λ (l : List ℕ). l ++ onward (behindText one s)) f
 
     -- a byte of it
@@ -175,7 +177,9 @@ blank-without [] t e h = h
 blank-without (b ∷ s) t e h =
     ⊎-elim
     (λ (f : eqb b 0x0A ≡ true).
-    subst (λ (l : List ℕ). Thin Gap l t) (ap (λ (x : List ℕ). onward (drop (length x) (b ∷ s))) (left-stop true b s (eqb-true b 0x0A f) refl) ∙ onward-is b s ∙ sym (from-feed false false b s f)) h)
+    subst (λ (l : List ℕ). Thin Gap l t)
+    (ap (λ (x : List ℕ). onward (drop (length x) (b ∷ s))) (left-stop true b s (eqb-true b 0x0A f) refl) ∙ onward-is b s
+    ∙ sym (from-feed false false b s f)) h)
     (λ (f : eqb b 0x0A ≡ false).
     let g = or-right (eqb b 0x0A) _ e f in
     let q = eqb-true b 0x20 (and-left (eqb b 0x20) _ g) in
@@ -218,7 +222,8 @@ module _ (one : Bool) (t : List ℕ) (rest : List ℕ) (r : rest ≡ drop (lengt
   text-thin : Thin Gap (withoutFrom 0 one false t) (bytesOf (styled false (textLeft one t)) ++ texts (joined (lines rest)))
   text-thin =
       let q : drop 1 (behindText one t) ≡ rest = drop-drop 1 (length (textLeft one t)) t ∙ sym r in
-      subst (λ (l : List ℕ). Thin Gap l (bytesOf (styled false (textLeft one t)) ++ texts (joined (lines rest)))) (sym (without-text one false t (λ e. absurd (false≢true e))))
+      subst (λ (l : List ℕ). Thin Gap l (bytesOf (styled false (textLeft one t)) ++ texts (joined (lines rest))))
+      (sym (without-text one false t (λ e. absurd (false≢true e))))
       (thin-before (bytesOf (styled false (textLeft one t)))
       (subst (λ (l : List ℕ). Thin Gap (onward (behindText one t)) (texts (joined (lines l)))) q
       (onward-thin (behindText one t) (behind-feeds one t) (subst Kept-at (sym q) h))))

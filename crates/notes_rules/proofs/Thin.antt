@@ -75,9 +75,11 @@ gap-none b c s h =
     space : unblank (decodeFrom [] c (0x20 ∷ s)) ≡ unblank (decodeFrom [] c s)
     space = ap unblank (decode-any 0x20 c s)
 
-thin-unblank : (due : List Range) (c : ℕ) {s t : List ℕ} → follows due ≡ true → Thin Gap s t → fits due s ≡ true → unblank (decodeFrom due c s) ≡ unblank (decodeFrom due c t)
+thin-unblank : (due : List Range) (c : ℕ) {s t : List ℕ} → follows due ≡ true → Thin Gap s t → fits due s ≡ true
+    → unblank (decodeFrom due c s) ≡ unblank (decodeFrom due c t)
 thin-unblank due c p none e = refl
-thin-unblank [] c p (kept {b} h) e = emit-unblank (rowOf b .after) (b - rowOf b .lead) _ _ (thin-unblank (rowOf b .after) (b - rowOf b .lead) (row-follows b) h e)
+thin-unblank [] c p (kept {b} h) e =
+    emit-unblank (rowOf b .after) (b - rowOf b .lead) _ _ (thin-unblank (rowOf b .after) (b - rowOf b .lead) (row-follows b) h e)
 thin-unblank (r ∷ due) c p (kept {b} {s} h) e =
     emit-unblank due (c * 64 + (b - 0x80)) _ _ (thin-unblank due (c * 64 + (b - 0x80)) (follows-rest r due p) h (and-right (within b r) (fits due s) e))
 thin-unblank [] c p (cut {b} {s} a h) e =

@@ -1,3 +1,5 @@
+-- The line from `at` on is blank exactly if what is left of it at i is.
+-- The bytes left fall.
 use mathlib.Core.Path.{_≡_, refl, sym, _∙_}
 use Prim.Native.Nat.{_-_}
 use borrow.Author.Needs.{needs}
@@ -18,13 +20,24 @@ loop-holds : tie.Need-loop-holds Inv-loop μ-loop
 loop-holds c = refl
 
 returns : tie.Need-returns Inv-loop μ-loop
-returns c = sym (blank-feed (now (c .before .before .before .before .args .s)) (c .before .before .before .loop .i) (c .before .before .loop-test .taken) (c .if1 .taken)) ∙ c .before .before .before .loop .inv
+returns c =
+    let a = c .before .before .before .before .args in
+    let here = c .before .before .before .loop in
+    sym (blank-feed (now (a .s)) (here .i) (c .before .before .loop-test .taken) (c .if1 .taken)) ∙ here .inv
 
 returns-2 : tie.Need-returns-2 Inv-loop μ-loop
-returns-2 c = sym (blank-other (now (c .before .before .before .before .before .before .args .s)) (c .before .before .before .before .before .loop .i) (c .before .before .before .before .loop-test .taken) (c .before .before .if1 .left) (c .if2 .taken)) ∙ c .before .before .before .before .before .loop .inv
+returns-2 c =
+    let a = c .before .before .before .before .before .before .args in
+    let here = c .before .before .before .before .before .loop in
+    let test = c .before .before .before .before .loop-test in
+    sym (blank-other (now (a .s)) (here .i) (test .taken) (c .before .before .if1 .left) (c .if2 .taken)) ∙ here .inv
 
 loop-again : tie.Need-loop-again Inv-loop μ-loop
-loop-again c = sym (blank-space (now (c .before .before .before .before .before .before .args .s)) (c .before .before .before .before .before .loop .i) (c .before .before .before .before .loop-test .taken) (c .if2 .left)) ∙ c .before .before .before .before .before .loop .inv
+loop-again c =
+    let a = c .before .before .before .before .before .before .args in
+    let here = c .before .before .before .before .before .loop in
+    let test = c .before .before .before .before .loop-test in
+    sym (blank-space (now (a .s)) (here .i) (test .taken) (c .if2 .left)) ∙ here .inv
 
 returns-3 : tie.Need-returns-3 Inv-loop μ-loop
 returns-3 c = sym (blank-end (now (c .before .before .args .s)) (c .before .loop .i) (c .loop-test .left)) ∙ c .before .loop .inv

@@ -1,3 +1,5 @@
+-- No backtick stands from e on.
+-- The end e falls.
 use mathlib.Core.Path.{_≡_}
 use mathlib.Core.Bool.{false}
 use Prim.Native.Nat.{_≤_}
@@ -20,13 +22,21 @@ loop-holds : tie.Need-loop-holds Inv-loop μ-loop
 loop-holds c = c .pre
 
 returns : tie.Need-returns Inv-loop μ-loop
-returns c = last-found (now (c .before .before .before .before .args .s)) (c .before .before .before .loop .e) (c .before .before .before .loop .inv .0) (c .before .before .before .loop .inv .1) (c .before .before .loop-test .taken) (c .if1 .taken)
+returns c =
+    let a = c .before .before .before .before .args in
+    let here = c .before .before .before .loop in
+    last-found (now (a .s)) (here .e) (here .inv .0) (here .inv .1) (c .before .before .loop-test .taken) (c .if1 .taken)
 
 loop-again : tie.Need-loop-again Inv-loop μ-loop
-loop-again c = (omega arith, tickless-more (now (c .before .before .before .before .args .s)) (c .before .before .before .loop .e) (c .before .before .before .loop .inv .0) (c .before .before .before .loop .inv .1) (c .before .before .loop-test .taken) (c .if1 .left))
+loop-again c =
+    let a = c .before .before .before .before .args in
+    let here = c .before .before .before .loop in
+    (omega arith, tickless-more (now (a .s)) (here .e) (here .inv .0) (here .inv .1) (c .before .before .loop-test .taken) (c .if1 .left))
 
 returns-2 : tie.Need-returns-2 Inv-loop μ-loop
-returns-2 c = last-none (now (c .before .before .args .s)) (c .before .loop .e) (c .before .loop .inv .0) (c .before .loop .inv .1) (c .loop-test .left)
+returns-2 c =
+    let here = c .before .loop in
+    last-none (now (c .before .before .args .s)) (here .e) (here .inv .0) (here .inv .1) (c .loop-test .left)
 
 pub last-before-spec : {M : Type 1} → statement M
 last-before-spec =

@@ -1,3 +1,5 @@
+-- No backtick stands from e on.
+-- The end e falls, by a block.
 use mathlib.Core.Path.{_≡_}
 use mathlib.Core.Bool.{false}
 use Prim.Native.Nat.{_≤_}
@@ -30,7 +32,13 @@ returns : tie.Need-returns Inv-loop μ-loop
 returns c = c .last-before .ensures
 
 loop-again : tie.Need-loop-again Inv-loop μ-loop
-loop-again c = (omega arith, tickless-block (now (c .before .before .before .before .before .args .s)) (c .before .before .before .loop .e) (c .before .before .loop-test .taken) (c .before .before .before .loop .inv .0) (c .before .tickless .ensures (not-false _ (c .if1 .left))) (c .before .before .before .loop .inv .1))
+loop-again c =
+    let a = c .before .before .before .before .before .args in
+    let here = c .before .before .before .loop in (
+      omega arith,
+      tickless-block (now (a .s)) (here .e) (c .before .before .loop-test .taken) (here .inv .0)
+          (c .before .tickless .ensures (not-false _ (c .if1 .left))) (here .inv .1),
+    )
 
 last-before-requires-2 : tie.Need-last-before-requires-2 Inv-loop μ-loop
 last-before-requires-2 c κs = c .before .loop .inv

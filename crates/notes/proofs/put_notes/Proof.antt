@@ -1,3 +1,5 @@
+-- What is written, and then the document of the notes from `at` on, is the whole document.
+-- The bytes left fall.
 use mathlib.Core.Path.{sym, _∙_}
 use Prim.Native.Nat.{_+_, _-_, _≤_}
 use native.Mathlib.Omega.{arith}
@@ -25,10 +27,20 @@ loop-holds : tie.Need-loop-holds Inv-loop μ-loop
 loop-holds c = (omega arith, puts-start (now (c .before .before .args .room)) 0 (document (now (c .before .before .args .s))))
 
 add-text-end : tie.Need-add-text-end Inv-loop μ-loop
-add-text-end c = omega (arith, starts-fits headerMark (now (c .before .before .before .before .before .before .args .s)) (c .before .before .before .loop .at) (c .before .header-at .result) (omega arith) (c .before .header-at .ensures) (c .if1 .taken))
+add-text-end c =
+    let a = c .before .before .before .before .before .before .args in
+    let header-at = c .before .header-at in
+    omega (
+      arith,
+      starts-fits headerMark (now (a .s)) (c .before .before .before .loop .at) (header-at .result) (omega arith) (header-at .ensures)
+          (c .if1 .taken),
+    )
 
 text-end-requires : tie.Need-text-end-requires Inv-loop μ-loop
-text-end-requires c κs = starts-fits headerMark (now (c .before .before .before .before .before .before .args .s)) (c .before .before .before .loop .at) (c .before .header-at .result) (omega arith) (c .before .header-at .ensures) (c .if1 .taken)
+text-end-requires c κs =
+    let a = c .before .before .before .before .before .before .args in
+    let header-at = c .before .header-at in
+    starts-fits headerMark (now (a .s)) (c .before .before .before .loop .at) (header-at .result) (omega arith) (header-at .ensures) (c .if1 .taken)
 
 add-put-part : tie.Need-add-put-part Inv-loop μ-loop
 add-put-part c = omega (arith, c .before .text-end .ensures .order, c .before .text-end .ensures .inside)
@@ -50,17 +62,32 @@ loop-less c = omega (arith, c .before .before .before .before .before .text-end 
 
 loop-again : tie.Need-loop-again Inv-loop μ-loop
 loop-again c =
-    let s = now (c .before .before .before .before .before .before .before .before .before .before .before .before .args .s) in (
-      omega (arith, c .before .before .before .before .before .text-end .ensures .inside),
-      puts-more (c .before .before .before .before .before .before .before .before .before .loop .inv .1) _ (c .before .before .put-part .result) (around block.Header (textRecords (part s (c .before .before .before .before .before .before .before .before .before .loop .at + 2) (c .before .before .before .before .before .text-end .result)))) (documentAt s (c .before .before .before .before .before .text-end .result + 1)) (c .before .before .put-part .kept .0) (c .before .before .put-part .ensures)
-          (step-header s (c .before .before .before .before .before .before .before .before .before .loop .at) (sym (c .before .before .before .before .before .before .before .header-at .ensures) ∙ c .before .before .before .before .before .before .if1 .taken) (c .before .before .before .before .before .text-end .ensures)),
+    let a = c .before .before .before .before .before .before .before .before .before .before .before .before .args in
+    let here = c .before .before .before .before .before .before .before .before .before .loop in
+    let header-at = c .before .before .before .before .before .before .before .header-at in
+    let if1 = c .before .before .before .before .before .before .if1 in
+    let text-end = c .before .before .before .before .before .text-end in
+    let put-part = c .before .before .put-part in
+    let s = now (a .s) in (
+      omega (arith, text-end .ensures .inside),
+      puts-more (here .inv .1) _ (put-part .result) (around block.Header (textRecords (part s (here .at + 2) (text-end .result))))
+          (documentAt s (text-end .result + 1)) (put-part .kept .0) (put-part .ensures)
+          (step-header s (here .at) (sym (header-at .ensures) ∙ if1 .taken) (text-end .ensures)),
     )
 
 add-text-end-2 : tie.Need-add-text-end-2 Inv-loop μ-loop
-add-text-end-2 c = omega (arith, starts-fits itemMark (now (c .before .before .before .before .before .before .before .before .args .s)) (c .before .before .before .before .before .loop .at) (c .before .item-at .result) (omega arith) (c .before .item-at .ensures) (c .if2 .taken))
+add-text-end-2 c =
+    let a = c .before .before .before .before .before .before .before .before .args in
+    let here = c .before .before .before .before .before .loop in
+    let item-at = c .before .item-at in
+    omega (arith, starts-fits itemMark (now (a .s)) (here .at) (item-at .result) (omega arith) (item-at .ensures) (c .if2 .taken))
 
 text-end-requires-2 : tie.Need-text-end-requires-2 Inv-loop μ-loop
-text-end-requires-2 c κs = starts-fits itemMark (now (c .before .before .before .before .before .before .before .before .args .s)) (c .before .before .before .before .before .loop .at) (c .before .item-at .result) (omega arith) (c .before .item-at .ensures) (c .if2 .taken)
+text-end-requires-2 c κs =
+    let a = c .before .before .before .before .before .before .before .before .args in
+    let here = c .before .before .before .before .before .loop in
+    let item-at = c .before .item-at in
+    starts-fits itemMark (now (a .s)) (here .at) (item-at .result) (omega arith) (item-at .ensures) (c .if2 .taken)
 
 add-put-part-2 : tie.Need-add-put-part-2 Inv-loop μ-loop
 add-put-part-2 c = omega (arith, c .before .text-end2 .ensures .order, c .before .text-end2 .ensures .inside)
@@ -82,10 +109,19 @@ loop-less-2 c = omega (arith, c .before .before .before .before .before .text-en
 
 loop-again-2 : tie.Need-loop-again-2 Inv-loop μ-loop
 loop-again-2 c =
-    let s = now (c .before .before .before .before .before .before .before .before .before .before .before .before .before .before .args .s) in (
-      omega (arith, c .before .before .before .before .before .text-end2 .ensures .inside),
-      puts-more (c .before .before .before .before .before .before .before .before .before .before .before .loop .inv .1) _ (c .before .before .put-part2 .result) (around block.ItemBody (textRecords (part s (c .before .before .before .before .before .before .before .before .before .before .before .loop .at + 2) (c .before .before .before .before .before .text-end2 .result)))) (documentAt s (c .before .before .before .before .before .text-end2 .result + 1)) (c .before .before .put-part2 .kept .0) (c .before .before .put-part2 .ensures)
-          (step-item s (c .before .before .before .before .before .before .before .before .before .before .before .loop .at) (sym (c .before .before .before .before .before .before .before .before .before .header-at .ensures) ∙ c .before .before .before .before .before .before .before .before .if1 .left) (sym (c .before .before .before .before .before .before .before .item-at .ensures) ∙ c .before .before .before .before .before .before .if2 .taken) (c .before .before .before .before .before .text-end2 .ensures)),
+    let a = c .before .before .before .before .before .before .before .before .before .before .before .before .before .before .args in
+    let here = c .before .before .before .before .before .before .before .before .before .before .before .loop in
+    let header-at = c .before .before .before .before .before .before .before .before .before .header-at in
+    let if1 = c .before .before .before .before .before .before .before .before .if1 in
+    let item-at = c .before .before .before .before .before .before .before .item-at in
+    let if2 = c .before .before .before .before .before .before .if2 in
+    let text-end2 = c .before .before .before .before .before .text-end2 in
+    let put-part2 = c .before .before .put-part2 in
+    let s = now (a .s) in (
+      omega (arith, text-end2 .ensures .inside),
+      puts-more (here .inv .1) _ (put-part2 .result) (around block.ItemBody (textRecords (part s (here .at + 2) (text-end2 .result))))
+          (documentAt s (text-end2 .result + 1)) (put-part2 .kept .0) (put-part2 .ensures)
+          (step-item s (here .at) (sym (header-at .ensures) ∙ if1 .left) (sym (item-at .ensures) ∙ if2 .taken) (text-end2 .ensures)),
     )
 
 add-at-3 : tie.Need-add-at-3 Inv-loop μ-loop
@@ -95,10 +131,19 @@ loop-less-3 : tie.Need-loop-less-3 Inv-loop μ-loop
 loop-less-3 c = omega (arith, c .text-end3 .ensures .order)
 
 loop-again-3 : tie.Need-loop-again-3 Inv-loop μ-loop
-loop-again-3 c = (
-  omega (arith, c .text-end3 .ensures .inside),
-  puts-as (c .before .before .before .before .before .before .before .before .loop .inv .1) _ (step-blank (now (c .before .before .before .before .before .before .before .before .before .before .before .args .s)) (c .before .before .before .before .before .before .before .before .loop .at) (c .before .before .before .before .before .before .before .loop-test .taken) (sym (c .before .before .before .before .before .before .header-at .ensures) ∙ c .before .before .before .before .before .if1 .left) (sym (c .before .before .before .before .item-at .ensures) ∙ c .before .before .before .if2 .left) (sym (c .before .before .blank-at .ensures) ∙ c .before .if3 .taken) (c .text-end3 .ensures)),
-)
+loop-again-3 c =
+    let a = c .before .before .before .before .before .before .before .before .before .before .before .args in
+    let here = c .before .before .before .before .before .before .before .before .loop in
+    let test = c .before .before .before .before .before .before .before .loop-test in
+    let header-at = c .before .before .before .before .before .before .header-at in
+    let if1 = c .before .before .before .before .before .if1 in
+    let item-at = c .before .before .before .before .item-at in (
+      omega (arith, c .text-end3 .ensures .inside),
+      puts-as (here .inv .1) _
+          (step-blank (now (a .s)) (here .at) (test .taken) (sym (header-at .ensures) ∙ if1 .left)
+          (sym (item-at .ensures) ∙ c .before .before .before .if2 .left) (sym (c .before .before .blank-at .ensures) ∙ c .before .if3 .taken)
+          (c .text-end3 .ensures)),
+    )
 
 sub-put-part-3 : tie.Need-sub-put-part-3 Inv-loop μ-loop
 sub-put-part-3 c = omega (arith, c .before .text-end4 .ensures .order)
@@ -117,17 +162,32 @@ loop-less-4 c = omega (arith, c .before .before .before .before .before .text-en
 
 loop-again-4 : tie.Need-loop-again-4 Inv-loop μ-loop
 loop-again-4 c =
-    let s = now (c .before .before .before .before .before .before .before .before .before .before .before .before .before .before .before .before .args .s) in (
-      omega (arith, c .before .before .before .before .before .text-end4 .ensures .inside),
-      puts-more (c .before .before .before .before .before .before .before .before .before .before .before .before .before .loop .inv .1) _ (c .before .before .put-part3 .result) (around block.Block (textRecords (part s (c .before .before .before .before .before .before .before .before .before .before .before .before .before .loop .at) (c .before .before .before .before .before .text-end4 .result)))) (documentAt s (c .before .before .before .before .before .text-end4 .result + 1)) (c .before .before .put-part3 .kept .0) (c .before .before .put-part3 .ensures)
-          (step-other s (c .before .before .before .before .before .before .before .before .before .before .before .before .before .loop .at) (sym (c .before .before .before .before .before .before .before .before .before .before .before .header-at .ensures) ∙ c .before .before .before .before .before .before .before .before .before .before .if1 .left) (sym (c .before .before .before .before .before .before .before .before .before .item-at .ensures) ∙ c .before .before .before .before .before .before .before .before .if2 .left) (sym (c .before .before .before .before .before .before .before .blank-at .ensures) ∙ c .before .before .before .before .before .before .if3 .left) (c .before .before .before .before .before .text-end4 .ensures)),
+    let a = c .before .before .before .before .before .before .before .before .before .before .before .before .before .before .before .before .args in
+    let here = c .before .before .before .before .before .before .before .before .before .before .before .before .before .loop in
+    let header-at = c .before .before .before .before .before .before .before .before .before .before .before .header-at in
+    let if1 = c .before .before .before .before .before .before .before .before .before .before .if1 in
+    let item-at = c .before .before .before .before .before .before .before .before .before .item-at in
+    let if2 = c .before .before .before .before .before .before .before .before .if2 in
+    let blank-at = c .before .before .before .before .before .before .before .blank-at in
+    let if3 = c .before .before .before .before .before .before .if3 in
+    let text-end4 = c .before .before .before .before .before .text-end4 in
+    let put-part3 = c .before .before .put-part3 in
+    let s = now (a .s) in (
+      omega (arith, text-end4 .ensures .inside),
+      puts-more (here .inv .1) _ (put-part3 .result) (around block.Block (textRecords (part s (here .at) (text-end4 .result))))
+          (documentAt s (text-end4 .result + 1)) (put-part3 .kept .0) (put-part3 .ensures)
+          (step-other s (here .at) (sym (header-at .ensures) ∙ if1 .left) (sym (item-at .ensures) ∙ if2 .left) (sym (blank-at .ensures) ∙ if3 .left)
+          (text-end4 .ensures)),
     )
 
 same-length : tie.Need-same-length Inv-loop μ-loop
 same-length c = c .before .loop .inv .1 .long
 
 returns : tie.Need-returns Inv-loop μ-loop
-returns c = puts-all (c .before .loop .inv .1) (document-end (now (c .before .before .before .before .args .s)) (c .before .loop .at) (c .loop-test .left)) ∙ seen-none (now (c .before .before .before .before .args .room)) (length (now (c .before .before .before .before .args .room))) (document (now (c .before .before .before .before .args .s)))
+returns c =
+    let a = c .before .before .before .before .args in
+    puts-all (c .before .loop .inv .1) (document-end (now (a .s)) (c .before .loop .at) (c .loop-test .left)) ∙ seen-none (now (a .room))
+    (length (now (a .room))) (document (now (a .s)))
 
 pub put-notes-spec : {M : Type 1} → statement M
 put-notes-spec =

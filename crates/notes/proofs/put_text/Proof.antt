@@ -1,3 +1,5 @@
+-- What is written, and then the records of the text from `at` on, is what was there and then all its records.
+-- The bytes left fall.
 use mathlib.Core.Path.{refl, sym, _∙_}
 use mathlib.Core.List.{_++_}
 use Prim.Native.Nat.{_-_, _≤_}
@@ -15,38 +17,69 @@ use Rattle.notes.proofs.Runs.{recordsAt, records-pair, records-end, rec
 use Rattle.notes.proofs.Writes.{Puts, puts-start, puts-as, puts-more, puts-all}
 
 abbrev Inv-loop : tie.InvT-loop
-Inv-loop room₀ len s last n₀ i₀ within₀ room n i within = (i ≤ length s) × Puts (seen room₀ len) (length room₀) room n (recordsAt s i within) (textRecords s)
+Inv-loop room₀ len s last n₀ at₀ within₀ room n at within =
+    (at ≤ length s) × Puts (seen room₀ len) (length room₀) room n (recordsAt s at within) (textRecords s)
 
 abbrev μ-loop : tie.MeasureT-loop
-μ-loop room₀ len s last n₀ i₀ within₀ room n i within = length s - i
+μ-loop room₀ len s last n₀ at₀ within₀ room n at within = length s - at
 
 loop-holds : tie.Need-loop-holds Inv-loop μ-loop
 unfolding textRecords
 loop-holds c = (omega arith, puts-start (now (c .before .before .before .args .room)) (c .before .before .before .args .len) _)
 
 loop-again : tie.Need-loop-again Inv-loop μ-loop
-loop-again c = (omega arith, puts-as (c .before .before .before .loop .inv .1) _ (records-pair (now (c .before .before .before .before .before .before .before .args .s)) (c .before .before .before .loop .i) (c .before .before .before .loop .within) (c .before .before .loop-test .taken) (sym (c .before .paired .ensures) ∙ c .if1 .taken)))
+loop-again c =
+    let a = c .before .before .before .before .before .before .before .args in
+    let here = c .before .before .before .loop in (
+      omega arith,
+      puts-as (here .inv .1) _
+          (records-pair (now (a .s)) (here .at) (here .within) (c .before .before .loop-test .taken) (sym (c .before .paired .ensures) ∙ c .if1 .taken)),
+    )
 
 loop-less-2 : tie.Need-loop-less-2 Inv-loop μ-loop
-loop-less-2 c = omega (arith, run-moves (now (c .before .before .before .before .before .before .before .before .before .before .before .before .before .before .before .before .before .args .s)) (c .before .before .before .before .before .before .before .before .before .before .before .before .before .loop .i) (c .before .before .before .before .before .before .before .before .before .before .before .before .before .loop .within) (c .before .before .before .before .before .before .before .before .before .before .before .before .loop-test .taken) (sym (c .before .before .before .before .before .before .before .before .before .before .before .paired .ensures) ∙ c .before .before .before .before .before .before .before .before .before .before .if1 .left) (c .before .before .before .before .before .before .before .before .before .run-at .result) (c .before .before .before .before .before .before .before .before .before .run-at .ensures))
+loop-less-2 c =
+    let a = c .before .before .before .before .before .before .before .before .before .before .before .before .before .before .before .before .before .args in
+    let here = c .before .before .before .before .before .before .before .before .before .before .before .before .before .loop in
+    let test = c .before .before .before .before .before .before .before .before .before .before .before .before .loop-test in
+    let paired = c .before .before .before .before .before .before .before .before .before .before .before .paired in
+    let if1 = c .before .before .before .before .before .before .before .before .before .before .if1 in
+    let run-at = c .before .before .before .before .before .before .before .before .before .run-at in
+    omega (
+      arith,
+      run-moves (now (a .s)) (here .at) (here .within) (test .taken) (sym (paired .ensures) ∙ if1 .left) (run-at .result)
+          (run-at .ensures),
+    )
 
 loop-again-2 : tie.Need-loop-again-2 Inv-loop μ-loop
 loop-again-2 c =
-    let s = now (c .before .before .before .before .before .before .before .before .before .before .before .before .before .before .before .before .before .args .s) in
-    let i = c .before .before .before .before .before .before .before .before .before .before .before .before .before .loop .i in
-    let w = c .before .before .before .before .before .before .before .before .before .before .before .before .before .loop .within in
-    let r = c .before .before .before .before .before .before .before .before .before .run-at .result in
-    let z = records-run s i w (c .before .before .before .before .before .before .before .before .before .before .before .before .loop-test .taken) (sym (c .before .before .before .before .before .before .before .before .before .before .before .paired .ensures) ∙ c .before .before .before .before .before .before .before .before .before .before .if1 .left) r (c .before .before .before .before .before .before .before .before .before .run-at .ensures) (c .before .before .before .before .before .before .before .kind-of .result) (c .before .before .before .before .before .before .before .kind-of .ensures) in (
-      c .before .before .before .before .before .before .before .before .before .run-at .ensures .inside,
-      puts-more (puts-more (c .before .before .before .before .before .before .before .before .before .before .before .before .before .loop .inv .1) _ (c .before .before .before .before .before .before .put-head .result) (head (r .size) (c .before .before .before .before .before .before .before .kind-of .result)) (lead w (styled w (drop i s)) ++ recordsAt s (r .at) (r .within)) (c .before .before .before .before .before .before .put-head .kept .0) (c .before .before .before .before .before .before .put-head .ensures) z)
-          _ (c .before .before .put-run .result) (lead w (styled w (drop i s))) (recordsAt s (r .at) (r .within)) (c .before .before .put-run .kept .0) (c .before .before .put-run .ensures) refl,
+    let a = c .before .before .before .before .before .before .before .before .before .before .before .before .before .before .before .before .before .args in
+    let here = c .before .before .before .before .before .before .before .before .before .before .before .before .before .loop in
+    let test = c .before .before .before .before .before .before .before .before .before .before .before .before .loop-test in
+    let paired = c .before .before .before .before .before .before .before .before .before .before .before .paired in
+    let if1 = c .before .before .before .before .before .before .before .before .before .before .if1 in
+    let run-at = c .before .before .before .before .before .before .before .before .before .run-at in
+    let kind-of = c .before .before .before .before .before .before .before .kind-of in
+    let put-head = c .before .before .before .before .before .before .put-head in
+    let put-run = c .before .before .put-run in
+    let s = now (a .s) in
+    let i = here .at in
+    let w = here .within in
+    let r = run-at .result in
+    let z = records-run s i w (test .taken) (sym (paired .ensures) ∙ if1 .left) r (run-at .ensures) (kind-of .result) (kind-of .ensures) in (
+      run-at .ensures .inside,
+      puts-more (puts-more (here .inv .1) _ (put-head .result) (head (r .size) (kind-of .result))
+          (lead w (styled w (drop i s)) ++ recordsAt s (r .at) (r .within)) (put-head .kept .0) (put-head .ensures) z)
+          _ (put-run .result) (lead w (styled w (drop i s))) (recordsAt s (r .at) (r .within)) (put-run .kept .0) (put-run .ensures) refl,
     )
 
 same-length : tie.Need-same-length Inv-loop μ-loop
 same-length c = c .before .loop .inv .1 .long
 
 returns : tie.Need-returns Inv-loop μ-loop
-returns c = puts-all (c .before .loop .inv .1) (records-end (now (c .before .before .before .before .before .args .s)) (c .before .loop .i) (c .before .loop .within) (c .loop-test .left))
+returns c =
+    let a = c .before .before .before .before .before .args in
+    let here = c .before .loop in
+    puts-all (here .inv .1) (records-end (now (a .s)) (here .at) (here .within) (c .loop-test .left))
 
 pub put-text-spec : {M : Type 1} → statement M
 put-text-spec =

@@ -18,7 +18,8 @@ returns c =
     let f = c .before .before .before .before .before .before .fill in
     let same = f .kept .1 .0 in
     let r = answer-cleared (f .last .1 .0) _ n (f .result) (takenIn n s) same
-    (f .ensures .0 ∙ ap (λ (k : ℕ). takenIn k s) same) (subst (λ (k : ℕ). Inside k (f .result)) same (f .ensures .1)) (c .before .before .clear-after .ensures) in
+    (f .ensures .0 ∙ ap (λ (k : ℕ). takenIn k s) same) (subst (λ (k : ℕ). Inside k (f .result)) same (f .ensures .1))
+    (c .before .before .clear-after .ensures) in
     (r .0, (r .1, taken-faithful n s))
 
 pub take-in-spec : {M : Type 1} → statement M

@@ -1,3 +1,5 @@
+-- What stands from `at` up to i, and what is left there of the text, is the text.
+-- The bytes left fall.
 use mathlib.Core.Path.{sym, ap, _∙_}
 use mathlib.Core.Bool.{Bool, not, _||_}
 use mathlib.Core.Logic.{⊎-elim}
@@ -20,19 +22,37 @@ loop-holds : tie.Need-loop-holds Inv-loop μ-loop
 loop-holds c = going-start (now (c .before .args .s)) (c .before .args .one) (c .before .args .at) (c .before .pre)
 
 returns : tie.Need-returns Inv-loop μ-loop
-returns c = ends-feed (now (c .before .before .before .before .before .before .args .s)) (c .before .before .before .before .before .before .args .one) (c .before .before .before .before .before .before .args .at) (c .before .before .before .before .loop .i) (c .before .before .before .before .loop .inv) (c .before .before .before .loop-test .taken) (c .before .if1 .taken) (ap (λ (t : Bool). t || not (ordinary (drop (c .before .before .before .before .loop .i + 1) (now (c .before .before .before .before .before .before .args .s))))) (c .if2 .taken))
+returns c =
+    let a = c .before .before .before .before .before .before .args in
+    let here = c .before .before .before .before .loop in
+    let test = c .before .before .before .loop-test in
+    ends-feed (now (a .s)) (a .one) (a .at) (here .i) (here .inv) (test .taken) (c .before .if1 .taken)
+    (ap (λ (t : Bool). t || not (ordinary (drop (here .i + 1) (now (a .s))))) (c .if2 .taken))
 
 returns-2 : tie.Need-returns-2 Inv-loop μ-loop
-returns-2 c = ends-feed (now (c .before .before .before .before .before .before .before .before .args .s)) (c .before .before .before .before .before .before .before .before .args .one) (c .before .before .before .before .before .before .before .before .args .at) (c .before .before .before .before .before .before .loop .i) (c .before .before .before .before .before .before .loop .inv) (c .before .before .before .before .before .loop-test .taken) (c .before .before .before .if1 .taken) (ap (λ (t : Bool). t || not (ordinary (drop (c .before .before .before .before .before .before .loop .i + 1) (now (c .before .before .before .before .before .before .before .before .args .s))))) (c .before .before .if2 .left) ∙ ap not (sym (c .before .ordinary-at .ensures)) ∙ c .if3 .taken)
+returns-2 c =
+    let a = c .before .before .before .before .before .before .before .before .args in
+    let here = c .before .before .before .before .before .before .loop in
+    let test = c .before .before .before .before .before .loop-test in
+    ends-feed (now (a .s)) (a .one) (a .at) (here .i) (here .inv) (test .taken) (c .before .before .before .if1 .taken)
+    (ap (λ (t : Bool). t || not (ordinary (drop (here .i + 1) (now (a .s))))) (c .before .before .if2 .left) ∙ ap not
+    (sym (c .before .ordinary-at .ensures)) ∙ c .if3 .taken)
 
 loop-again : tie.Need-loop-again Inv-loop μ-loop
-loop-again c = ⊎-elim
-    (λ w. going-feed (now (c .before .before .before .before .before .args .s)) (c .before .before .before .before .before .args .one) (c .before .before .before .before .before .args .at) (c .before .before .before .loop .i) (c .before .before .before .loop .inv) (c .before .before .loop-test .taken) (w .0 .taken) (ap (λ (t : Bool). t || not (ordinary (drop (c .before .before .before .loop .i + 1) (now (c .before .before .before .before .before .args .s))))) (w .1 .left) ∙ ap not (sym (w .2 .ensures)) ∙ w .3 .left))
-    (λ w. going-byte (now (c .before .before .before .before .before .args .s)) (c .before .before .before .before .before .args .one) (c .before .before .before .before .before .args .at) (c .before .before .before .loop .i) (c .before .before .before .loop .inv) (c .before .before .loop-test .taken) (w .left))
+loop-again c =
+    let a = c .before .before .before .before .before .args in
+    let here = c .before .before .before .loop in
+    let test = c .before .before .loop-test in
+    ⊎-elim
+    (λ w. going-feed (now (a .s)) (a .one) (a .at) (here .i) (here .inv) (test .taken) (w .0 .taken)
+    (ap (λ (t : Bool). t || not (ordinary (drop (here .i + 1) (now (a .s))))) (w .1 .left) ∙ ap not (sym (w .2 .ensures)) ∙ w .3 .left))
+    (λ w. going-byte (now (a .s)) (a .one) (a .at) (here .i) (here .inv) (test .taken) (w .left))
     (c .if1 .came)
 
 returns-3 : tie.Need-returns-3 Inv-loop μ-loop
-returns-3 c = ends-over (now (c .before .before .before .args .s)) (c .before .before .before .args .one) (c .before .before .before .args .at) (c .before .loop .i) (c .before .loop .inv) (c .loop-test .left)
+returns-3 c =
+    let a = c .before .before .before .args in
+    ends-over (now (a .s)) (a .one) (a .at) (c .before .loop .i) (c .before .loop .inv) (c .loop-test .left)
 
 pub text-end-spec : {M : Type 1} → statement M
 text-end-spec =

@@ -1,3 +1,5 @@
+-- If none is found, no backtick stands in the i bytes from `a` on.
+-- The bytes of the block that are left fall.
 use mathlib.Core.Path.{_≡_, sym, ap, _∙_}
 use mathlib.Core.Bool.{false}
 use mathlib.Core.Logic.{⊎-elim}
@@ -22,12 +24,21 @@ loop-holds : tie.Need-loop-holds Inv-loop μ-loop
 loop-holds c = (omega arith, λ e. tickless-none (now (c .args .s)) (c .args .a))
 
 loop-again : tie.Need-loop-again Inv-loop μ-loop
-loop-again c = (omega arith, λ e. ⊎-elim (λ w. one-none (c .if1 .found) (w .1) e) (λ w. tickless-next (now (c .before .before .before .before .args .s)) (c .before .before .before .before .args .a) (c .before .before .before .loop .i) (omega arith) (c .before .before .before .loop .inv .1 (sym (w .1) ∙ e)) (w .0 .left)) (c .if1 .came))
+loop-again c =
+    let a = c .before .before .before .before .args in
+    let here = c .before .before .before .loop in (
+      omega arith,
+      λ e. ⊎-elim (λ w. one-none (c .if1 .found) (w .1) e)
+          (λ w. tickless-next (now (a .s)) (a .a) (here .i) (omega arith) (here .inv .1 (sym (w .1) ∙ e)) (w .0 .left)) (c .if1 .came),
+    )
 
 returns : tie.Need-returns Inv-loop μ-loop
-returns c = λ e.
-    let n : c .before .loop .i ≡ 64 = omega arith in
-    ap (λ (k : ℕ). ticked (part (now (c .before .before .args .s)) (c .before .before .args .a) (c .before .before .args .a + k))) (sym n) ∙ c .before .loop .inv .1 (eqb-true (c .before .loop .found) 0 e)
+returns c =
+    let a = c .before .before .args in
+    let here = c .before .loop in
+    λ e.
+    let n : here .i ≡ 64 = omega arith in
+    ap (λ (k : ℕ). ticked (part (now (a .s)) (a .a) (a .a + k))) (sym n) ∙ here .inv .1 (eqb-true (here .found) 0 e)
 
 pub tickless-spec : {M : Type 1} → statement M
 tickless-spec =
