@@ -1,4 +1,2 @@
 pub mod Scans
-pub mod Runs
-pub mod Writes
 pub mod Steps

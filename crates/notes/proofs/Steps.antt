@@ -3,7 +3,7 @@ use Prim.Native.Nat.{ℕ, _+_, _-_, _≤_, _<_}
 use mathlib.Core.Path.{_≡_, refl, sym, ap, ap₂, _∙_}
 use mathlib.Core.Logic.{⊎-elim}
 use mathlib.Core.Bool.{Bool, true, false, _&&_}
-use mathlib.Core.List.{List, [], _++_}
+use mathlib.Core.List.{List, [], _++_, append-assoc, append-nil}
 use lib.Dec.{leb}
 use lib.ListN.{length, take, drop, length-drop, drop-of-length-le}
 use lib.Seq.{drop-drop, length-take-le}
@@ -17,10 +17,14 @@ use Rattle.utf8.specs.Utf8.{utf8}
 use Rattle.room.specs.Room.{seen, extended}
 use Rattle.room.proofs.Laws.{seen-in, seen-out, extended-in, extended-out}
 use Rattle.document.specs.Document.{short}
-use Rattle.records.specs.Stored.{around}
+use Rattle.records.specs.Records.{index}
+use Rattle.records.specs.Stored.{head, start, end, around}
+use Rattle.records.specs.declared.Block.{Block}
 use Rattle.records.specs.declared.Block.the-variants as block
+use Rattle.buffer.proofs.Pasting.{stored-none}
 use Rattle.notes_rules.specs.Notes.{lines, headerMark, itemMark, joined, textRecords, parts, document, fit, takenIn}
 use Rattle.notes_rules.specs.Without.{blankLine, textLeft}
+use Rattle.notes_text.proofs.Writes.{puts-start, puts-more, puts-all}
 use Rattle.notes.specs.Parts.{Ends}
 use Rattle.notes_rules.proofs.Lines.{unmarked-is, ordinary-is, line, next, next-mark, header-part, item-part, blank-part, other-part}
 
@@ -86,6 +90,25 @@ module _ (s : List ℕ) (at : ℕ) where
   step-other g h b n =
       ap parts (other-part (drop at s) (ordinary-is (drop at s) (unmarked-is (drop at s) g h) b))
       ∙ ap₂ (λ (x y : List ℕ). around block.Block (textRecords x) ++ parts (joined (lines y))) (sym (n .is)) (after-text n)
+
+-- A part written
+
+-- a block around some records, its start, they and its end
+pub part-written : (room : List ℕ) (n : ℕ) (b : Block) (x : List ℕ) (i : ℕ) → i ≡ index b → (room₁ room₂ room₃ : List ℕ) (n₁ n₂ n₃ : ℕ)
+    → length room₁ ≡ length room → length room₂ ≡ length room₁ → length room₃ ≡ length room₂
+    → seen room₁ n₁ ≡ (seen room n >>= extended (length room) (head 0 (0x0100 + i)))
+    → seen room₂ n₂ ≡ (seen room₁ n₁ >>= extended (length room₁) x)
+    → seen room₃ n₃ ≡ (seen room₂ n₂ >>= extended (length room₂) (head 0 (0x0200 + i)))
+    → seen room₃ n₃ ≡ (seen room n >>= extended (length room) (around b x))
+unfolding around start end
+part-written room n b x i q room₁ room₂ room₃ n₁ n₂ n₃ l₁ l₂ l₃ e₁ e₂ e₃ =
+    let s : start b ≡ head 0 (0x0100 + i) = stored-none (0x0100 + index b) ∙ ap (λ (k : ℕ). head 0 (0x0100 + k)) (sym q) in
+    let t : end b ≡ head 0 (0x0200 + i) = stored-none (0x0200 + index b) ∙ ap (λ (k : ℕ). head 0 (0x0200 + k)) (sym q) in
+    let p = puts-start room n (start b ++ x ++ end b) in
+    let p₁ = puts-more p room₁ n₁ (head 0 (0x0100 + i)) (x ++ end b) l₁ e₁ (append-assoc (start b) x (end b) ∙ ap (λ (y : List ℕ). y ++ (x ++ end b)) s) in
+    let p₂ = puts-more p₁ room₂ n₂ x (end b) l₂ e₂ refl in
+    let p₃ = puts-more p₂ room₃ n₃ (head 0 (0x0200 + i)) [] l₃ e₃ (t ∙ sym (append-nil (head 0 (0x0200 + i)))) in
+    puts-all p₃ refl
 
 -- The whole
 

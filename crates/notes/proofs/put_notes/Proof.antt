@@ -15,7 +15,7 @@ use Rattle.records.specs.Stored.{around}
 use Rattle.records.specs.declared.Block.the-variants as block
 use Rattle.notes_rules.specs.Notes.{headerMark, itemMark, textRecords, document}
 use Rattle.notes.proofs.Steps.{documentAt, document-end, step-header, step-item, step-blank, step-other, seen-none}
-use Rattle.notes.proofs.Writes.{Puts, puts-start, puts-as, puts-more, puts-all}
+use Rattle.notes_text.proofs.Writes.{Puts, puts-start, puts-as, puts-more, puts-all}
 
 abbrev Inv-loop : tie.InvT-loop
 Inv-loop room₀ s n₀ at₀ room n at = (at ≤ length s + 1) × Puts (seen room₀ 0) (length room₀) room n (documentAt s at) (document s)

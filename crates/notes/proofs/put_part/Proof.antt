@@ -5,7 +5,7 @@ use Rattle.notes.proofs.put_part.Statement.{statement}
 use Rattle.notes.proofs.put_part.Tie as tie
 use Rattle.records.proofs.Tables.{index-small}
 use Rattle.notes_rules.specs.Notes.{textRecords}
-use Rattle.notes.proofs.Writes.{part-written}
+use Rattle.notes.proofs.Steps.{part-written}
 
 add-put-head : tie.Need-add-put-head
 add-put-head c = omega (arith, c .before .index-of .ensures, index-small (c .before .before .before .before .args .b))

@@ -7,10 +7,10 @@ use native.Mathlib.Omega.{arith}
 use borrow.Author.Needs.{needs}
 use denote.Ref.{now}
 use lib.ListN.{length, drop}
-use Rattle.notes.proofs.last_before.Statement.{statement}
-use Rattle.notes.proofs.last_before.Tie as tie
+use Rattle.notes_text.proofs.last_before.Statement.{statement}
+use Rattle.notes_text.proofs.last_before.Tie as tie
 use Rattle.notes_rules.specs.Notes.{ticked}
-use Rattle.notes.proofs.Scans.{last-none, last-found, tickless-more}
+use Rattle.notes_text.proofs.Ticks.{last-none, last-found, tickless-more}
 
 abbrev Inv-loop : tie.InvT-loop
 Inv-loop s to e₀ e = (e ≤ length s) × (ticked (drop e s) ≡ false)

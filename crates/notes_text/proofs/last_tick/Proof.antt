@@ -8,10 +8,10 @@ use borrow.Author.Needs.{needs}
 use borrow.Author.Tests.{not-false}
 use denote.Ref.{now}
 use lib.ListN.{length, drop}
-use Rattle.notes.proofs.last_tick.Statement.{statement}
-use Rattle.notes.proofs.last_tick.Tie as tie
+use Rattle.notes_text.proofs.last_tick.Statement.{statement}
+use Rattle.notes_text.proofs.last_tick.Tie as tie
 use Rattle.notes_rules.specs.Notes.{ticked}
-use Rattle.notes.proofs.Scans.{tickless-end, tickless-block}
+use Rattle.notes_text.proofs.Ticks.{tickless-end, tickless-block}
 
 abbrev Inv-loop : tie.InvT-loop
 Inv-loop s e₀ e = (e ≤ length s) × (ticked (drop e s) ≡ false)

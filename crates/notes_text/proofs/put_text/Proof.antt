@@ -7,14 +7,14 @@ use native.Mathlib.Omega.{arith}
 use borrow.Author.Needs.{needs}
 use denote.Ref.{now}
 use lib.ListN.{length, drop}
-use Rattle.notes.proofs.put_text.Statement.{statement}
-use Rattle.notes.proofs.put_text.Tie as tie
+use Rattle.notes_text.proofs.put_text.Statement.{statement}
+use Rattle.notes_text.proofs.put_text.Tie as tie
 use Rattle.room.specs.Room.{seen}
 use Rattle.records.specs.Stored.{head}
 use Rattle.notes_rules.specs.Notes.{styled, textRecords}
-use Rattle.notes.specs.Parts.{lead}
-use Rattle.notes.proofs.Runs.{recordsAt, records-pair, records-end, records-run, run-moves}
-use Rattle.notes.proofs.Writes.{Puts, puts-start, puts-as, puts-more, puts-all}
+use Rattle.notes_text.specs.Parts.{lead}
+use Rattle.notes_text.proofs.Runs.{recordsAt, records-pair, records-end, records-run, run-moves}
+use Rattle.notes_text.proofs.Writes.{Puts, puts-start, puts-as, puts-more, puts-all}
 
 abbrev Inv-loop : tie.InvT-loop
 Inv-loop room₀ len s last n₀ at₀ within₀ room n at within =

@@ -8,14 +8,14 @@ use native.Mathlib.Omega.{arith}
 use borrow.Author.Needs.{needs}
 use denote.Ref.{now}
 use lib.ListN.{length, drop}
-use Rattle.notes.proofs.put_run.Statement.{statement}
-use Rattle.notes.proofs.put_run.Tie as tie
+use Rattle.notes_text.proofs.put_run.Statement.{statement}
+use Rattle.notes_text.proofs.put_run.Tie as tie
 use Rattle.base.specs.Bytes.{part}
 use Rattle.room.specs.Room.{seen}
 use Rattle.notes_rules.specs.Notes.{styled}
-use Rattle.notes.specs.Parts.{lead}
-use Rattle.notes.proofs.Runs.{styles-differ, styles-same, pair-on, lead-on, lead-other, lead-end}
-use Rattle.notes.proofs.Writes.{Puts, puts-start, puts-as, puts-more, puts-all}
+use Rattle.notes_text.specs.Parts.{lead}
+use Rattle.notes_text.proofs.Runs.{styles-differ, styles-same, pair-on, lead-on, lead-other, lead-end}
+use Rattle.notes_text.proofs.Writes.{Puts, puts-start, puts-as, puts-more, puts-all}
 
 abbrev Inv-loop : tie.InvT-loop
 Inv-loop room₀ len s from literal last n₀ i₀ within₀ room n i within =

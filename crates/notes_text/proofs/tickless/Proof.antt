@@ -8,11 +8,11 @@ use native.Mathlib.Omega.{arith}
 use borrow.Author.Needs.{needs}
 use borrow.Author.Tests.{eqb-true}
 use denote.Ref.{now}
-use Rattle.notes.proofs.tickless.Statement.{statement}
-use Rattle.notes.proofs.tickless.Tie as tie
+use Rattle.notes_text.proofs.tickless.Statement.{statement}
+use Rattle.notes_text.proofs.tickless.Tie as tie
 use Rattle.base.specs.Bytes.{part}
 use Rattle.notes_rules.specs.Notes.{ticked}
-use Rattle.notes.proofs.Scans.{tickless-none, tickless-next, one-none}
+use Rattle.notes_text.proofs.Ticks.{tickless-none, tickless-next, one-none}
 
 abbrev Inv-loop : tie.InvT-loop
 Inv-loop s a found₀ i₀ found i = (i ≤ 64) × (found ≡ 0 → ticked (part s a (a + i)) ≡ false)

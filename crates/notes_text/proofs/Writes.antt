@@ -2,7 +2,7 @@
 use Prim.Native.Nat.{ℕ, _+_, _≤_, _<_}
 use mathlib.Core.Path.{_≡_, refl, sym, ap, _∙_}
 use mathlib.Core.Logic.{⊎-elim}
-use mathlib.Core.List.{List, [], _++_, append-assoc, append-nil}
+use mathlib.Core.List.{List, [], _++_, append-nil}
 use lib.ListN.{length, take}
 use lib.Seq.{length-take-le}
 use native.Mathlib.Omega.{arith}
@@ -10,10 +10,6 @@ use Rattle.base.specs.Result.{Result, gives, _>>=_}
 use Rattle.base.proofs.Choice.{le-or-lt}
 use Rattle.base.proofs.Results.{bind-assoc, bind-same}
 use Rattle.room.specs.Room.{seen, extended}
-use Rattle.records.specs.Records.{index}
-use Rattle.records.specs.Stored.{head, start, end, around}
-use Rattle.records.specs.declared.Block.{Block}
-use Rattle.buffer.proofs.Pasting.{stored-none}
 use Rattle.room.proofs.Laws.{seen-in, seen-out, extended-in, extended-twice}
 
 -- some bytes, and then others
@@ -61,20 +57,3 @@ module _ {old : Result (List ℕ)} {limit : ℕ} {room : List ℕ} {n : ℕ} {x 
   -- none is left
   pub puts-all : x ≡ [] → seen room n ≡ (old >>= extended limit whole)
   puts-all e = sym (wrote-all room n limit (p .long)) ∙ ap (λ (l : List ℕ). seen room n >>= extended limit l) (sym e) ∙ p .same
-
--- a block around some records, its start, they and its end
-pub part-written : (room : List ℕ) (n : ℕ) (b : Block) (x : List ℕ) (i : ℕ) → i ≡ index b → (room₁ room₂ room₃ : List ℕ) (n₁ n₂ n₃ : ℕ)
-    → length room₁ ≡ length room → length room₂ ≡ length room₁ → length room₃ ≡ length room₂
-    → seen room₁ n₁ ≡ (seen room n >>= extended (length room) (head 0 (0x0100 + i)))
-    → seen room₂ n₂ ≡ (seen room₁ n₁ >>= extended (length room₁) x)
-    → seen room₃ n₃ ≡ (seen room₂ n₂ >>= extended (length room₂) (head 0 (0x0200 + i)))
-    → seen room₃ n₃ ≡ (seen room n >>= extended (length room) (around b x))
-unfolding around start end
-part-written room n b x i q room₁ room₂ room₃ n₁ n₂ n₃ l₁ l₂ l₃ e₁ e₂ e₃ =
-    let s : start b ≡ head 0 (0x0100 + i) = stored-none (0x0100 + index b) ∙ ap (λ (k : ℕ). head 0 (0x0100 + k)) (sym q) in
-    let t : end b ≡ head 0 (0x0200 + i) = stored-none (0x0200 + index b) ∙ ap (λ (k : ℕ). head 0 (0x0200 + k)) (sym q) in
-    let p = puts-start room n (start b ++ x ++ end b) in
-    let p₁ = puts-more p room₁ n₁ (head 0 (0x0100 + i)) (x ++ end b) l₁ e₁ (append-assoc (start b) x (end b) ∙ ap (λ (y : List ℕ). y ++ (x ++ end b)) s) in
-    let p₂ = puts-more p₁ room₂ n₂ x (end b) l₂ e₂ refl in
-    let p₃ = puts-more p₂ room₃ n₃ (head 0 (0x0200 + i)) [] l₃ e₃ (t ∙ sym (append-nil (head 0 (0x0200 + i)))) in
-    puts-all p₃ refl
