@@ -139,9 +139,9 @@ static struct fenced documents, rooms, places, lengths, more[3];
 
 /* ---- what was reached -------------------------------------------------------------------------------------------------------- */
 
-enum function { CHECK, CONSOLE, HTML, HTML_STRICT, MARKDOWN, ROFF, WRITE, OPEN, CLOSE, DOC, EM_DOC, NEXT_CHUNK, TABSTOP, PAGE_COUNT, PAGE, HOUSE_SHAPE, FUNCTIONS };
+enum function { CHECK, CONSOLE, HTML, HTML_STRICT, MARKDOWN, ROFF, WRITE, OPEN, CLOSE, DOC, EM_DOC, NEXT_CHUNK, TABSTOP, PAGE_COUNT, PAGE, HOUSE_SHAPE, NOTES, FUNCTIONS };
 static const char *const names[FUNCTIONS] = {"check", "console", "html", "html_strict", "markdown", "roff", "write", "open", "close",
-    "doc", "em_doc", "next_chunk", "tabstop", "page_count", "page", "house_shape"};
+    "doc", "em_doc", "next_chunk", "tabstop", "page_count", "page", "house_shape", "notes"};
 static unsigned long calls[FUNCTIONS], accepts[FUNCTIONS], numbers[MOST_NUMBER + 1], inputs;
 
 enum { MOST_BLOCKS = 8192, OUTCOMES = 16384 };
@@ -516,6 +516,74 @@ static void try_pages(uint64_t *state, const uint8_t *data, size_t n)
     run_page(data, n, height, (size_t)next(state), count);
 }
 
+/* ---- what is made into a room ------------------------------------------------------------------------------------------------ */
+
+struct maker {
+    enum function function;
+    uint32_t (*call)(const uint8_t *given, size_t n, uint8_t *room, size_t room_len, size_t *at);
+};
+
+/* One call that makes bytes of bytes, in both placements; what an accepted one made is left in `text`. */
+static struct answer run_maker(struct maker m, const uint8_t *given, size_t n, size_t room_len)
+{
+    struct answer answers[2];
+    for (int p = ENDS_AT_FENCE; p <= STARTS_AT_FENCE; p++) {
+        const uint8_t *lent = lend(&documents, given, n, p);
+        uint8_t *room = lend_room(&rooms, room_len, p);
+        size_t *at = lend_number(&places, UNWRITTEN, p);
+        if (room_len > 0) {
+            memset(room, BEFORE, room_len);
+        }
+        uint32_t number = m.call(lent, n, room, room_len, at);
+        size_t length = number == 0 ? *at : 0;
+        answers[p] = (struct answer){number, *at};
+        outcome(m.function, number, *at);
+        must(number == 0 ? *at <= room_len : *at <= n, "maker: a length over the room, or a place behind what was given");
+        if (room_len > 0) {
+            must(memcmp(room + length, zeros, room_len - length) == 0, "maker: not 0 behind what was made or after a refusal");
+            must(p == ENDS_AT_FENCE || memcmp(text, room, length) == 0, "maker: two results");
+            memcpy(text, room, length);
+        }
+    }
+    must(answers[0].number == answers[1].number && answers[0].at == answers[1].at, "maker: two answers");
+    return answers[0];
+}
+
+/* In a room of some size, then in one of exactly the length made and in one that is a byte shorter. */
+static struct answer try_maker(struct maker m, const uint8_t *given, size_t n, size_t room_len)
+{
+    static uint8_t kept[MOST_ROOM];
+    struct answer first = run_maker(m, given, n, room_len), again;
+
+    if (first.number != 0) {
+        return first;
+    }
+    memcpy(kept, text, first.at);
+    if (first.at > 0) {
+        again = run_maker(m, given, n, first.at - 1);
+        must(again.number == 13 && again.at == 0, "maker: accepted in a room below its length");
+    }
+    again = run_maker(m, given, n, first.at);
+    must(again.number == 0 && again.at == first.at && memcmp(kept, text, first.at) == 0, "maker: another result in another room");
+    return first;
+}
+
+/* Any bytes as notes: what they make is a document. */
+static void try_notes(uint64_t *state, const uint8_t *data, size_t n)
+{
+    struct maker m = {NOTES, sefgrunn_notes};
+    struct answer got = try_maker(m, data, n, below(state, 3) == 0 ? below(state, 100) : 40000);
+    must((got.number == 1) == (n > MOST_BYTES), "notes: 1");
+    must((got.number == 19) == (n <= MOST_BYTES && !is_utf8(data, n)), "notes: 19");
+    must(got.number == 0 || got.number == 1 || got.number == 13 || got.number == 19, "notes: no number of its own");
+    if (got.number == 0) {
+        static uint8_t document[MOST_BYTES];
+        must(got.at <= MOST_BYTES, "notes: a document over the limit");
+        memcpy(document, text, got.at);
+        must(run_check(document, got.at).number == 0, "notes: no document");
+    }
+}
+
 /* ---- the builder ------------------------------------------------------------------------------------------------------------- */
 
 struct build {
@@ -704,6 +772,9 @@ int LLVMFuzzerTestOneInput(const uint8_t *data, size_t n)
     }
     try_splitter(&state, data, n);
     try_pages(&state, data, n);
+    try_notes(&state, data, n);
+    /* from the first text record's body on there is text that may be notes */
+    try_notes(&state, data + (n < 6 ? n : 6), n < 6 ? 0 : n - 6);
     try_builder(&state, data, n, below(&state, 4) == 0 ? n : record_start(&state, data, n));
     return 0;
 }

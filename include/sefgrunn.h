@@ -35,7 +35,7 @@ extern "C" {
 /* Why a call was refused, and what its place is, in bytes from the document's start. */
 enum sefgrunn_refusal {
     SEFGRUNN_ACCEPTED = 0,
-    SEFGRUNN_TOO_LONG = 1,           /* document over 32,768 bytes; place 0 */
+    SEFGRUNN_TOO_LONG = 1,           /* document, or notes, over 32,768 bytes; place 0 */
     SEFGRUNN_CUT_SHORT = 2,          /* under 6 bytes left, or a body longer than what is left; place of the record */
     SEFGRUNN_UNKNOWN_KIND = 3,       /* unknown kind; place of the record */
     SEFGRUNN_BLOCK_WITH_BODY = 4,    /* block record with a body; place of the record */
@@ -49,6 +49,7 @@ enum sefgrunn_refusal {
     SEFGRUNN_NO_FORM = 11,           /* Meta in HTML or Markdown, TermRef in roff; place of the record */
     /* 12 was a byte over 127 in a roff heading. Headings have been upper-cased beyond ASCII since; the number is not used again. */
     SEFGRUNN_NO_ROOM = 13,           /* no room; place 0 */
+    SEFGRUNN_NOTES_NOT_UTF8 = 19,    /* notes that are not UTF-8; place 0 */
     SEFGRUNN_WRONG_HEIGHT = 20,      /* height of a page outside 1 to 200; place 0 */
     SEFGRUNN_NO_PAGE = 21            /* page 0, or beyond the last; place 0 */
 };
@@ -145,6 +146,14 @@ uint32_t sefgrunn_markdown(const uint8_t *document, size_t n, bool full, uint8_t
  * Without .TH, groff shows no headings and other characters for `-` and backticks. Without .nh, it hyphenates words at line ends, options
  * too: `--certificate` becomes `--cer`, a hyphen that the document does not have, and `tificate` on the next line. */
 uint32_t sefgrunn_roff(const uint8_t *document, size_t n, uint8_t *room, size_t room_len, size_t *at);
+
+/* The document of a writer's notes: lines that end at line feeds. A line starting with a number sign and a space becomes a Header, one
+ * starting with a hyphen and a space an ItemBody, each holding the rest of the line. A line that is empty or all spaces separates. Other
+ * neighbouring lines, joined by line feeds, become one Block. Within each such text backticks pair from the left: what stands between a
+ * pair is Literal, the rest Text, an unpaired last backtick too. An ItemBody then stands outside a list, so a document with one has not
+ * house shape. Reads n bytes at notes. Writes all room_len bytes at room: the document, then zeros; all zeros after a refusal. Writes *at:
+ * the document's length, or 0. Refusals 1 where the notes are over 32,768 bytes, then 19, then 13, also for a document over 32,768 bytes. */
+uint32_t sefgrunn_notes(const uint8_t *notes, size_t n, uint8_t *room, size_t room_len, size_t *at);
 
 /* Pages of a console text for a screen of some rows. Any bytes are a text. A row ends at a line feed, which it has; a non-empty rest is a
  * row. A page is height rows, the last one 1 to height of them; pages joined in order are the text, and an empty text has none. Reads n

@@ -14,7 +14,12 @@ use std::fs;
 use std::path::Path;
 use std::process::ExitCode;
 
+use oracle::notes;
+use oracle::rules::{render, Renderer};
 use oracle::stored::{put_record, Block, Draft};
+
+/// A writer's notes, of which notes.doc is made.
+const NOTES: &str = include_str!("../../samples/notes.md");
 
 /// Short name (or none), long name, metavariable (or none), default (or none), help.
 type Row = (&'static str, &'static str, &'static str, &'static str, &'static str);
@@ -359,6 +364,7 @@ fn samples() -> Vec<(&'static str, Vec<u8>)> {
         ("paths.doc", paths().stored()),
         ("prose.doc", prose().stored()),
         ("nonascii.doc", nonascii().stored()),
+        ("notes.doc", notes::document(NOTES.as_bytes()).expect("they are notes")),
         ("empty.doc", Vec::new()),
         ("a-b.doc", made(|d| d.text("a b"))),
         ("paragraph.doc", made(|d| d.text("a\n\nb"))),
@@ -381,12 +387,29 @@ fn samples() -> Vec<(&'static str, Vec<u8>)> {
     ]
 }
 
+/// The page of the notes in every form: file names and texts.
+fn pages() -> Vec<(&'static str, Vec<u8>)> {
+    let document = notes::document(NOTES.as_bytes()).expect("they are notes");
+    let (full, css) = (true, false);
+    let forms = [
+        ("notes.txt", Renderer::Console { width: 100, full, characters: false }),
+        ("notes.html", Renderer::Html { full, css, strict: false }),
+        ("notes.strict.html", Renderer::Html { full, css, strict: true }),
+        ("notes.markdown", Renderer::Markdown { full }),
+        ("notes.roff", Renderer::Roff),
+    ];
+    forms
+        .into_iter()
+        .map(|(name, form)| (name, render(form, &document, 65_536).outcome.expect("it is a page")))
+        .collect()
+}
+
 fn main() -> ExitCode {
     let Some(directory) = std::env::args_os().nth(1) else {
         eprintln!("usage: samples DIRECTORY");
         return ExitCode::from(2);
     };
-    for (name, document) in samples() {
+    for (name, document) in samples().into_iter().chain(pages()) {
         if let Err(error) = fs::write(Path::new(&directory).join(name), &document) {
             eprintln!("samples: {name}: {error}");
             return ExitCode::FAILURE;
@@ -401,7 +424,7 @@ mod tests {
     use super::*;
     use oracle::cases::{answer, pattern, Call, Case};
     use oracle::kept::confirm;
-    use oracle::rules::{check, Renderer};
+    use oracle::rules::check;
 
     /// Number and place that console, HTML, Markdown and roff give; (0, 0) is acceptance.
     fn answers(document: &[u8]) -> [(u32, u64); 4] {

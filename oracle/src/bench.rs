@@ -300,6 +300,33 @@ pub fn paging() {
     row("page (rust: line feeds)", "60 KB of text", text.len(), Some(times));
 }
 
+/// Notes of 30 KB; the port's console text of the document that they make stands in for the Rust, which
+/// takes in no notes.
+pub fn noting() {
+    let notes = long_notes();
+    let document = crate::notes::taken_in(&notes, MOST_BYTES).expect("it fits");
+    let (mut room, mut shown) = (vec![0; document.len()], vec![0; 65_536]);
+    let times = medians(
+        400,
+        || batch(BATCH, || assert_eq!(port(Call::Notes, &notes, black_box(&mut room)), 0)),
+        || {
+            let call = Call::Render(CONSOLE);
+            batch(BATCH, || assert_eq!(port(call, &document, black_box(&mut shown)), 0))
+        },
+    );
+    assert_eq!(room, document);
+    row("notes (rust: console)", "30 KB of notes", notes.len(), Some(times));
+}
+
+/// Notes of 30 KB, whose document is one.
+fn long_notes() -> Vec<u8> {
+    let part = "# Listening\n\nThe balancer listens on `--port`, and on `--tls-port` where it is\ngiven. \
+        Both may be `0`: any free port is then taken, and printed on start.\n\n- `--port` as it is\n";
+    let pages = "Each server has a weight, which is its share of requests. ".repeat(28);
+    let text = part.to_string() + &pages + "\n\n";
+    text.bytes().cycle().take(30 * 1_024).collect()
+}
+
 /// Roff of headings in ASCII, and of headings whose characters are mapped beyond it.
 pub fn headings() {
     for (what, text) in [
@@ -438,6 +465,11 @@ pub fn growth(document: &[u8]) -> Option<()> {
 #[cfg(test)]
 mod tests {
     use super::*;
+
+    #[test]
+    fn long_notes_are_a_document() {
+        assert!(crate::notes::taken_in(&long_notes(), MOST_BYTES).is_ok());
+    }
 
     /// Pages have about the size asked for and are accepted, from records that are fewer or more.
     #[test]

@@ -1,6 +1,7 @@
 //! One type for a call of any public function and one for its answer, with the list form that
 //! `oracle record` writes.
 
+use crate::notes;
 use crate::pages;
 use crate::rules::{self, Chunk, Operation, PlainCursor, Refusal, Renderer};
 use crate::shape;
@@ -25,6 +26,7 @@ pub enum Call {
         page: u64,
     },
     Shape,
+    Notes,
 }
 
 /// A call with all that it reads and all that its room holds before it.
@@ -32,7 +34,7 @@ pub enum Call {
 pub struct Case {
     pub call: Call,
     /// the document; for the builder the text written or the document added; the body to split; the
-    /// text to page
+    /// text to page; the notes
     pub document: Vec<u8>,
     /// the room before the call: a pattern without zeros, or the builder's document so far and then
     /// such a pattern
@@ -45,7 +47,7 @@ pub struct Case {
 pub struct Answer {
     /// 0 where the call is accepted, else the refusal's number; or which chunk there is
     pub number: u32,
-    /// the refusal's place, or the length of an accepted text; the cursor after a chunk; what settles
+    /// the refusal's place, or the length of an accepted text or of what was made; the cursor after a chunk; what settles
     /// the tabstop; the first record that is not in house shape; 0 for other accepted calls
     pub at: u64,
     /// every byte of the room after the call
@@ -63,6 +65,16 @@ pub fn pattern(start: usize, end: usize) -> impl Iterator<Item = u8> {
     (start..end).map(|i| (i * 31 % 255) as u8 + 1)
 }
 
+/// Puts what was written into a room, and gives its length. 01: 0 beyond what was written, all 0 after a
+/// refusal.
+fn fill(room: &mut [u8], written: Result<Vec<u8>, Refusal>) -> Result<u64, Refusal> {
+    room.fill(0);
+    written.map(|bytes| {
+        room[..bytes.len()].copy_from_slice(&bytes);
+        bytes.len() as u64
+    })
+}
+
 /// The answer by `rules`.
 pub fn answer(case: &Case) -> Answer {
     let mut answer = Answer {
@@ -77,12 +89,7 @@ pub fn answer(case: &Case) -> Answer {
         Call::Check => rules::check(&case.document).map(|_| 0),
         Call::Render(renderer) => {
             let run = rules::render(renderer, &case.document, case.room.len());
-            // 01: 0 beyond what was written, all 0 after a refusal
-            answer.room.fill(0);
-            run.outcome.map(|text| {
-                answer.room[..text.len()].copy_from_slice(&text);
-                text.len() as u64
-            })
+            fill(&mut answer.room, run.outcome)
         }
         Call::Build(operation) => rules::build(operation, &case.room, case.length, &case.document)
             .map(|result| {
@@ -118,6 +125,10 @@ pub fn answer(case: &Case) -> Answer {
             let shape = shape::house_shape(&case.document);
             answer.numbers = vec![(shape == Ok(None)).into()];
             shape.map(|wrong| wrong.unwrap_or(0) as u64)
+        }
+        Call::Notes => {
+            let document = notes::taken_in(&case.document, case.room.len());
+            fill(&mut answer.room, document)
         }
     };
     match outcome {
@@ -159,7 +170,7 @@ fn header(call: Call) -> Option<(u8, u64, bool, bool)> {
         Call::Split => (11, 0, false, false),
         Call::NextChunk { at, .. } => (12, at, false, false),
         Call::Tabstop => (13, 0, false, false),
-        Call::PageCount { .. } | Call::Page { .. } | Call::Shape => return None,
+        Call::PageCount { .. } | Call::Page { .. } | Call::Shape | Call::Notes => return None,
     })
 }
 

@@ -24,10 +24,11 @@ pub enum Subject {
     Tabstop,
     Pages,
     Shape,
+    Notes,
 }
 
 impl Subject {
-    pub const ALL: [(Subject, &'static str); 13] = [
+    pub const ALL: [(Subject, &'static str); 14] = [
         (Subject::Check, "check"),
         (Subject::Console, "console"),
         (Subject::Html, "html"),
@@ -41,11 +42,12 @@ impl Subject {
         (Subject::Tabstop, "tabstop"),
         (Subject::Pages, "pages"),
         (Subject::Shape, "shape"),
+        (Subject::Notes, "notes"),
     ];
 
     /// Whether lists have its calls.
     pub fn is_listed(self) -> bool {
-        !matches!(self, Subject::Pages | Subject::Shape)
+        !matches!(self, Subject::Pages | Subject::Shape | Subject::Notes)
     }
 
     pub fn named(name: &str) -> Option<Subject> {
@@ -1038,6 +1040,82 @@ fn paging(rng: &mut Rng, limits: Limits) -> Case {
     Case { call: Call::Page { height, page }, document: text, room: vec![], length: 0 }
 }
 
+/// Lines of notes: marked, nearly marked, blank, nearly blank, with backticks.
+const LINES: &[&str] = &[
+    "# Title",
+    "# ",
+    "#",
+    "#x",
+    "## x",
+    "# `a` b",
+    "- item",
+    "- ",
+    "-",
+    "-x",
+    "- a `b` c `d",
+    " - x",
+    "",
+    "",
+    "",
+    " ",
+    "   ",
+    "\t",
+    "\r",
+    "\u{A0}",
+    "text",
+    "more text here",
+    "  indented ",
+    "é 漢字 😀",
+    "`code`",
+    "a `b` c",
+    "`",
+    "``",
+    "```",
+    "a``b",
+    "`a``b`",
+    "`a` `b` `",
+    "* star",
+    "\0",
+];
+
+/// Notes: lines of chance, sometimes not UTF-8, too long, or of a document that is.
+fn noting(rng: &mut Rng) -> Case {
+    let mut notes = Vec::new();
+    for _ in 0..rng.below(12) {
+        notes.extend_from_slice(rng.pick(LINES).as_bytes());
+        if !rng.once_in(8) {
+            notes.push(b'\n');
+        }
+    }
+    if rng.once_in(3) && notes.ends_with(b"\n") {
+        notes.pop();
+    }
+    match rng.below(60) {
+        // about the limit of the notes, or of the document: each part costs 12 bytes, each text 6
+        0 => {
+            let line = rng.pick(&["- a\n", "word ", "a `b` ", "a\n\n", "# x\n", "`", "\n"]);
+            let limit = rng.pick(&[MOST_BYTES, MOST_BYTES, MOST_BYTES - 18, 6_000, 24_000]);
+            let size = rng.within(limit - 1, limit + 1);
+            notes.extend(line.bytes().cycle().take(size.saturating_sub(notes.len())));
+        }
+        1..=4 => {
+            let at = rng.below(notes.len() + 1);
+            notes.splice(at..at, rng.pick(NOT_UTF8).iter().copied());
+        }
+        // a text with backticks far apart
+        5..=9 => {
+            for _ in 0..rng.within(1, 6) {
+                notes.extend("word and é ".bytes().cycle().take(11 * rng.below(14)));
+                notes.extend_from_slice(rng.pick(&["`", "``", "x", "\n"]).as_bytes());
+            }
+        }
+        _ => {}
+    }
+    let need = crate::notes::document(&notes).map_or(0, |document| document.len());
+    let room = pattern(0, room_length(rng, need)).collect();
+    Case { call: Call::Notes, document: notes, room, length: 0 }
+}
+
 /// The case of a subject with this seed and index.
 pub fn case(subject: Subject, seed: u64, index: u64, limits: Limits) -> Case {
     let rng = &mut Rng::new(seed, index);
@@ -1054,6 +1132,7 @@ pub fn case(subject: Subject, seed: u64, index: u64, limits: Limits) -> Case {
         Subject::Builder => building(rng, limits),
         Subject::Headings => heading_of_all(rng, index),
         Subject::Pages => paging(rng, limits),
+        Subject::Notes => noting(rng),
         Subject::Split => splitting(rng, limits),
         Subject::NextChunk => stepping(rng, limits),
         _ => rendering(rng, subject, limits),
@@ -1108,6 +1187,7 @@ pub fn owed(subject: Subject) -> &'static [u32] {
         // which chunk it is
         Subject::NextChunk => &[0, 1, 2, 3, 4],
         Subject::Pages => &[0, 20, 21],
+        Subject::Notes => &[0, 1, 13, 19],
     }
 }
 

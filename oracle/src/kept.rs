@@ -10,6 +10,7 @@ use std::sync::Once;
 
 use crate::buffer::{plain_chunks, Color, PlainChunk, Token};
 use crate::cases::{Answer, Call, Case};
+use crate::notes;
 use crate::pages;
 use crate::rules::{self, Chunk, Kind, Operation, Record, Refusal, Renderer};
 use crate::shape;
@@ -485,5 +486,6 @@ pub fn confirm(case: &Case, answer: &Answer) -> Result<(), String> {
             pages::confirm(&case.document, height)
         }
         Call::Shape => shape::confirm(&case.document),
+        Call::Notes => notes::confirm(&case.document),
     }
 }

@@ -5,6 +5,7 @@
 //! - [`rules`]: 01 read again, independently of the kept Rust, with refusals and rooms.
 //! - [`pages`]: 02's pages of a console text.
 //! - [`shape`]: 02's house shape of a document.
+//! - [`notes`]: 02's notes as documents.
 //! - [`kept`]: the kept Rust run beside `rules`; every disagreement is reported.
 //! - [`cases`]: one type for a call of any public function, one for its answer, and their list form.
 //! - [`generate`]: seeded documents, settings, rooms and builder calls.
@@ -27,6 +28,7 @@ pub mod bench;
 pub mod cases;
 pub mod generate;
 pub mod kept;
+pub mod notes;
 pub mod pages;
 pub mod port;
 pub mod rules;

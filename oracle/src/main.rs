@@ -25,6 +25,7 @@ usage: oracle answer console|html|html_strict|markdown|roff
        oracle reach --seed S --cases N
        oracle bench DOCUMENT..
        oracle growth DOCUMENT
+       oracle notes < notes > document
 ";
 
 /// The room and width of 01's program.
@@ -118,6 +119,7 @@ fn main() -> ExitCode {
                 .and_then(|a| run_selfcheck(&a)),
             "bench" => Ok(run_bench(arguments)),
             "growth" => Arguments::read(arguments, &[]).and_then(|a| run_growth(&a)),
+            "notes" => Arguments::read(arguments, &[]).and_then(|a| run_notes(&a)),
             "reach" => Arguments::read(arguments, &["seed", "cases"]).and_then(|a| run_reach(&a)),
             _ => Err("a command is missing or unknown".into()),
         };
@@ -135,6 +137,22 @@ fn write_out(bytes: &[u8]) -> ExitCode {
             ExitCode::FAILURE
         }
     }
+}
+
+/// The document of some notes, or a refusal line.
+fn run_notes(arguments: &Arguments) -> Parsed<ExitCode> {
+    arguments.no_operand()?;
+    let mut notes = Vec::new();
+    if let Err(error) = io::stdin().read_to_end(&mut notes) {
+        eprintln!("oracle: {error}");
+        return Ok(ExitCode::FAILURE);
+    }
+    Ok(match oracle::notes::taken_in(&notes, usize::MAX) {
+        Ok(document) => write_out(&document),
+        Err(refusal) => {
+            write_out(format!("refused {} at {}\n", refusal.number, refusal.place).as_bytes())
+        }
+    })
 }
 
 /// Runs a benchmark on the document at a path; says whether it was read and accepted.
@@ -168,6 +186,7 @@ fn run_bench(documents: impl Iterator<Item = String>) -> ExitCode {
     }
     bench::headings();
     bench::paging();
+    bench::noting();
     bench::building_head();
     for path in &documents {
         fine &= timed(path, bench::building);

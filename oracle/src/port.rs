@@ -166,6 +166,7 @@ pub(crate) fn number(call: Call, document: &[u8], room: &mut [u8], stored: &mut 
                 *at = 0;
                 c::sefgrunn_page(d, n, height as usize, page as usize, first, second)
             }
+            Call::Notes => c::sefgrunn_notes(d, n, r, r_len, at),
             Call::Shape => {
                 let mut shaped = u32::MAX;
                 let number = c::sefgrunn_house_shape(d, n, &mut shaped, at);

@@ -99,7 +99,7 @@ fn refuse(got: &mut Answer, case: &Case, refusal: Refusal) {
     }
     (got.number, got.at) = (refusal.number, refusal.place as u64);
     match case.call {
-        Call::Render(_) => got.room.fill(0),
+        Call::Render(_) | Call::Notes => got.room.fill(0),
         _ => (got.room, got.length) = (case.room.clone(), case.length),
     }
     got.numbers.fill(0);

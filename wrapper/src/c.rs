@@ -66,6 +66,13 @@ extern "C" {
         room_len: usize,
         at: *mut usize,
     ) -> u32;
+    pub fn sefgrunn_notes(
+        notes: *const u8,
+        n: usize,
+        room: *mut u8,
+        room_len: usize,
+        at: *mut usize,
+    ) -> u32;
     pub fn sefgrunn_page_count(text: *const u8, n: usize, height: usize, count: *mut usize) -> u32;
     pub fn sefgrunn_page(
         text: *const u8,

@@ -46,7 +46,7 @@ const FIRST_ROOM: usize = 4_096;
 #[derive(Debug, Clone, Copy, PartialEq, Eq, Hash, PartialOrd, Ord)]
 #[repr(u32)]
 pub enum Number {
-    /// The document is over 32,768 bytes. Place 0.
+    /// The document, or notes, are over 32,768 bytes. Place 0.
     TooLong = 1,
     /// Under 6 bytes are left, or a body is longer than what is left. Place of the record.
     CutShort = 2,
@@ -72,6 +72,8 @@ pub enum Number {
     // 12 is not used again.
     /// The room is too small. Place 0.
     NoRoom = 13,
+    /// Notes are not UTF-8. Place 0.
+    NotesNotUtf8 = 19,
     /// The height of a page is outside 1 to 200. Place 0.
     WrongHeight = 20,
     /// A page is 0 or beyond the last. Place 0.
@@ -80,7 +82,7 @@ pub enum Number {
 
 impl Number {
     /// All of them, in order.
-    pub const ALL: [Number; 14] = [
+    pub const ALL: [Number; 15] = [
         Number::TooLong,
         Number::CutShort,
         Number::UnknownKind,
@@ -93,6 +95,7 @@ impl Number {
         Number::BeyondMargin,
         Number::NoForm,
         Number::NoRoom,
+        Number::NotesNotUtf8,
         Number::WrongHeight,
         Number::NoPage,
     ];
@@ -116,6 +119,7 @@ impl Number {
             Number::BeyondMargin => "text is more than 50 columns before its margin",
             Number::NoForm => "this form has no such block",
             Number::NoRoom => "no room",
+            Number::NotesNotUtf8 => "notes are not UTF-8",
             Number::WrongHeight => "the height of a page is outside 1 to 200",
             Number::NoPage => "there is no such page",
         }
@@ -371,6 +375,39 @@ pub fn markdown_string(document: &[u8], full: bool) -> Result<String, Refusal> {
 /// [`MOST_ROOM`] is too small.
 pub fn roff_string(document: &[u8]) -> Result<String, Refusal> {
     grown(|room| roff(document, room).map(str::len))
+}
+
+// ---------------------------------------------------------------------------------------------
+// Notes
+
+/// The document of a writer's notes, in a room. A line starting `# ` becomes a Header, one starting
+/// `- ` an ItemBody, each holding the rest of the line. A line that is empty or all spaces separates.
+/// Other neighbouring lines, joined by line feeds, become one Block. Within each such text backticks
+/// pair from the left: what stands between a pair is Literal, the rest Text, an unpaired last backtick
+/// too. Refusals 1 for notes over 32,768 bytes, then 19, then 13, also for a document over 32,768 bytes.
+///
+/// Every byte of the room is written: the document, then zeros; only zeros where the call is refused.
+pub fn notes<'r>(notes: &[u8], room: &'r mut [u8]) -> Result<&'r [u8], Refusal> {
+    let (number, at) = linked::notes(notes, room);
+    accepted(number, at)?;
+    Ok(&room[..at])
+}
+
+/// [`notes`] as a `Vec`.
+///
+/// ```
+/// # fn main() -> Result<(), sefgrunn::Refusal> {
+/// let document = sefgrunn::notes_document("# Ports\n\nSee `--port`.\n")?;
+/// let markdown = sefgrunn::markdown_string(&document, true)?;
+/// assert_eq!(markdown, "# Ports\n\nSee **`--port`**.\n");
+/// # Ok(())
+/// # }
+/// ```
+pub fn notes_document(notes: impl AsRef<[u8]>) -> Result<Vec<u8>, Refusal> {
+    let mut room = vec![0; MOST_BYTES];
+    let length = self::notes(notes.as_ref(), &mut room)?.len();
+    room.truncate(length);
+    Ok(room)
 }
 
 // ---------------------------------------------------------------------------------------------
@@ -645,7 +682,7 @@ mod tests {
     #[test]
     fn numbers_are_those_of_the_header() {
         let numbers: Vec<u32> = Number::ALL.map(Number::get).to_vec();
-        assert_eq!(numbers, [1, 2, 3, 4, 5, 6, 7, 8, 9, 10, 11, 13, 20, 21]);
+        assert_eq!(numbers, [1, 2, 3, 4, 5, 6, 7, 8, 9, 10, 11, 13, 19, 20, 21]);
         for number in Number::ALL {
             assert_eq!(accepted(number.get(), 7), Err(Refusal { number, place: 7 }));
         }

@@ -104,6 +104,13 @@ pub fn tabstop(document: &[u8]) -> (u32, usize, usize) {
     (number, tabstop, at)
 }
 
+pub fn notes(notes: &[u8], room: &mut [u8]) -> (u32, usize) {
+    let (d, n, r, len, mut at) = parts(notes, room);
+    // SAFETY: see above.
+    let number = unsafe { c::sefgrunn_notes(d, n, r, len, &mut at) };
+    (number, at)
+}
+
 /// The number and the count.
 pub fn page_count(text: &[u8], height: usize) -> (u32, usize) {
     let mut count = 0;

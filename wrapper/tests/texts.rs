@@ -197,6 +197,30 @@ fn chunks_and_their_places() {
     assert_eq!(sefgrunn::chunks(b"").next(), None);
 }
 
+/// Notes make the document that the builder makes, in a room of its length and of no less.
+#[test]
+fn notes_as_a_document() {
+    let expected = made(|b| {
+        b.open(Block::Header)?.write(Style::Text, "Ports")?.close(Block::Header)?;
+        b.open(Block::Block)?.write(Style::Text, "a ")?.write(Style::Literal, "b\nc")?;
+        b.write(Style::Text, " `d")?.close(Block::Block)?;
+        b.open(Block::ItemBody)?.close(Block::ItemBody)
+    });
+    let notes = "# Ports\n  \na `b\nc` `d\n- ";
+    assert_eq!(sefgrunn::notes_document(notes).unwrap(), expected);
+    let mut room = vec![0xEE; expected.len() + 2];
+    assert_eq!(sefgrunn::notes(notes.as_bytes(), &mut room).unwrap(), expected);
+    assert!(room.ends_with(&[0, 0]));
+    let mut room = vec![0xEE; expected.len() - 1];
+    let at = |number| Refusal { number, place: 0 };
+    assert_eq!(sefgrunn::notes(notes.as_bytes(), &mut room), Err(at(Number::NoRoom)));
+    assert!(room.iter().all(|&byte| byte == 0));
+    assert_eq!(sefgrunn::notes_document(b"\xC3"), Err(at(Number::NotesNotUtf8)));
+    assert_eq!(sefgrunn::notes_document([0xC3; 32_769]), Err(at(Number::TooLong)));
+    assert_eq!(sefgrunn::notes_document("a".repeat(32_751)), Err(at(Number::NoRoom)));
+    assert_eq!(sefgrunn::notes_document("").unwrap(), b"");
+}
+
 /// Pages joined are the text, whichever way they are asked for.
 #[test]
 fn pages_of_a_text() {

@@ -10,6 +10,8 @@ ghost use Rattle.console_rules.specs.Console.{tabstopIn, settledIn, console};
 ghost use Rattle.console.specs.Answers.{Demand3};
 ghost use Rattle.buffer.specs.Answers.{builtAs, kept};
 ghost use Rattle.buffer.specs.Builder.{addsDoc, addsEmDoc};
+ghost use Rattle.notes_rules.specs.Notes.{takenIn};
+ghost use Rattle.notes_rules.specs.Laws.{Faithful};
 ghost use Rattle.next_chunk.specs.NextChunk.{nextChunk};
 ghost use Rattle.pages.specs.Pages.{pageOf, pageStart, pageCount, shown};
 ghost use Rattle.html_rules.specs.Html.{html};
@@ -248,6 +250,18 @@ pub extern "C" fn sefgrunn_roff(document: &[u8], room: &mut [u8], at: &mut usize
 {
     let page = manpage::render_roff(document, room);
     told(page, at)
+}
+
+// The document that Markdown notes stand for.
+#[no_mangle]
+pub extern "C" fn sefgrunn_notes(notes: &[u8], room: &mut [u8], at: &mut usize) -> u32
+    ensures number { λ r. ⌜ r ≡ numberOf (takenIn (length (now (room .entry))) (now (notes .entry))) ⌝ }
+    ensures at { λ _. ⌜ now (at .exit) ≡ lengthOrPlace (measured (takenIn (length (now (room .entry))) (now (notes .entry)))) ⌝ }
+    ensures room { λ _. ⌜ now (room .exit) ≡ filled (length (now (room .entry))) (takenIn (length (now (room .entry))) (now (notes .entry))) ⌝ }
+    ensures law { λ _. ⌜ Faithful (now (notes .entry)) (takenIn (length (now (room .entry))) (now (notes .entry))) ⌝ }
+{
+    let answer = notes::take_in(notes, room);
+    told(answer, at)
 }
 
 // How many pages a text has at a height; 0 after a refusal.

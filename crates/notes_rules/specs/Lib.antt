@@ -1,0 +1,3 @@
+pub mod Notes
+pub mod Without
+pub mod Laws
