@@ -66,7 +66,7 @@ fits-whole : (s : List ℕ) → 6 + size s ≤ length s → fits s ≡ true
 unfolding fits
 fits-whole s h = and-both (le-leb 6 (length s) (omega arith)) (le-leb (size s) (length s - 6) (omega arith))
 
-shared-first : {h text : List ℕ} {hs : List (List ℕ)} → Shared text (h ∷ hs) → (length h ≡ 6) × (size h ≤ length text) × Shared (drop (size h) text) hs
+pub shared-first : {h text : List ℕ} {hs : List (List ℕ)} → Shared text (h ∷ hs) → (length h ≡ 6) × (size h ≤ length text) × Shared (drop (size h) text) hs
 shared-first (Shared.more six l w) = (six, l, w)
 
 shared-whole : (s : List ℕ) (p pass : ℕ) → pass ≤ length s → Shared (joined (tokens p pass s)) (cut size pass s) → records (joined (tokens p pass s)) (cut size pass s) ≡ drop pass s

@@ -1,0 +1,54 @@
+use mathlib.Core.Path.{_∙_, subst}
+use mathlib.Core.List.{[]}
+use Prim.Native.Nat.{ℕ}
+use borrow.Author.Needs.{needs}
+use denote.Ref.{now}
+use Rattle.joined.proofs.joined_into.Statement.{statement}
+use Rattle.joined.proofs.joined_into.Tie as tie
+use Rattle.document.proofs.Walks.{verdict-gives, verdict-refused}
+use Rattle.renderer.specs.Rendered.{Inside}
+use Rattle.joined.proofs.Answering.{join-refused, join-parts}
+
+put-heads-requires : tie.Need-put-heads-requires
+put-heads-requires c κs =
+    verdict-gives [] (c .before .before .before .before .before .before .before .before .before .before .before .before .check .ensures)
+    (c .before .before .before .before .before .before .before .before .before .before .enum-told .given .1)
+
+returns : tie.Need-returns
+returns c = (
+  join-refused (now (c .before .before .before .before .before .before .args .document)) _
+      (verdict-refused [] (c .before .before .before .check .ensures) (c .before .verdict .given .1)),
+  tt,
+)
+
+returns-2 : tie.Need-returns-2
+returns-2 c =
+    let e = verdict-gives []
+    (c .before .before .before .before .before .before .before .before .before .before .before .before .before .before .before .before .before .check .ensures) (c .before .before .before .before .before .before .before .before .before .before .before .before .before .before .before .enum-told .given .1) in
+    let l = c .before .before .before .before .before .before .before .before .before .before .before .before .put-four .kept .0 in
+    let m = c .before .before .before .before .before .before .before .before .put-bodies .kept .1 .0 in (
+      c .answer .ensures .0 ∙ join-parts _
+          (now (c .before .before .before .before .before .before .before .before .before .before .before .before .before .before .before .before .before .before .before .before .args .room)) (c .before .before .before .before .before .before .before .before .before .before .before .before .put-four .last .0) (c .before .before .before .before .before .before .before .before .put-bodies .last .1 .0) (c .before .before .before .before .put-heads .last .1 .0) (c .before .before .before .before .before .before .before .before .before .before .before .before .before .before .text-length .result)
+          (c .before .before .before .before .before .before .before .before .before .before .before .before .put-four .result)
+          (c .before .before .before .before .before .before .before .before .put-bodies .result) (c .before .before .before .before .put-heads .result) e
+          (c .before .before .before .before .before .before .before .before .before .before .before .before .before .before .text-length .ensures) l m
+          (c .before .before .before .before .before .before .before .before .before .before .before .before .put-four .ensures)
+          (c .before .before .before .before .before .before .before .before .put-bodies .ensures) (c .before .before .before .before .put-heads .ensures),
+      subst (λ (n : ℕ). Inside n (c .answer .result)) (c .before .before .before .before .put-heads .kept .1 .0 ∙ m ∙ l) (c .answer .ensures .1),
+    )
+
+pub joined-into-spec : {M : Type 1} → statement M
+joined-into-spec =
+    tie.close
+    (tie.spec
+    (λ c κs. search needs)
+    (λ c. search needs)
+    (λ c. search needs)
+    (λ c κs. search needs)
+    (λ c κs. search needs)
+    (λ c κs. search needs)
+    put-heads-requires
+    (λ c κs. search needs)
+    returns
+    (λ c. search needs)
+    returns-2)

@@ -1,0 +1,51 @@
+use mathlib.Core.Path.{refl}
+use Prim.Native.Nat.{_-_}
+use native.Mathlib.Omega.{arith}
+use borrow.Author.Needs.{needs}
+use denote.Ref.{now}
+use lib.ListN.{length}
+use Rattle.joined.proofs.put_bodies.Statement.{statement}
+use Rattle.joined.proofs.put_bodies.Tie as tie
+use Rattle.records.specs.Records.{tokensFrom, joined, textOf}
+use Rattle.joined.proofs.Writing.{Putting, putting-start, putting-more, putting-done, bodies-step, bodies-end}
+
+abbrev Inv-loop : tie.InvT-loop
+Inv-loop document room₀ len to₀ at₀ room to at = Putting room₀ len (textOf document) (joined (tokensFrom document at)) room to
+
+abbrev μ-loop : tie.MeasureT-loop
+μ-loop document room₀ len to₀ at₀ room to at = length document - at
+
+loop-holds : tie.Need-loop-holds Inv-loop μ-loop
+loop-holds c = unfold textOf in putting-start (now (c .before .before .args .room)) (c .before .before .args .len) refl
+
+loop-less : tie.Need-loop-less Inv-loop μ-loop
+loop-less c =
+    let r = c .before .before .before .before .before .record-at .ensures in omega
+    (arith, r .low (c .before .before .before .before .before .before .loop-test .taken), r .order, r .high)
+
+loop-again : tie.Need-loop-again Inv-loop μ-loop
+loop-again c =
+    putting-more _ (c .before .before .put-all .last .0) (c .before .before .put-all .result)
+    (c .before .before .before .before .before .before .before .loop .inv)
+    (bodies-step (c .before .before .before .before .before .record-at .ensures) (c .before .before .before .before .before .before .loop-test .taken))
+    (c .before .before .before .get .ensures)
+    (c .before .before .put-all .kept .0) (c .before .before .put-all .ensures)
+
+returns : tie.Need-returns Inv-loop μ-loop
+returns c =
+    putting-done (c .before .loop .inv) (bodies-end (now (c .before .before .before .before .args .document)) (c .before .loop .at) (c .loop-test .left))
+
+pub put-bodies-spec : {M : Type 1} → statement M
+put-bodies-spec =
+    tie.close
+    (tie.spec
+    Inv-loop
+    μ-loop
+    loop-holds
+    (λ c κs. search needs)
+    (λ c κs. search needs)
+    (λ c κs. search needs)
+    loop-less
+    loop-again
+    (λ c. search needs)
+    returns)
