@@ -17,6 +17,7 @@ ghost use Rattle.pages.specs.Pages.{pageOf, pageStart, pageCount, shown};
 ghost use Rattle.html_rules.specs.Html.{html};
 ghost use Rattle.html_rules.specs.Markdown.{markdown};
 ghost use Rattle.manpage.specs.Roff.{roff};
+ghost use Rattle.joined_rules.specs.Joined.{checkJoined, joinsInto, unjoinsInto};
 ghost use Rattle.sefgrunn.specs.HouseShape.{ShapeTold};
 ghost use Rattle.sefgrunn.specs.Numbers.{numberOf, placeOf, lengthOrPlace, orZero, lengthAfter, told, measureAsked, settings, writesIn, opensIn, closesIn};
 use buffer::Built;
@@ -188,6 +189,41 @@ pub extern "C" fn sefgrunn_house_shape(document: &[u8], shaped: &mut u32, place:
             *shaped = 0;
             refused(a, place)
         }
+    }
+}
+
+// A document into the joined form, or 1 to 8, or 13.
+#[no_mangle]
+pub extern "C" fn sefgrunn_join(document: &[u8], room: &mut [u8], at: &mut usize) -> u32
+    ensures number { λ r. ⌜ r ≡ numberOf (joinsInto (length (now (room .entry))) (now (document .entry))) ⌝ }
+    ensures at { λ _. ⌜ now (at .exit) ≡ lengthOrPlace (measured (joinsInto (length (now (room .entry))) (now (document .entry)))) ⌝ }
+    ensures room { λ _. ⌜ now (room .exit) ≡ filled (length (now (room .entry))) (joinsInto (length (now (room .entry))) (now (document .entry))) ⌝ }
+{
+    let moved = joined::join(document, room);
+    told(moved, at)
+}
+
+// A joined form back into a document, or 1, 17, 2 to 8 and 18, or 13.
+#[no_mangle]
+pub extern "C" fn sefgrunn_unjoin(joined: &[u8], room: &mut [u8], at: &mut usize) -> u32
+    ensures number { λ r. ⌜ r ≡ numberOf (unjoinsInto (length (now (room .entry))) (now (joined .entry))) ⌝ }
+    ensures at { λ _. ⌜ now (at .exit) ≡ lengthOrPlace (measured (unjoinsInto (length (now (room .entry))) (now (joined .entry)))) ⌝ }
+    ensures room { λ _. ⌜ now (room .exit) ≡ filled (length (now (room .entry))) (unjoinsInto (length (now (room .entry))) (now (joined .entry))) ⌝ }
+{
+    let moved = joined::unjoin(joined, room);
+    told(moved, at)
+}
+
+// Refusals 1, 17, 2 to 8 and 18 of a joined form; `place` is the refusal's, and 0 where it is accepted.
+#[no_mangle]
+pub extern "C" fn sefgrunn_joined_check(joined: &[u8], place: &mut usize) -> u32
+    ensures number { λ r. ⌜ r ≡ numberOf (checkJoined (now (joined .entry))) ⌝ }
+    ensures place { λ _. ⌜ now (place .exit) ≡ placeOf (checkJoined (now (joined .entry))) ⌝ }
+{
+    let answer = joined_check::check(joined);
+    match answer {
+        Checked::Accepted => accepted(place),
+        Checked::Refused(a) => refused(a, place),
     }
 }
 

@@ -1,3 +1,5 @@
+-- The loop over the records: the record at `q` stands at `at` in the document, its text starts at `from`, and from there on the rules find what they find
+-- from the start. The bytes from `q` on fall.
 use mathlib.Core.Path.{ap, _∙_}
 use Prim.Native.Nat.{ℕ, _+_, _-_}
 use native.Mathlib.Omega.{arith}

@@ -23,19 +23,19 @@ returns c = (
 
 returns-2 : tie.Need-returns-2
 returns-2 c =
-    let e = verdict-gives []
-    (c .before .before .before .before .before .before .before .before .before .before .before .before .before .before .before .before .before .check .ensures) (c .before .before .before .before .before .before .before .before .before .before .before .before .before .before .before .enum-told .given .1) in
-    let l = c .before .before .before .before .before .before .before .before .before .before .before .before .put-four .kept .0 in
-    let m = c .before .before .before .before .before .before .before .before .put-bodies .kept .1 .0 in (
-      c .answer .ensures .0 ∙ join-parts _
-          (now (c .before .before .before .before .before .before .before .before .before .before .before .before .before .before .before .before .before .before .before .before .args .room)) (c .before .before .before .before .before .before .before .before .before .before .before .before .put-four .last .0) (c .before .before .before .before .before .before .before .before .put-bodies .last .1 .0) (c .before .before .before .before .put-heads .last .1 .0) (c .before .before .before .before .before .before .before .before .before .before .before .before .before .before .text-length .result)
-          (c .before .before .before .before .before .before .before .before .before .before .before .before .put-four .result)
-          (c .before .before .before .before .before .before .before .before .put-bodies .result) (c .before .before .before .before .put-heads .result) e
-          (c .before .before .before .before .before .before .before .before .before .before .before .before .before .before .text-length .ensures) l m
-          (c .before .before .before .before .before .before .before .before .before .before .before .before .put-four .ensures)
-          (c .before .before .before .before .before .before .before .before .put-bodies .ensures) (c .before .before .before .before .put-heads .ensures),
-      subst (λ (n : ℕ). Inside n (c .answer .result)) (c .before .before .before .before .put-heads .kept .1 .0 ∙ m ∙ l) (c .answer .ensures .1),
-    )
+    let heads = c .before .before .before .before in
+    let bodies = heads .before .before .before .before in
+    let four = bodies .before .before .before .before in
+    let count = four .before .before in
+    let told = count .before in
+    let verdict = told .before .before in
+    let e = verdict-gives [] (verdict .check .ensures) (told .enum-told .given .1) in
+    let l = four .put-four .kept .0 in
+    let m = bodies .put-bodies .kept .1 .0 in
+    let same = join-parts _ (now (verdict .before .before .before .args .room)) (four .put-four .last .0) (bodies .put-bodies .last .1 .0)
+    (heads .put-heads .last .1 .0) (count .text-length .result) (four .put-four .result) (bodies .put-bodies .result) (heads .put-heads .result)
+    e (count .text-length .ensures) l m (four .put-four .ensures) (bodies .put-bodies .ensures) (heads .put-heads .ensures) in
+    (c .answer .ensures .0 ∙ same, subst (λ (n : ℕ). Inside n (c .answer .result)) (heads .put-heads .kept .1 .0 ∙ m ∙ l) (c .answer .ensures .1))
 
 pub joined-into-spec : {M : Type 1} → statement M
 joined-into-spec =

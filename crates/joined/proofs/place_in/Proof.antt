@@ -1,3 +1,5 @@
+-- The loop over the records: the record at `q` stands at `at` in the document, and from there on the rules find what they find from the start. The bytes
+-- from `q` on fall.
 use Prim.Native.Nat.{_-_}
 use native.Mathlib.Omega.{arith}
 use borrow.Author.Needs.{needs}

@@ -1,3 +1,5 @@
+-- The loop over the records: the first bytes of those up to `at` were written, the rest of them is left to write, and the document is accepted from
+-- `at` on. The bytes from `at` on fall.
 use mathlib.Core.Path.{refl}
 use Prim.Native.Nat.{_-_}
 use native.Mathlib.Omega.{arith}

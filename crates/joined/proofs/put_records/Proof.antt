@@ -1,3 +1,5 @@
+-- The loop over the records: those before `at` were written with their shares of the text, and the text from `from` to `to` is left for the others, which
+-- are left to write. The bytes from `at` on fall.
 use mathlib.Core.Path.{refl}
 use Prim.Native.Nat.{_-_}
 use native.Mathlib.Omega.{arith}

@@ -1,3 +1,4 @@
+-- The loop over the records: so many bytes of text stand before the record at `at`. The bytes from `at` on fall.
 use Prim.Native.Nat.{_-_}
 use native.Mathlib.Omega.{arith}
 use borrow.Author.Needs.{needs}

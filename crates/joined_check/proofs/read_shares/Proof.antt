@@ -29,21 +29,23 @@ accept-requires c κs = let w = c .before .before .before .before .before .befor
 
 returns-2 : tie.Need-returns-2 Inv-loop μ-loop
 returns-2 c =
-    let q = turn-refused _ (c .before .before .before .before .accept .ensures .0) (c .before .turn2 .given .1) in
-    sym (reading-refused (c .before .before .before .before .before .before .before .before .before .before .before .loop .inv)
-    (c .before .before .before .before .before .before .before .before .before .before .loop-test .taken)
-    (c .before .before .before .before .before .before .before .before .before .if1 .left)
-    (c .before .before .before .before .before .before .before .before .four2 .ensures .0)
-    (c .before .before .before .before .before .before .kind-of .ensures) (c .before .before .before .before .before .before .before .two .ensures .0) q)
+    let after = c .before .before .before .before in
+    let kind = after .before .before in
+    let size = kind .before .before in
+    let test = size .before .before in
+    let q = turn-refused _ (after .accept .ensures .0) (c .before .turn2 .given .1) in
+    sym (reading-refused (test .before .loop .inv) (test .loop-test .taken) (size .before .if1 .left) (size .four2 .ensures .0) (kind .kind-of .ensures)
+    (kind .before .two .ensures .0) q)
 
 add-from : tie.Need-add-from Inv-loop μ-loop
 add-from c =
-    let w = c .before .before .before .before .before .before .before .before .before .before .before .loop .inv in
-    let q = turn-open _ (c .before .before .before .before .accept .ensures .0) (c .before .turn .given .1) in
-    let f = reading-fits w (c .before .before .before .before .before .before .before .before .before .before .loop-test .taken)
-    (c .before .before .before .before .before .before .before .before .before .if1 .left)
-    (c .before .before .before .before .before .before .before .before .four2 .ensures .0)
-    (c .before .before .before .before .before .before .kind-of .ensures) (c .before .before .before .before .before .before .before .two .ensures .0) q in
+    let after = c .before .before .before .before in
+    let kind = after .before .before in
+    let size = kind .before .before in
+    let test = size .before .before in
+    let w = test .before .loop .inv in
+    let q = turn-open _ (after .accept .ensures .0) (c .before .turn .given .1) in
+    let f = reading-fits w (test .loop-test .taken) (size .before .if1 .left) (size .four2 .ensures .0) (kind .kind-of .ensures) (kind .before .two .ensures .0) q in
     omega (arith, f, w .order, w .behind, w .near)
 
 loop-less : tie.Need-loop-less Inv-loop μ-loop
@@ -51,14 +53,14 @@ loop-less c = omega (arith, c .before .before .before .before .before .before .b
 
 loop-again : tie.Need-loop-again Inv-loop μ-loop
 loop-again c =
-    let q = turn-open _ (c .before .before .before .before .accept .ensures .0) (c .before .turn .given .1) in
-    let d = turn-shallow (c .before .before .before .before .accept .ensures .1) (c .before .turn .given .1) in
-    reading-next (c .before .before .before .before .before .before .before .before .before .before .before .loop .inv)
-    (c .before .before .before .before .before .before .before .before .before .before .loop-test .taken)
-    (c .before .before .before .before .before .before .before .before .before .if1 .left)
-    (c .before .before .before .before .before .before .before .before .four2 .ensures .0)
-    (c .before .before .before .before .before .before .kind-of .ensures) (c .before .before .before .before .before .before .before .two .ensures .0) _ _
-    (omega arith) d q
+    let after = c .before .before .before .before in
+    let kind = after .before .before in
+    let size = kind .before .before in
+    let test = size .before .before in
+    let q = turn-open _ (after .accept .ensures .0) (c .before .turn .given .1) in
+    let d = turn-shallow (after .accept .ensures .1) (c .before .turn .given .1) in
+    reading-next (test .before .loop .inv) (test .loop-test .taken) (size .before .if1 .left) (size .four2 .ensures .0) (kind .kind-of .ensures)
+    (kind .before .two .ensures .0) _ _ (omega arith) d q
 
 returns-3 : tie.Need-returns-3 Inv-loop μ-loop
 returns-3 c = sym (reading-open (c .before .before .loop .inv) (c .before .loop-test .left) (c .if2 .taken))
