@@ -71,7 +71,8 @@ body-alike R P full f g h (c ∷ cs) (Each.also k ks) s =
 
 -- the same kind and the same body, the places aside
 pub data Twin : Token → Token → Type 0 where
-  twin : (p q a b : ℕ) (k : Kind) (x : List ℕ) → Twin (record { place = p; start = a; kind = k; body = x }) (record { place = q; start = b; kind = k; body = x })
+  twin : (p q a b : ℕ) (k : Kind) (x : List ℕ)
+      → Twin (record { place = p; start = a; kind = k; body = x }) (record { place = q; start = b; kind = k; body = x })
 
 -- two lists whose records are so one by one
 pub data Twins : List Token → List Token → Type 0 where

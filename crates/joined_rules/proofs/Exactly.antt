@@ -17,7 +17,8 @@ use Rattle.joined_rules.specs.Joined.{cut, concat, headsOf, joinedForm, 
 use Rattle.joined_rules.proofs.Cut.{cut-some}
 use Rattle.joined_rules.proofs.Heads.{cut-plain, size-take}
 use Rattle.joined_rules.proofs.Moves.{Shared, body, body-length, first-whole}
-use Rattle.joined_rules.proofs.Forms.{form-length, form-text, form-heads, form-unjoined, checkJoined-gives, joined-shared, unjoined-accepted, joined-accepted}
+use Rattle.joined_rules.proofs.Forms.{form-length, form-text, form-heads, form-unjoined, checkJoined-gives, joined-shared, unjoined-accepted}
+use Rattle.joined_rules.proofs.Forms.{joined-accepted}
 
 -- All first bytes but the last are six
 
@@ -69,7 +70,8 @@ fits-whole s h = and-both (le-leb 6 (length s) (omega arith)) (le-leb (size s) (
 pub shared-first : {h text : List ℕ} {hs : List (List ℕ)} → Shared text (h ∷ hs) → (length h ≡ 6) × (size h ≤ length text) × Shared (drop (size h) text) hs
 shared-first (Shared.more six l w) = (six, l, w)
 
-shared-whole : (s : List ℕ) (p pass : ℕ) → pass ≤ length s → Shared (joined (tokens p pass s)) (cut size pass s) → records (joined (tokens p pass s)) (cut size pass s) ≡ drop pass s
+shared-whole : (s : List ℕ) (p pass : ℕ) → pass ≤ length s → Shared (joined (tokens p pass s)) (cut size pass s)
+    → records (joined (tokens p pass s)) (cut size pass s) ≡ drop pass s
 unfolding tokens cut joined tokenAt body records
 shared-whole [] p zero l w = refl
 shared-whole [] p (suc pass) l w = let z : ⊥ = omega arith in absurd z
@@ -83,11 +85,15 @@ shared-whole (b ∷ s) p zero l w =
     ⊎-elim
     (λ (h : 6 + n ≤ length (b ∷ s)).
     let a = fits-whole (b ∷ s) h in
-    let v : Shared y hs = subst (λ (x : List ℕ). Shared x hs) (drop-at (take n (drop 6 (b ∷ s))) y (size (take 6 (b ∷ s))) (body-length (b ∷ s) y hs a ∙ sym (size-take (b ∷ s)))) (f .2) in
+    let e = drop-at (take n (drop 6 (b ∷ s))) y (size (take 6 (b ∷ s))) (body-length (b ∷ s) y hs a ∙ sym (size-take (b ∷ s))) in
+    let v : Shared y hs = subst (λ (x : List ℕ). Shared x hs) e (f .2) in
     first-whole (b ∷ s) y hs a (ih (omega arith) v ∙ sym (drop-past n b s)))
     (λ (h : length (b ∷ s) < 6 + n).
     let q : y ≡ [] = ap joined (tokens-past s (p + 1) (5 + n) (omega arith)) in
-    let z : ⊥ = omega (arith, f .0, f .1, length-take 6 (b ∷ s), size-take (b ∷ s), length-append (take n (drop 6 (b ∷ s))) y, ap length q, length-take n (drop 6 (b ∷ s)), length-drop 6 (b ∷ s)) in absurd z)
+    let x = drop 6 (b ∷ s) in
+    let l = length-drop 6 (b ∷ s) in
+    let z : ⊥ = omega (arith, f .0, f .1, length-take 6 (b ∷ s), size-take (b ∷ s), length-append (take n x) y, ap length q, length-take n x, l) in
+    absurd z)
     (le-or-lt (6 + n) (length (b ∷ s)))
 
 -- The law
@@ -111,5 +117,6 @@ module _ (d x : List ℕ) (e : checkJoined (joinedForm d) ≡ gives x) where
       ap check (sym (form-unjoined (textOf d) (headsOf d) few regular ∙ shared-whole d 0 0 (omega arith) shared)) ∙ unjoined-accepted (joinedForm d) x e
 
 -- 'accepted by one check exactly where the moved one is by the other'
-pub accepted-exactly : (d : List ℕ) → (check d ≡ gives [] → checkJoined (joinedForm d) ≡ gives []) × (checkJoined (joinedForm d) ≡ gives [] → check d ≡ gives [])
+pub accepted-exactly : (d : List ℕ)
+    → (check d ≡ gives [] → checkJoined (joinedForm d) ≡ gives []) × (checkJoined (joinedForm d) ≡ gives [] → check d ≡ gives [])
 accepted-exactly d = (joined-accepted d, accepted-only d [])

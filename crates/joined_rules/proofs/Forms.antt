@@ -17,8 +17,10 @@ use Rattle.records.specs.Records.{little, size, textOf}
 use Rattle.records.specs.Stored.{littleBytes}
 use Rattle.document.specs.Document.{reads, openBlocks, short, closed, check}
 use Rattle.document.proofs.Walks.{check-gives}
-use Rattle.joined_rules.specs.Joined.{cut, concat, hasText, textIn, recordsAt, headsIn, shortJoined, wholeText, readsShares, readsJoined, checkJoined, headsOf, joinedForm, records, unjoined, joins, unjoins}
-use Rattle.joined_rules.proofs.Moves.{Shared, cut-small, reads-shared, shares-accepted, document-accepted, records-cut, records-text, concat-cut, records-length}
+use Rattle.joined_rules.specs.Joined.{cut, concat, hasText, textIn, recordsAt, headsIn, shortJoined, wholeText, readsShares, readsJoined, checkJoined}
+use Rattle.joined_rules.specs.Joined.{headsOf, joinedForm, records, unjoined, joins, unjoins}
+use Rattle.joined_rules.proofs.Moves.{Shared, cut-small, reads-shared, shares-accepted, document-accepted, records-cut, records-text, concat-cut}
+use Rattle.joined_rules.proofs.Moves.{records-length}
 
 -- Numbers in four bytes
 
@@ -71,7 +73,9 @@ module _ (text : List ℕ) (hs : List (List ℕ)) where
   module _ (few : length text ≤ 32_772) where
     form-size : size form ≡ length text
     unfolding size
-    form-size = ap little (take-at (littleBytes 4 (length text)) (text ++ concat hs) 4 (length-bytes 4 (length text))) ∙ little-bytes 4 (length text) (holds-four (length text) few)
+    form-size =
+        ap little (take-at (littleBytes 4 (length text)) (text ++ concat hs) 4 (length-bytes 4 (length text)))
+        ∙ little-bytes 4 (length text) (holds-four (length text) few)
 
     form-rest : drop 4 form ≡ text ++ concat hs
     form-rest = drop-at (littleBytes 4 (length text)) (text ++ concat hs) 4 (length-bytes 4 (length text))
@@ -83,7 +87,8 @@ module _ (text : List ℕ) (hs : List (List ℕ)) where
     pub form-heads : cut (λ _. 0) 0 (concat hs) ≡ hs → headsIn form ≡ hs
     unfolding headsIn recordsAt
     form-heads c =
-        ap (cut (λ _. 0) 0) (sym (drop-drop (size form) 4 form) ∙ ap₂ (λ (n : ℕ) (x : List ℕ). drop n x) form-size form-rest ∙ drop-at text (concat hs) (length text) refl)
+        ap (cut (λ _. 0) 0)
+        (sym (drop-drop (size form) 4 form) ∙ ap₂ (λ (n : ℕ) (x : List ℕ). drop n x) form-size form-rest ∙ drop-at text (concat hs) (length text) refl)
         ∙ c
 
     pub form-has : hasText form ≡ true
@@ -129,7 +134,8 @@ module _ (d : List ℕ) (e : check d ≡ gives []) where
   pub joined-accepted : checkJoined (joinedForm d) ≡ gives []
   unfolding joinedForm
   joined-accepted =
-      form-accepted (textOf d) (headsOf d) (omega (arith, few)) document-shared (omega (arith, few, form-length (textOf d) (headsOf d))) (ap (reads 0 0 []) document-records ∙ runs)
+      form-accepted (textOf d) (headsOf d) (omega (arith, few)) document-shared (omega (arith, few, form-length (textOf d) (headsOf d)))
+      (ap (reads 0 0 []) document-records ∙ runs)
 
   pub joined-back : unjoined (joinedForm d) ≡ d
   unfolding joinedForm
@@ -198,7 +204,8 @@ module _ (j x : List ℕ) (e : checkJoined j ≡ gives x) where
   behind : textIn j ++ concat (headsIn j) ≡ drop 4 j
   unfolding textIn headsIn recordsAt
   behind =
-      ap (λ (t : List ℕ). take (size j) (drop 4 j) ++ t) (concat-plain (drop (4 + size j) j) 0 ∙ sym (drop-drop (size j) 4 j)) ∙ take-append-drop (size j) (drop 4 j)
+      ap (λ (t : List ℕ). take (size j) (drop 4 j) ++ t) (concat-plain (drop (4 + size j) j) 0 ∙ sym (drop-drop (size j) 4 j))
+      ∙ take-append-drop (size j) (drop 4 j)
 
   -- and over again it is the same, where it is bytes
   pub unjoined-back : Bytes j → joinedForm (unjoined j) ≡ j

@@ -60,7 +60,8 @@ module _ (h : List ℕ) (six : length h ≡ 6) where
         ap (λ (k : ℕ). drop k (h ++ (x ++ rest))) (let z : 6 + size (h ++ (x ++ rest)) ≡ 6 + length x = omega (arith, here) in z)
         ∙ sym (lib.Seq.drop-drop (length x) 6 (h ++ (x ++ rest))) ∙ ap (drop (length x)) (drop-at h (x ++ rest) 6 six) ∙ drop-at x rest (length x) refl
 
-    pub tokens-here : (p : ℕ) → tokens p 0 (h ++ (x ++ rest)) ≡ record { place = p; start = p + 6; kind = headKind h; body = x } ∷ tokens (p + (6 + length x)) 0 rest
+    pub tokens-here : (p : ℕ)
+        → tokens p 0 (h ++ (x ++ rest)) ≡ record { place = p; start = p + 6; kind = headKind h; body = x } ∷ tokens (p + (6 + length x)) 0 rest
     tokens-here p =
         tokens-some (h ++ (x ++ rest)) p (omega (arith, long))
         ∙ ap₂ (λ (t : Token) (ts : List Token). t ∷ ts) (token-here p) (ap₂ (λ (k : ℕ) (y : List ℕ). tokens (p + (6 + k)) 0 y) here after-here)
@@ -73,13 +74,15 @@ module _ (h : List ℕ) (six : length h ≡ 6) where
     fits-here : fits (h ++ (x ++ rest)) ≡ true
     unfolding fits
     fits-here =
-        and-both (le-leb 6 (length (h ++ (x ++ rest))) (omega (arith, long))) (le-leb (size (h ++ (x ++ rest))) (length (h ++ (x ++ rest)) - 6) (omega (arith, long, here)))
+        and-both (le-leb 6 (length (h ++ (x ++ rest))) (omega (arith, long)))
+        (le-leb (size (h ++ (x ++ rest))) (length (h ++ (x ++ rest)) - 6) (omega (arith, long, here)))
 
     pub reads-here : (p : ℕ) (stack : List ℕ)
         → reads p 0 stack (h ++ (x ++ rest)) ≡ (accept p (headKind h) x stack >>= λ after. reads (p + (6 + length x)) 0 after rest)
     unfolding first
     reads-here p stack =
+        let all = h ++ (x ++ rest) in
         reads-some (h ++ (x ++ rest)) p stack (omega (arith, long))
-        ∙ ap (λ (r : Result (List ℕ)). r >>= λ after. reads (p + (6 + size (h ++ (x ++ rest)))) 0 after (drop (6 + size (h ++ (x ++ rest))) (h ++ (x ++ rest))))
+        ∙ ap (λ (r : Result (List ℕ)). r >>= λ after. reads (p + (6 + size all)) 0 after (drop (6 + size all) all))
         (if-true _ _ fits-here ∙ ap (λ (t : Token). accept p (t .kind) (t .body) stack) (token-here p))
         ∙ ap₂ (λ (k : ℕ) (y : List ℕ). accept p (headKind h) x stack >>= λ after. reads (p + (6 + k)) 0 after y) here after-here

@@ -52,13 +52,15 @@ module _ (s y : List ℕ) (hs : List (List ℕ)) (f : fits s ≡ true) where
 
   first-shared : Shared y hs → Shared (body ++ y) (take 6 s ∷ hs)
   first-shared w =
-      more {h = take 6 s} {text = body ++ y} {hs = hs} (length-take-le 6 s (omega (arith, fits-room s f))) (omega (arith, size-take s, body-length, length-append body y))
+      more {h = take 6 s} {text = body ++ y} {hs = hs} (length-take-le 6 s (omega (arith, fits-room s f)))
+      (omega (arith, size-take s, body-length, length-append body y))
       (rw (drop-at body y (size (take 6 s)) (body-length ∙ sym (size-take s))) w)
 
   pub first-whole : records y hs ≡ drop (6 + size s) s → records (body ++ y) (take 6 s ∷ hs) ≡ s
   unfolding records body
   first-whole e =
-      ap₂ (λ (a : List ℕ) (b : List ℕ). take 6 s ++ (a ++ records b hs)) (take-at body y (size (take 6 s)) (body-length ∙ sym (size-take s))) (drop-at body y (size (take 6 s)) (body-length ∙ sym (size-take s)))
+      ap₂ (λ (a : List ℕ) (b : List ℕ). take 6 s ++ (a ++ records b hs)) (take-at body y (size (take 6 s)) (body-length ∙ sym (size-take s)))
+      (drop-at body y (size (take 6 s)) (body-length ∙ sym (size-take s)))
       ∙ ap (λ (a : List ℕ). take 6 s ++ (body ++ a)) (e ∙ sym (drop-drop (size s) 6 s))
       ∙ ap (λ (a : List ℕ). take 6 s ++ a) (take-append-drop (size s) (drop 6 s)) ∙ take-append-drop 6 s
 
@@ -171,7 +173,8 @@ shares-accepted (h ∷ hs) m q text stack x (at-most l w) e =
       more {h = h} {text = text} six l (i .1),
       λ p.
           reads-here h six (take (size h) text) (records (drop (size h) text) hs) (sym n) p stack
-          ∙ ap (λ (r : Result (List ℕ)). r >>= λ after. reads (p + (6 + length (take (size h) text))) 0 after (records (drop (size h) text) hs)) (accept-body p q (size h) text stack (f .0) (headKind h) (g .1) .1)
+          ∙ ap (λ (r : Result (List ℕ)). r >>= λ after. reads (p + (6 + length (take (size h) text))) 0 after (records (drop (size h) text) hs))
+          (accept-body p q (size h) text stack (f .0) (headKind h) (g .1) .1)
           ∙ i .2 (p + (6 + length (take (size h) text))),
     )
 
@@ -182,7 +185,8 @@ unfolding readsShares firstShare records reads closed used if_then_else_ _>>=_
 document-accepted none m p q stack e = let z : stack ≡ [] = gives-same e in rw z
 document-accepted (more {h} {text} {hs} six l w) m p q stack e =
     let n = length-take-le (size h) text l in
-    let f = bind-gives (accept p (headKind h) (take (size h) text) stack) _ [] (sym (reads-here h six (take (size h) text) (records (drop (size h) text) hs) (sym n) p stack) ∙ e) in
+    let f = bind-gives (accept p (headKind h) (take (size h) text) stack) _ []
+    (sym (reads-here h six (take (size h) text) (records (drop (size h) text) hs) (sym n) p stack) ∙ e) in
     let a = accept-share p q (size h) text stack (f .0) (headKind h) l (f .1) in
     ap (λ (r : Result (List ℕ)). r >>= λ after. readsShares m (q + 6) (drop (size h) text) after hs) (if-true _ _ (le-leb 6 (length h) (omega arith)) ∙ a)
     ∙ document-accepted w m (p + (6 + length (take (size h) text))) (q + 6) (f .0) (f .2)
@@ -193,7 +197,8 @@ pub records-cut : {text : List ℕ} {hs : List (List ℕ)} → Shared text hs �
 unfolding records cut
 records-cut none = refl
 records-cut (more {h} {text} {hs} six l w) =
-    cut-here h six (take (size h) text) (records (drop (size h) text) hs) (sym (length-take-le (size h) text l)) ∙ ap (λ (t : List (List ℕ)). h ∷ t) (records-cut w)
+    cut-here h six (take (size h) text) (records (drop (size h) text) hs) (sym (length-take-le (size h) text l))
+    ∙ ap (λ (t : List (List ℕ)). h ∷ t) (records-cut w)
 
 pub records-text : {text : List ℕ} {hs : List (List ℕ)} → Shared text hs → (p : ℕ) → joined (tokens p 0 (records text hs)) ≡ text
 unfolding records tokens joined
@@ -212,4 +217,7 @@ pub records-length : {text : List ℕ} {hs : List (List ℕ)} → Shared text hs
 unfolding records concat
 records-length none = refl
 records-length (more {h} {text} {hs} six l w) =
-    omega (arith, length-append h (take (size h) text ++ records (drop (size h) text) hs), length-append (take (size h) text) (records (drop (size h) text) hs), length-append h (concat hs), records-length w, length-take-le (size h) text l, length-drop (size h) text)
+    let x = take (size h) text in
+    let rest = records (drop (size h) text) hs in
+    let e = length-take-le (size h) text l in
+    omega (arith, length-append h (x ++ rest), length-append x rest, length-append h (concat hs), records-length w, e, length-drop (size h) text)

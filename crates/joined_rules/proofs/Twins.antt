@@ -18,7 +18,8 @@ use Rattle.joined_rules.specs.Places.{placeFrom, byteFrom, placeIn, byte
 use Rattle.joined_rules.proofs.Heads.{tokens-here}
 use Rattle.joined_rules.proofs.Moves.{Shared}
 use Rattle.joined_rules.proofs.Forms.{joined-shared}
-use Rattle.joined_rules.proofs.Alike.{Alike, alike-relocated, Twin, twin, Twins, none, more, Meets, here, there, AtPlace, a-byte, a-record, Blind, walk-alike}
+use Rattle.joined_rules.proofs.Alike.{Alike, alike-relocated, Twin, twin, Twins, none, more, Meets, here, there, AtPlace, a-byte, a-record, Blind}
+use Rattle.joined_rules.proofs.Alike.{walk-alike}
 
 -- The lists
 
@@ -71,16 +72,19 @@ at-its-byte : {t u : Token} {n p q : ℕ} → AtByte t u n p q → (o : ℕ) × 
 at-its-byte (at-byte n o l) = (o, l, refl, refl)
 
 -- the lists from a record on
-module _ (At : Token → Token → ℕ → ℕ → ℕ → Type 0) (h text : List ℕ) (hs : List (List ℕ)) (six : length h ≡ 6) (l : size h ≤ length text) (at q from : ℕ) where
+module _ (At : Token → Token → ℕ → ℕ → ℕ → Type 0) (h text : List ℕ) (hs : List (List ℕ)) (six : length h ≡ 6) (l : size h ≤ length text)
+    (at q from : ℕ) where
+  abbrev here-at : ℕ → ℕ → Token
+  here-at p a = record { place = p; start = a; kind = headKind h; body = take (size h) text }
+
   meets-more : (n p r : ℕ) → Meets At (tokens at 0 (records text (h ∷ hs))) (tokensShared q from text (h ∷ hs)) n p r
-      → At (record { place = at; start = at + 6; kind = headKind h; body = take (size h) text }) (record { place = q; start = from; kind = headKind h; body = take (size h) text }) n p r
+      → At (here-at at (at + 6)) (here-at q from) n p r
       ⊎ Meets At (tokens (at + (6 + size h)) 0 (records (drop (size h) text) hs)) (tokensShared (q + 6) (from + size h) (drop (size h) text) hs) n p r
   unfolding records tokensShared
   meets-more n p r m =
       let k = length-take-le (size h) text l in
-      let x = take (size h) text in
       let rest = records (drop (size h) text) hs in
-      let e = tokens-here h six x rest (sym k) at ∙ ap (λ (z : ℕ). record { place = at; start = at + 6; kind = headKind h; body = x } ∷ tokens (at + (6 + z)) 0 rest) k in
+      let e = tokens-here h six (take (size h) text) rest (sym k) at ∙ ap (λ (z : ℕ). here-at at (at + 6) ∷ tokens (at + (6 + z)) 0 rest) k in
       meets-cases (subst (λ (ts : List Token). Meets At ts (tokensShared q from text (h ∷ hs)) n p r) e m)
 
 place-back : {text : List ℕ} {hs : List (List ℕ)} (w : Shared text hs) (at q from n p r : ℕ)
@@ -103,8 +107,11 @@ byte-back (Shared.more {h} {text} {hs} six l w) at q from n p r m =
     ⊎-elim
     (λ a.
     let z = at-its-byte a in
-    let o : z .0 ≤ size h = omega (arith, z .1, length-take-le (size h) text l) in
-    (omega (arith, z .2), if-true _ _ (le-leb p (at + (6 + size h)) (omega (arith, z .2))) ∙ (let y : from + (p - (at + 6)) ≡ r = omega (arith, z .2, z .3) in y)))
+    let o : z .0 ≤ size h = omega (arith, z .1, length-take-le (size h) text l) in (
+      omega (arith, z .2),
+      if-true _ _ (le-leb p (at + (6 + size h)) (omega (arith, z .2)))
+          ∙ (let y : from + (p - (at + 6)) ≡ r = omega (arith, z .2, z .3) in y),
+    ))
     (λ b.
     let i = byte-back w (at + (6 + size h)) (q + 6) (from + size h) n p r b in
     (omega (arith, i .0), if-false _ _ (lt-leb p (at + (6 + size h)) (omega (arith, i .0))) ∙ i .1))

@@ -45,7 +45,8 @@ add-from c =
     let test = size .before .before in
     let w = test .before .loop .inv in
     let q = turn-open _ (after .accept .ensures .0) (c .before .turn .given .1) in
-    let f = reading-fits w (test .loop-test .taken) (size .before .if1 .left) (size .four2 .ensures .0) (kind .kind-of .ensures) (kind .before .two .ensures .0) q in
+    let f = reading-fits w (test .loop-test .taken) (size .before .if1 .left) (size .four2 .ensures .0) (kind .kind-of .ensures)
+    (kind .before .two .ensures .0) q in
     omega (arith, f, w .order, w .behind, w .near)
 
 loop-less : tie.Need-loop-less Inv-loop μ-loop
