@@ -220,10 +220,10 @@ pub extern "C" fn sefgrunn_joined_check(joined: &[u8], place: &mut usize) -> u32
     ensures number { λ r. ⌜ r ≡ numberOf (checkJoined (now (joined .entry))) ⌝ }
     ensures place { λ _. ⌜ now (place .exit) ≡ placeOf (checkJoined (now (joined .entry))) ⌝ }
 {
-    let answer = joined_check::check(joined);
-    match answer {
+    let verdict = joined_check::check(joined);
+    match verdict {
         Checked::Accepted => accepted(place),
-        Checked::Refused(a) => refused(a, place),
+        Checked::Refused(r) => refused(r, place),
     }
 }
 

@@ -11,7 +11,7 @@ returns c =
 returns-2 : tie.Need-returns-2
 returns-2 c =
     let r = c .before .before .before .before .before .check in
-    checked-refused (r .result) _ (r .ensures) _ _ _ (c .before .before .before .answer .given .1) (c .refused .ensures .0) (c .refused .ensures .1)
+    checked-refused (r .result) _ (r .ensures) _ _ _ (c .before .before .before .verdict .given .1) (c .refused .ensures .0) (c .refused .ensures .1)
 
 pub sefgrunn-joined-check-spec : {M : Type 1} → statement M
 sefgrunn-joined-check-spec =
