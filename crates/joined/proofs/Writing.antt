@@ -127,13 +127,15 @@ module _ {d : List ℕ} {at : ℕ} {h : Head} (w : Going d at) (r : Read d at h)
   pub going-next : Going d (h .next)
   going-next = record { stack = _; here = open-next (w .here) r l }
 
-  pub firsts-step : concat (cut size 0 (drop at d)) ≡ part d at (h .start) ++ concat (cut size 0 (drop (h .next) d))
+  pub going-six : at + 6 ≤ length d
+  going-six = omega (arith, open-whole (w .here) r l .0, r .order, r .high)
+
+  pub firsts-step : concat (cut size 0 (drop at d)) ≡ part d at (at + 6) ++ concat (cut size 0 (drop (h .next) d))
   unfolding concat
   firsts-step =
-      let o = open-whole (w .here) r l in
       ap concat (cut-some size (drop at d) (omega (arith, length-drop at d)))
-      ∙ ap₂ (λ (n : ℕ) (s : List ℕ). take n (drop at d) ++ concat (cut size 0 s)) (let z : 6 ≡ h .start - at = omega (arith, o .0) in z)
-      (drop-drop (6 + size (drop at d)) at d ∙ ap (λ (k : ℕ). drop k d) (sym (o .1)))
+      ∙ ap₂ (λ (n : ℕ) (s : List ℕ). take n (drop at d) ++ concat (cut size 0 s)) (let z : 6 ≡ at + 6 - at = omega arith in z)
+      (drop-drop (6 + size (drop at d)) at d ∙ ap (λ (k : ℕ). drop k d) (sym (open-whole (w .here) r l .1)))
 
 -- Records of a joined form
 

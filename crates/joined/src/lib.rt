@@ -61,7 +61,8 @@ fn put_heads(document: &[u8], room: &mut [u8], len: usize) -> usize
     let mut at: usize = 0;
     while at < document.len() {
         let h = record_at(document, at);
-        to = room::put_all(room, to, base::get(document, at, h.start));
+        let start = at + 6;
+        to = room::put_all(room, to, &document[at..start]);
         at = h.next;
     }
     to
@@ -107,7 +108,7 @@ fn put_records(joined: &[u8], room: &mut [u8], len: usize) -> usize
     while at < joined.len() {
         let next = at + 6;
         let end = from + four(joined, at);
-        reached = room::put_all(room, reached, base::get(joined, at, next));
+        reached = room::put_all(room, reached, &joined[at..next]);
         reached = room::put_all(room, reached, base::get(joined, from, end));
         from = end;
         at = next;

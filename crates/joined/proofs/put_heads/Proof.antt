@@ -10,7 +10,8 @@ use Rattle.joined.proofs.put_heads.Statement.{statement}
 use Rattle.joined.proofs.put_heads.Tie as tie
 use Rattle.records.specs.Records.{size}
 use Rattle.joined_rules.specs.Joined.{cut, concat, headsOf}
-use Rattle.joined.proofs.Writing.{Putting, putting-start, putting-more, putting-done, Going, going-start, going-next, firsts-step, firsts-end}
+use Rattle.joined.proofs.Writing.{Putting, putting-start, putting-more, putting-done}
+use Rattle.joined.proofs.Writing.{Going, going-start, going-next, going-six, firsts-step, firsts-end}
 
 abbrev Inv-loop : tie.InvT-loop
 Inv-loop document room₀ len to₀ at₀ room to at =
@@ -23,6 +24,19 @@ loop-holds : tie.Need-loop-holds Inv-loop μ-loop
 loop-holds c =
     (going-start (c .before .before .pre), unfold headsOf in putting-start (now (c .before .before .args .room)) (c .before .before .args .len) refl)
 
+add-start : tie.Need-add-start Inv-loop μ-loop
+add-start c = omega (arith, going-six (c .before .before .loop .inv .0) (c .record-at .ensures) (c .before .loop-test .taken))
+
+sub-put-all : tie.Need-sub-put-all Inv-loop μ-loop
+sub-put-all c = omega arith
+
+part-put-all-start : tie.Need-part-put-all-start Inv-loop μ-loop
+part-put-all-start c =
+    omega (arith, going-six (c .before .before .before .loop .inv .0) (c .before .record-at .ensures) (c .before .before .loop-test .taken))
+
+part-put-all-end : tie.Need-part-put-all-end Inv-loop μ-loop
+part-put-all-end c = omega (arith, going-six (c .before .before .before .loop .inv .0) (c .before .record-at .ensures) (c .before .before .loop-test .taken))
+
 loop-less : tie.Need-loop-less Inv-loop μ-loop
 loop-less c =
     let r = c .before .before .before .before .before .record-at .ensures in omega
@@ -32,11 +46,11 @@ loop-again : tie.Need-loop-again Inv-loop μ-loop
 loop-again c =
     let w = c .before .before .before .before .before .before .before .loop .inv .0 in
     let r = c .before .before .before .before .before .record-at .ensures in
-    let t = c .before .before .before .before .before .before .loop-test .taken in (
+    let t = c .before .before .before .before .before .before .loop-test .taken in
+    let p = c .before .before .put-all in (
       going-next w r t,
-      putting-more _ (c .before .before .put-all .last .0) (c .before .before .put-all .result)
-          (c .before .before .before .before .before .before .before .loop .inv .1) (firsts-step w r t) (c .before .before .before .get .ensures)
-          (c .before .before .put-all .kept .0) (c .before .before .put-all .ensures),
+      putting-more _ (p .last .0) (p .result) (c .before .before .before .before .before .before .before .loop .inv .1)
+          (firsts-step w r t) refl (p .kept .0) (p .ensures),
     )
 
 returns : tie.Need-returns Inv-loop μ-loop
@@ -51,7 +65,10 @@ put-heads-spec =
     μ-loop
     loop-holds
     (λ c κs. search needs)
-    (λ c κs. search needs)
+    add-start
+    sub-put-all
+    part-put-all-start
+    part-put-all-end
     (λ c κs. search needs)
     loop-less
     loop-again
