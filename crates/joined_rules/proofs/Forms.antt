@@ -141,6 +141,11 @@ module _ (d : List ℕ) (e : check d ≡ gives []) where
   unfolding joinedForm
   joined-back = form-unjoined (textOf d) (headsOf d) (omega (arith, few)) (concat-cut document-shared) ∙ document-records
 
+  -- its text stands in one place
+  pub joined-text : textIn (joinedForm d) ≡ textOf d
+  unfolding joinedForm
+  joined-text = form-text (textOf d) (headsOf d) (omega (arith, few))
+
 -- From a joined form
 
 pub checkJoined-gives : (j x : List ℕ) → checkJoined j ≡ gives x → (length j ≤ 32_772) × (hasText j ≡ true) × (readsJoined j ≡ gives x)
@@ -190,6 +195,11 @@ module _ (j x : List ℕ) (e : checkJoined j ≡ gives x) where
   pub unjoined-length : length (unjoined j) + 4 ≡ length j
   unfolding unjoined
   unjoined-length = omega (arith, records-length joined-shared, text-length, heads-length, text-fits)
+
+  -- its text is the document's
+  pub unjoined-text : textOf (unjoined j) ≡ textIn j
+  unfolding textOf unjoined
+  unjoined-text = records-text joined-shared 0
 
   pub unjoined-accepted : check (unjoined j) ≡ gives []
   unfolding check short openBlocks closed if_then_else_ _>>=_

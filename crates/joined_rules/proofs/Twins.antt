@@ -12,12 +12,13 @@ use borrow.Author.Tests.{le-leb, lt-leb}
 use Rattle.base.specs.Result.{Result, gives}
 use Rattle.base.proofs.Choice.{if-true, if-false}
 use Rattle.records.specs.Records.{Token, size, tokens, adds, order, printingOrder}
+use Rattle.document.specs.Document.{check}
 use Rattle.renderer.specs.Walk.{Turn, walk}
-use Rattle.joined_rules.specs.Joined.{tokensShared, tokensIn, headKind, recordsAt, records, unjoined, joinedOrder, checkJoined}
+use Rattle.joined_rules.specs.Joined.{tokensShared, tokensIn, headKind, recordsAt, records, unjoined, joinedForm, joinedOrder, checkJoined}
 use Rattle.joined_rules.specs.Places.{placeFrom, byteFrom, placeIn, byteIn, backIn, relocated}
 use Rattle.joined_rules.proofs.Heads.{tokens-here}
 use Rattle.joined_rules.proofs.Moves.{Shared}
-use Rattle.joined_rules.proofs.Forms.{joined-shared}
+use Rattle.joined_rules.proofs.Forms.{joined-shared, joined-accepted, joined-back}
 use Rattle.joined_rules.proofs.Alike.{Alike, alike-relocated, Twin, twin, Twins, none, more, Meets, here, there, AtPlace, a-byte, a-record, Blind}
 use Rattle.joined_rules.proofs.Alike.{walk-alike}
 
@@ -47,6 +48,10 @@ twins-order (more (twin p q a b k x) ws) = ap (λ (o : List ℕ). adds k x ++ o)
 pub order-joined : (j x : List ℕ) → checkJoined j ≡ gives x → joinedOrder j ≡ printingOrder (unjoined j)
 unfolding joinedOrder printingOrder
 order-joined j x e = sym (twins-order (twins-joined j x e))
+
+-- and from the document's side
+pub joined-order : (d : List ℕ) → check d ≡ gives [] → joinedOrder (joinedForm d) ≡ printingOrder d
+joined-order d e = order-joined (joinedForm d) [] (joined-accepted d e) ∙ ap printingOrder (joined-back d e)
 
 -- Places
 

@@ -18,7 +18,7 @@ loop-holds : tie.Need-loop-holds Inv-loop μ-loop
 loop-holds c = counting-start (now (c .before .args .document))
 
 sub-n : tie.Need-sub-n Inv-loop μ-loop
-sub-n c = c .before .record-at .ensures .order
+sub-n c = let r = c .before .record-at .ensures in omega (arith, r .low (c .before .before .loop-test .taken), r .order)
 
 add-n : tie.Need-add-n Inv-loop μ-loop
 add-n c =
