@@ -3,7 +3,7 @@ use Prim.Native.Nat.{ℕ, _+_, _-_, _≤_, _<_}
 use mathlib.Core.Path.{_≡_, refl, sym, ap, ap₂, _∙_, subst}
 use mathlib.Core.Logic.{⊎-elim}
 use mathlib.Core.List.{List, [], _++_, append-nil}
-use lib.ListN.{length, take, drop, length-append, length-take, length-drop, drop-of-length-le}
+use lib.ListN.{length, take, drop, length-take, length-drop, drop-of-length-le}
 use lib.Seq.{drop-drop}
 use native.Mathlib.Omega.{arith}
 use Rattle.base.specs.Bytes.{part}
@@ -12,7 +12,7 @@ use Rattle.base.proofs.Choice.{le-or-lt}
 use Rattle.base.proofs.Results.{bind-assoc, bind-same}
 use Rattle.room.specs.Room.{extended, seen}
 use Rattle.room.proofs.Laws.{seen-in, seen-out, extended-in, extended-twice}
-use Rattle.records.specs.Records.{little, size, tokensFrom, joined, textOf}
+use Rattle.records.specs.Records.{little, size, tokensFrom, joined}
 use Rattle.records.specs.Stored.{littleBytes, head}
 use Rattle.records.specs.Answers.{Read}
 use Rattle.records.specs.declared.Head.{Head}
@@ -78,36 +78,11 @@ unfolding joined
 bodies-end d at h = ap joined (tokens-end d at h)
 
 module _ {d : List ℕ} {at : ℕ} {h : Head} (r : Read d at h) (l : at < length d) where
-  pub bodies-step : joined (tokensFrom d at) ≡ part d (h .start) (h .stop) ++ joined (tokensFrom d (h .next))
+  pub bodies-step : joined (tokensFrom d at) ≡ part d (h .start) (h .next) ++ joined (tokensFrom d (h .next))
   unfolding joined
-  bodies-step = ap joined (read-next r l)
-
-  bodies-length : length (joined (tokensFrom d at)) ≡ h .next - h .start + length (joined (tokensFrom d (h .next)))
-  bodies-length =
-      ap length bodies-step ∙ length-append (part d (h .start) (h .stop)) (joined (tokensFrom d (h .next)))
-      ∙ ap (λ (n : ℕ). n + length (joined (tokensFrom d (h .next))))
-      (part-length d (h .start) (h .stop) (omega (arith, r .order, r .ends)) (omega (arith, r .high, r .ends)) ∙ ap (λ (n : ℕ). n - h .start) (r .ends))
-
--- So many bytes of text have been passed, no more than bytes.
-pub record Counting (d : List ℕ) (n at : ℕ) : Type 0 where
-  pub sum : n + length (joined (tokensFrom d at)) ≡ length (textOf d)
-  pub few : n ≤ at
-  pub near : at ≤ length d
-
-pub counting-start : (d : List ℕ) → Counting d 0 0
-unfolding textOf
-counting-start d = record { sum = omega arith; few = omega arith; near = omega arith }
-
-module _ {d : List ℕ} {n at : ℕ} (w : Counting d n at) where
-  pub counting-next : {h : Head} → Read d at h → at < length d → Counting d (n + (h .next - h .start)) (h .next)
-  counting-next r l = record {
-    sum = omega (arith, w .sum, bodies-length r l);
-    few = omega (arith, w .few, r .low l, r .order);
-    near = r .high;
-  }
-
-  pub counting-done : length d ≤ at → n ≡ length (textOf d)
-  counting-done h = omega (arith, w .sum, ap length (bodies-end d at h))
+  bodies-step =
+      ap joined (read-next r l)
+      ∙ ap (λ (e : ℕ). part d (h .start) e ++ joined (tokensFrom d (h .next))) (r .ends)
 
 -- First bytes
 

@@ -3,6 +3,7 @@ ghost use mathlib.Core.Path.{_≡_};
 ghost use mathlib.Core.List.{[]};
 ghost use Prim.Native.Nat.{_≤_};
 ghost use lib.ListN.{length};
+ghost use Rattle.base.specs.Bytes.{overwritten};
 ghost use Rattle.base.specs.Result.{gives, measured, _>>=_ as bind};
 ghost use Rattle.records.specs.Records.{textOf};
 ghost use Rattle.records.specs.Stored.{littleBytes};
@@ -16,26 +17,20 @@ use records::four;
 use records::record_at;
 use renderer::Rendered;
 
-// How many bytes the text of a document has.
-fn text_length(document: &[u8]) -> usize
-    ensures { λ r. ⌜ r ≡ length (textOf (now (document .entry))) ⌝ }
-{
-    let mut n: usize = 0;
-    let mut at: usize = 0;
-    while at < document.len() {
-        let h = record_at(document, at);
-        n += h.next - h.start;
-        at = h.next;
-    }
-    n
-}
-
 // A number in four bytes more.
 fn put_four(room: &mut [u8], len: usize, n: usize) -> usize
     ensures { λ r. ⌜ seen (now (room .exit)) r ≡ bind (seen (now (room .entry)) len) (extended (length (now (room .entry))) (littleBytes 4 n)) ⌝ }
 {
     let head = record_writer::head_of(n, 0);
     room::put_all(room, len, base::get(&head, 0, 4))
+}
+
+// A number in the first four bytes of a room; a smaller room stays as it was.
+fn set_four(room: &mut [u8], n: usize)
+    ensures { λ _. ⌜ now (room .exit) ≡ overwritten (now (room .entry)) 0 (littleBytes 4 n) ⌝ }
+{
+    let head = record_writer::head_of(n, 0);
+    base::copy_from_slice(room, 0, base::get(&head, 0, 4))
 }
 
 // The bodies of a document's records.
@@ -46,8 +41,10 @@ fn put_bodies(document: &[u8], room: &mut [u8], len: usize) -> usize
     let mut at: usize = 0;
     while at < document.len() {
         let h = record_at(document, at);
-        to = room::put_all(room, to, base::get(document, h.start, h.stop));
-        at = h.next;
+        let start = h.start;
+        let next = h.next;
+        to = room::put_all(room, to, &document[start..next]);
+        at = next;
     }
     to
 }
@@ -68,7 +65,7 @@ fn put_heads(document: &[u8], room: &mut [u8], len: usize) -> usize
     to
 }
 
-// Refusals 1 to 8, then the joined form.
+// Refusals 1 to 8, then the joined form; the text's length is known and set once the text is written.
 fn joined_into(document: &[u8], room: &mut [u8]) -> Rendered
     ensures text { λ r. ⌜ standing (now (room .exit)) r ≡ joinsInto (length (now (room .entry))) (now (document .entry)) ⌝ }
     ensures inside { λ r. ⌜ Inside (length (now (room .entry))) r ⌝ }
@@ -77,10 +74,10 @@ fn joined_into(document: &[u8], room: &mut [u8]) -> Rendered
     match verdict {
         Checked::Refused(r) => Rendered::Refused(r),
         Checked::Accepted => {
-            let n = text_length(document);
-            let text = put_four(room, 0, n);
+            let text = put_four(room, 0, 0);
             let heads = put_bodies(document, room, text);
             let end = put_heads(document, room, heads);
+            set_four(room, base::saturating_sub(heads, text));
             renderer::answer(room, end)
         }
     }

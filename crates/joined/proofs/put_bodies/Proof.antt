@@ -19,6 +19,15 @@ abbrev μ-loop : tie.MeasureT-loop
 loop-holds : tie.Need-loop-holds Inv-loop μ-loop
 loop-holds c = unfold textOf in putting-start (now (c .before .before .args .room)) (c .before .before .args .len) refl
 
+sub-put-all : tie.Need-sub-put-all Inv-loop μ-loop
+sub-put-all c = c .before .record-at .ensures .order
+
+part-put-all-start : tie.Need-part-put-all-start Inv-loop μ-loop
+part-put-all-start c = let r = c .before .record-at .ensures in omega (arith, r .order, r .high)
+
+part-put-all-end : tie.Need-part-put-all-end Inv-loop μ-loop
+part-put-all-end c = let r = c .before .record-at .ensures in omega (arith, r .order, r .high)
+
 loop-less : tie.Need-loop-less Inv-loop μ-loop
 loop-less c =
     let r = c .before .before .before .before .before .record-at .ensures in omega
@@ -26,11 +35,10 @@ loop-less c =
 
 loop-again : tie.Need-loop-again Inv-loop μ-loop
 loop-again c =
-    putting-more _ (c .before .before .put-all .last .0) (c .before .before .put-all .result)
-    (c .before .before .before .before .before .before .before .loop .inv)
-    (bodies-step (c .before .before .before .before .before .record-at .ensures) (c .before .before .before .before .before .before .loop-test .taken))
-    (c .before .before .before .get .ensures)
-    (c .before .before .put-all .kept .0) (c .before .before .put-all .ensures)
+    let p = c .before .before .put-all in
+    putting-more _ (p .last .0) (p .result) (c .before .before .before .before .before .before .before .loop .inv)
+    (bodies-step (c .before .before .before .before .before .record-at .ensures) (c .before .before .before .before .before .before .loop-test .taken)) refl
+    (p .kept .0) (p .ensures)
 
 returns : tie.Need-returns Inv-loop μ-loop
 returns c =
@@ -44,7 +52,9 @@ put-bodies-spec =
     μ-loop
     loop-holds
     (λ c κs. search needs)
-    (λ c κs. search needs)
+    sub-put-all
+    part-put-all-start
+    part-put-all-end
     (λ c κs. search needs)
     loop-less
     loop-again
