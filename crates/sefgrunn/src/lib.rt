@@ -18,6 +18,7 @@ ghost use Rattle.html_rules.specs.Html.{html};
 ghost use Rattle.html_rules.specs.Markdown.{markdown};
 ghost use Rattle.manpage.specs.Roff.{roff};
 ghost use Rattle.joined_rules.specs.Joined.{checkJoined, joinsInto, unjoinsInto};
+ghost use Rattle.joined_render_rules.specs.Render.{joinedConsole, joinedHtml, joinedMarkdown, joinedRoff};
 ghost use Rattle.sefgrunn.specs.HouseShape.{ShapeTold};
 ghost use Rattle.sefgrunn.specs.Numbers.{numberOf, placeOf, lengthOrPlace, orZero, lengthAfter, told, measureAsked, settings, writesIn, opensIn, closesIn};
 use buffer::Built;
@@ -298,6 +299,94 @@ pub extern "C" fn sefgrunn_notes(notes: &[u8], room: &mut [u8], at: &mut usize) 
 {
     let answer = notes::take_in(notes, room);
     told(answer, at)
+}
+
+// The console text of a joined form, with places there.
+#[no_mangle]
+pub extern "C" fn sefgrunn_joined_console(
+    joined: &[u8],
+    width: usize,
+    full: bool,
+    characters: bool,
+    room: &mut [u8],
+    at: &mut usize,
+) -> u32
+    ensures number { λ r. ⌜ r ≡ numberOf (joinedConsole (settings width full characters) (length (now (room .entry))) (now (joined .entry))) ⌝ }
+    ensures at { λ _. ⌜ now (at .exit) ≡ lengthOrPlace (measured (joinedConsole (settings width full characters) (length (now (room .entry))) (now (joined .entry)))) ⌝ }
+    ensures room { λ _. ⌜ now (room .exit) ≡ filled (length (now (room .entry))) (joinedConsole (settings width full characters) (length (now (room .entry))) (now (joined .entry))) ⌝ }
+{
+    let measure = measure_asked(characters);
+    let answer = joined_render::joined_console(
+        joined,
+        Settings {
+            width,
+            full,
+            measure,
+        },
+        room,
+    );
+    told(answer, at)
+}
+
+// The HTML of a joined form.
+#[no_mangle]
+pub extern "C" fn sefgrunn_joined_html(
+    joined: &[u8],
+    full: bool,
+    css: bool,
+    room: &mut [u8],
+    at: &mut usize,
+) -> u32
+    ensures number { λ r. ⌜ r ≡ numberOf (joinedHtml (length (now (room .entry))) false full css (now (joined .entry))) ⌝ }
+    ensures at { λ _. ⌜ now (at .exit) ≡ lengthOrPlace (measured (joinedHtml (length (now (room .entry))) false full css (now (joined .entry)))) ⌝ }
+    ensures room { λ _. ⌜ now (room .exit) ≡ filled (length (now (room .entry))) (joinedHtml (length (now (room .entry))) false full css (now (joined .entry))) ⌝ }
+{
+    let answer = joined_render::joined_html(joined, full, css, room);
+    told(answer, at)
+}
+
+// The strict HTML of a joined form.
+#[no_mangle]
+pub extern "C" fn sefgrunn_joined_html_strict(
+    joined: &[u8],
+    full: bool,
+    css: bool,
+    room: &mut [u8],
+    at: &mut usize,
+) -> u32
+    ensures number { λ r. ⌜ r ≡ numberOf (joinedHtml (length (now (room .entry))) true full css (now (joined .entry))) ⌝ }
+    ensures at { λ _. ⌜ now (at .exit) ≡ lengthOrPlace (measured (joinedHtml (length (now (room .entry))) true full css (now (joined .entry)))) ⌝ }
+    ensures room { λ _. ⌜ now (room .exit) ≡ filled (length (now (room .entry))) (joinedHtml (length (now (room .entry))) true full css (now (joined .entry))) ⌝ }
+{
+    let answer = joined_render::joined_html_strict(joined, full, css, room);
+    told(answer, at)
+}
+
+// The Markdown of a joined form.
+#[no_mangle]
+pub extern "C" fn sefgrunn_joined_markdown(
+    joined: &[u8],
+    full: bool,
+    room: &mut [u8],
+    at: &mut usize,
+) -> u32
+    ensures number { λ r. ⌜ r ≡ numberOf (joinedMarkdown (length (now (room .entry))) full (now (joined .entry))) ⌝ }
+    ensures at { λ _. ⌜ now (at .exit) ≡ lengthOrPlace (measured (joinedMarkdown (length (now (room .entry))) full (now (joined .entry)))) ⌝ }
+    ensures room { λ _. ⌜ now (room .exit) ≡ filled (length (now (room .entry))) (joinedMarkdown (length (now (room .entry))) full (now (joined .entry))) ⌝ }
+{
+    let answer = joined_render::joined_markdown(joined, full, room);
+    told(answer, at)
+}
+
+// The roff of a joined form.
+#[no_mangle]
+pub extern "C" fn sefgrunn_joined_roff(joined: &[u8], room: &mut [u8], at: &mut usize) -> u32
+    ensures number { λ r. ⌜ r ≡ numberOf (joinedRoff (length (now (room .entry))) (now (joined .entry))) ⌝ }
+    ensures at { λ _. ⌜ now (at .exit) ≡ lengthOrPlace (measured (joinedRoff (length (now (room .entry))) (now (joined .entry)))) ⌝ }
+    ensures room { λ _. ⌜ now (room .exit) ≡ filled (length (now (room .entry))) (joinedRoff (length (now (room .entry))) (now (joined .entry))) ⌝ }
+{
+    let page = joined_render::joined_roff(joined, room);
+    told(page, at)
 }
 
 // How many pages a text has at a height; 0 after a refusal.
