@@ -316,15 +316,12 @@ pub extern "C" fn sefgrunn_joined_console(
     ensures room { λ _. ⌜ now (room .exit) ≡ filled (length (now (room .entry))) (joinedConsole (settings width full characters) (length (now (room .entry))) (now (joined .entry))) ⌝ }
 {
     let measure = measure_asked(characters);
-    let answer = joined_render::joined_console(
-        joined,
-        Settings {
-            width,
-            full,
-            measure,
-        },
-        room,
-    );
+    let set = Settings {
+        width,
+        full,
+        measure,
+    };
+    let answer = joined_render::joined_console(joined, set, room);
     told(answer, at)
 }
 
