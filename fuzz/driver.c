@@ -62,6 +62,31 @@ static uint64_t state_of(const uint8_t *data, size_t n)
     return hash;
 }
 
+static size_t room_size(uint64_t *state, size_t n)
+{
+    switch (below(state, 12)) {
+    case 0:
+        return 0;
+    case 1:
+    case 2:
+        return below(state, 80);
+    case 3:
+        return n;
+    case 4:
+        return 65536;
+    case 5:
+        return below(state, 8) == 0 ? MOST_ROOM : 2 * n;
+    default:
+        return 6 * n + 700;
+    }
+}
+
+static size_t width(uint64_t *state)
+{
+    static const size_t others[] = {100, 80, 40, 9999, 10000, 10001, (size_t)-1};
+    return below(state, 3) == 0 ? others[below(state, 7)] : below(state, 111);
+}
+
 /* ---- fences ------------------------------------------------------------------------------------------------------------------ */
 
 enum { FENCE = 1 << 20 };
@@ -139,9 +164,11 @@ static struct fenced documents, rooms, places, lengths, more[3];
 
 /* ---- what was reached -------------------------------------------------------------------------------------------------------- */
 
-enum function { CHECK, CONSOLE, HTML, HTML_STRICT, MARKDOWN, ROFF, WRITE, OPEN, CLOSE, DOC, EM_DOC, NEXT_CHUNK, TABSTOP, PAGE_COUNT, PAGE, HOUSE_SHAPE, NOTES, FUNCTIONS };
+enum function { CHECK, CONSOLE, HTML, HTML_STRICT, MARKDOWN, ROFF, WRITE, OPEN, CLOSE, DOC, EM_DOC, NEXT_CHUNK, TABSTOP, PAGE_COUNT, PAGE, HOUSE_SHAPE, NOTES, JOIN, UNJOIN,
+    JOINED_CHECK, JOINED_CONSOLE, JOINED_HTML, JOINED_HTML_STRICT, JOINED_MARKDOWN, JOINED_ROFF, FUNCTIONS };
 static const char *const names[FUNCTIONS] = {"check", "console", "html", "html_strict", "markdown", "roff", "write", "open", "close",
-    "doc", "em_doc", "next_chunk", "tabstop", "page_count", "page", "house_shape", "notes"};
+    "doc", "em_doc", "next_chunk", "tabstop", "page_count", "page", "house_shape", "notes", "join", "unjoin", "joined_check", "j_console", "j_html", "j_html_s",
+    "j_markdown", "j_roff"};
 static unsigned long calls[FUNCTIONS], accepts[FUNCTIONS], numbers[MOST_NUMBER + 1], inputs;
 
 enum { MOST_BLOCKS = 8192, OUTCOMES = 16384 };
@@ -584,6 +611,109 @@ static void try_notes(uint64_t *state, const uint8_t *data, size_t n)
     }
 }
 
+/* ---- the joined form --------------------------------------------------------------------------------------------------------- */
+
+static struct answer run_joined_check(const uint8_t *joined, size_t n)
+{
+    struct answer answers[2];
+    for (int p = ENDS_AT_FENCE; p <= STARTS_AT_FENCE; p++) {
+        const uint8_t *lent = lend(&documents, joined, n, p);
+        size_t *place = lend_number(&places, UNWRITTEN, p);
+        uint32_t number = sefgrunn_joined_check(lent, n, place);
+        answers[p] = (struct answer){number, *place};
+        outcome(JOINED_CHECK, number, *place);
+        must(number <= 8 || number == 17 || number == 18, "joined_check: no number of its own");
+        must(*place <= n && (number != 0 || *place == 0), "joined_check: place");
+        must((number == 1) == (n > MOST_BYTES + 4), "joined_check: 1");
+    }
+    must(answers[0].number == answers[1].number && answers[0].at == answers[1].at, "joined_check: two answers");
+    return answers[0];
+}
+
+/* The settings of this call, which the renderers of the joined form take like the others; `width` is the console's. */
+static struct settings joined_settings;
+
+static uint32_t joined_console(const uint8_t *joined, size_t n, uint8_t *room, size_t room_len, size_t *at)
+{
+    struct settings s = joined_settings;
+    return sefgrunn_joined_console(joined, n, s.width, s.full, s.characters, room, room_len, at);
+}
+
+static uint32_t joined_html(const uint8_t *joined, size_t n, uint8_t *room, size_t room_len, size_t *at)
+{
+    return sefgrunn_joined_html(joined, n, joined_settings.full, joined_settings.css, room, room_len, at);
+}
+
+static uint32_t joined_html_strict(const uint8_t *joined, size_t n, uint8_t *room, size_t room_len, size_t *at)
+{
+    return sefgrunn_joined_html_strict(joined, n, joined_settings.full, joined_settings.css, room, room_len, at);
+}
+
+static uint32_t joined_markdown(const uint8_t *joined, size_t n, uint8_t *room, size_t room_len, size_t *at)
+{
+    return sefgrunn_joined_markdown(joined, n, joined_settings.full, room, room_len, at);
+}
+
+static const struct maker joined_renderers[] = {{JOINED_CONSOLE, joined_console}, {JOINED_HTML, joined_html},
+    {JOINED_HTML_STRICT, joined_html_strict}, {JOINED_MARKDOWN, joined_markdown}, {JOINED_ROFF, sefgrunn_joined_roff}};
+
+/* Any bytes as a joined form: checked, moved back, rendered. */
+static void try_any_joined(const uint8_t *joined, size_t n, size_t room_len)
+{
+    struct answer checked = run_joined_check(joined, n), got;
+    struct maker unjoin = {UNJOIN, sefgrunn_unjoin};
+
+    got = try_maker(unjoin, joined, n, room_len);
+    must(got.number == checked.number || (checked.number == 0 && got.number == 13), "unjoin: not the check's number");
+    must(got.number != 0 || got.at + 4 == n, "unjoin: length");
+    for (int i = 0; i < 5; i++) {
+        struct settings s = joined_settings;
+        s.function = CONSOLE + (enum function)i;
+        got = run_maker(joined_renderers[i], joined, n, room_len);
+        if (checked.number == 0) {
+            must(may_give(s, checked, got), "joined renderer: number");
+        } else {
+            /* 1 and 17 come before 9 */
+            int wide = i == 0 && s.width > MOST_WIDTH && checked.number != 1 && checked.number != 17;
+            must(wide ? got.number == 9 && got.at == 0 : got.number == checked.number && got.at == checked.at, "joined renderer: refusal");
+        }
+    }
+}
+
+/* A document moved over, moved back, and rendered in both forms. */
+static void try_joined(uint64_t *state, const uint8_t *data, size_t n, struct answer checked)
+{
+    static uint8_t form[MOST_ROOM], old[MOST_ROOM];
+    struct maker join = {JOIN, sefgrunn_join}, unjoin = {UNJOIN, sefgrunn_unjoin};
+    size_t room_len = room_size(state, n), form_n;
+    struct answer got;
+
+    joined_settings = (struct settings){JOINED_CONSOLE, width(state), below(state, 3) != 0, below(state, 4) == 0, below(state, 2) == 0};
+    try_any_joined(data, n, room_len);
+    got = try_maker(join, data, n, MOST_BYTES + 4);
+    must(got.number == checked.number && got.at == (checked.number == 0 ? n + 4 : checked.at), "join: not the check's answer");
+    if (got.number != 0) {
+        return;
+    }
+    form_n = got.at;
+    memcpy(form, text, form_n);
+    must(run_joined_check(form, form_n).number == 0, "join: no joined form");
+    got = run_maker(unjoin, form, form_n, n);
+    must(got.number == 0 && got.at == n && memcmp(text, data, n) == 0, "unjoin: not the document");
+    for (int i = 0; i < 5; i++) {
+        struct settings s = joined_settings;
+        s.function = CONSOLE + (enum function)i;
+        got = run_render(s, data, n, checked, room_len);
+        memcpy(old, text, got.number == 0 ? got.at : 0);
+        struct answer new = run_maker(joined_renderers[i], form, form_n, room_len);
+        must(new.number == got.number && (got.number != 0 || (new.at == got.at && memcmp(text, old, got.at) == 0)),
+            "joined renderer: not as the document");
+    }
+    /* one byte changed */
+    form[below(state, form_n)] ^= (uint8_t)(1u << below(state, 8));
+    try_any_joined(form, form_n, room_len);
+}
+
 /* ---- the builder ------------------------------------------------------------------------------------------------------------- */
 
 struct build {
@@ -717,31 +847,6 @@ static void try_builder(uint64_t *state, const uint8_t *data, size_t n, size_t c
 
 /* ---- one input --------------------------------------------------------------------------------------------------------------- */
 
-static size_t room_size(uint64_t *state, size_t n)
-{
-    switch (below(state, 12)) {
-    case 0:
-        return 0;
-    case 1:
-    case 2:
-        return below(state, 80);
-    case 3:
-        return n;
-    case 4:
-        return 65536;
-    case 5:
-        return below(state, 8) == 0 ? MOST_ROOM : 2 * n;
-    default:
-        return 6 * n + 700;
-    }
-}
-
-static size_t width(uint64_t *state)
-{
-    static const size_t others[] = {100, 80, 40, 9999, 10000, 10001, (size_t)-1};
-    return below(state, 3) == 0 ? others[below(state, 7)] : below(state, 111);
-}
-
 /* The start of a record chosen among the first 64, so that a document so far ends between records, some blocks open. */
 static size_t record_start(uint64_t *state, const uint8_t *data, size_t n)
 {
@@ -775,6 +880,7 @@ int LLVMFuzzerTestOneInput(const uint8_t *data, size_t n)
     try_notes(&state, data, n);
     /* from the first text record's body on there is text that may be notes */
     try_notes(&state, data + (n < 6 ? n : 6), n < 6 ? 0 : n - 6);
+    try_joined(&state, data, n, checked);
     try_builder(&state, data, n, below(&state, 4) == 0 ? n : record_start(&state, data, n));
     return 0;
 }

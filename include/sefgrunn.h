@@ -27,15 +27,16 @@ extern "C" {
 #define SEFGRUNN_VERSION_MINOR 1
 #define SEFGRUNN_VERSION_PATCH 0
 
-/* The limits of a document: its bytes, the blocks that may be open at once, and the columns of console text. */
+/* The limits of a document: its bytes, those of its joined form, the blocks that may be open at once, and the columns of console text. */
 #define SEFGRUNN_MOST_BYTES 32768
+#define SEFGRUNN_MOST_JOINED_BYTES 32772
 #define SEFGRUNN_MOST_OPEN 32
 #define SEFGRUNN_MOST_WIDTH 10000
 
 /* Why a call was refused, and what its place is, in bytes from the document's start. */
 enum sefgrunn_refusal {
     SEFGRUNN_ACCEPTED = 0,
-    SEFGRUNN_TOO_LONG = 1,           /* document, or notes, over 32,768 bytes; place 0 */
+    SEFGRUNN_TOO_LONG = 1,           /* document, or notes, over 32,768 bytes, joined form over 32,772; place 0 */
     SEFGRUNN_CUT_SHORT = 2,          /* under 6 bytes left, or a body longer than what is left; place of the record */
     SEFGRUNN_UNKNOWN_KIND = 3,       /* unknown kind; place of the record */
     SEFGRUNN_BLOCK_WITH_BODY = 4,    /* block record with a body; place of the record */
@@ -49,6 +50,9 @@ enum sefgrunn_refusal {
     SEFGRUNN_NO_FORM = 11,           /* Meta in HTML or Markdown, TermRef in roff; place of the record */
     /* 12 was a byte over 127 in a roff heading. Headings have been upper-cased beyond ASCII since; the number is not used again. */
     SEFGRUNN_NO_ROOM = 13,           /* no room; place 0 */
+    SEFGRUNN_NO_JOINED_TEXT = 17,    /* joined form of under four bytes, or whose text runs past its end; place 0 */
+    SEFGRUNN_WRONG_SHARE = 18,       /* record's text past the end of the joined text; place of the record; or text left over; the place is
+                                        the joined form's length */
     SEFGRUNN_NOTES_NOT_UTF8 = 19,    /* notes that are not UTF-8; place 0 */
     SEFGRUNN_WRONG_HEIGHT = 20,      /* height of a page outside 1 to 200; place 0 */
     SEFGRUNN_NO_PAGE = 21            /* page 0, or beyond the last; place 0 */
@@ -146,6 +150,31 @@ uint32_t sefgrunn_markdown(const uint8_t *document, size_t n, bool full, uint8_t
  * Without .TH, groff shows no headings and other characters for `-` and backticks. Without .nh, it hyphenates words at line ends, options
  * too: `--certificate` becomes `--cer`, a hyphen that the document does not have, and `tificate` on the next line. */
 uint32_t sefgrunn_roff(const uint8_t *document, size_t n, uint8_t *room, size_t room_len, size_t *at);
+
+/* The joined form of a document: the length of its text in four bytes, the least first, the text, then for each record of the document
+ * its length and its kind, without its body; the texts follow one another in the joined text. It has four bytes more than the document.
+ *
+ * Refusals, with places in the joined form: 1 over 32,772 bytes; 17; 9 (console); at each record 2 (only for under 6 bytes left), 3, 4, 18
+ * where its text passes the end of the joined text, 5 (a text's share that is not UTF-8 by itself), 6, 7; after the records 8, then 18
+ * where text is left over, both with the form's length as place; then as of a document: 10 at the chunk's byte in the text, 11, 13. */
+
+/* A document moved over. Reads n bytes at document. Writes all room_len bytes at room: the joined form, then zeros; all zeros after a
+ * refusal. Writes *at: the form's length, or the place. Refusals 1 to 8 of the document, then 13. */
+uint32_t sefgrunn_join(const uint8_t *document, size_t n, uint8_t *room, size_t room_len, size_t *at);
+
+/* A joined form moved back. As sefgrunn_join; refusals 1, 17, 2 to 8 and 18, then 13. */
+uint32_t sefgrunn_unjoin(const uint8_t *joined, size_t n, uint8_t *room, size_t room_len, size_t *at);
+
+/* Whether a joined form is accepted. As sefgrunn_check; refusals 1, 17, 2 to 8 and 18. */
+uint32_t sefgrunn_joined_check(const uint8_t *joined, size_t n, size_t *place);
+
+/* The texts of a joined form: those of its document, byte for byte. Each is as the function without joined_ in its name. */
+uint32_t sefgrunn_joined_console(const uint8_t *joined, size_t n, size_t width, bool full, bool characters, uint8_t *room, size_t room_len,
+    size_t *at);
+uint32_t sefgrunn_joined_html(const uint8_t *joined, size_t n, bool full, bool css, uint8_t *room, size_t room_len, size_t *at);
+uint32_t sefgrunn_joined_html_strict(const uint8_t *joined, size_t n, bool full, bool css, uint8_t *room, size_t room_len, size_t *at);
+uint32_t sefgrunn_joined_markdown(const uint8_t *joined, size_t n, bool full, uint8_t *room, size_t room_len, size_t *at);
+uint32_t sefgrunn_joined_roff(const uint8_t *joined, size_t n, uint8_t *room, size_t room_len, size_t *at);
 
 /* The document of a writer's notes: lines that end at line feeds. A line starting with a number sign and a space becomes a Header, one
  * starting with a hyphen and a space an ItemBody, each holding the rest of the line. A line that is empty or all spaces separates. Other

@@ -166,6 +166,44 @@ fn beside_check(call: Call, document: &[u8]) -> Option<Times> {
     })
 }
 
+/// The console text of the joined form; the document's own stands in for the Rust. Then moving over and
+/// back; the port's check and a copy stand in. `None` where the page is refused.
+fn joined_rows(name: &str, document: &[u8]) -> Option<()> {
+    let form = crate::joined::join(document, usize::MAX).ok()?;
+    let need = rules::render(CONSOLE, document, usize::MAX).most;
+    let (mut room, mut other) = (vec![0; need], vec![0; need]);
+    let run = |call, given: &[u8], room: &mut [u8]| port(call, given, black_box(room)) == 0;
+    let (new, old) = (Call::JoinedRender(CONSOLE), Call::Render(CONSOLE));
+    if run(new, &form, &mut room) && run(old, document, &mut other) {
+        let times = medians(
+            400,
+            || batch(BATCH, || assert!(run(new, &form, &mut room))),
+            || batch(BATCH, || assert!(run(old, document, &mut other))),
+        );
+        assert_eq!(room, other);
+        row("joined (rust: console)", name, form.len(), Some(times));
+    }
+    for (what, call, given, made) in [
+        ("join (rust: check, copy)", Call::Join, document, &form[..]),
+        ("unjoin (same)", Call::Unjoin, &form[..], document),
+    ] {
+        let (mut room, mut copy) = (vec![0; made.len()], vec![0; document.len()]);
+        let times = medians(
+            400,
+            || batch(BATCH, || assert!(run(call, given, &mut room))),
+            || {
+                batch(BATCH, || {
+                    assert!(run(Call::Check, document, &mut []));
+                    black_box(&mut copy).copy_from_slice(document);
+                })
+            },
+        );
+        assert_eq!(room, made);
+        row(what, name, given.len(), Some(times));
+    }
+    Some(())
+}
+
 /// A term of 24 characters, which settles the tabstop.
 fn settling_term() -> Vec<u8> {
     let mut term = Vec::new();
@@ -365,6 +403,7 @@ pub fn page(name: &str, document: &[u8]) -> Option<()> {
         row(what, name, whole.len(), beside_check(Call::Tabstop, &whole));
     }
     row("shape (rust: check)", name, bytes, beside_check(Call::Shape, document));
+    joined_rows(name, document)?;
     for (what, renderer) in [
         ("console, room as needed", CONSOLE),
         ("html", HTML),

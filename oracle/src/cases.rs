@@ -1,6 +1,7 @@
 //! One type for a call of any public function and one for its answer, with the list form that
 //! `oracle record` writes.
 
+use crate::joined;
 use crate::notes;
 use crate::pages;
 use crate::rules::{self, Chunk, Operation, PlainCursor, Refusal, Renderer};
@@ -27,6 +28,10 @@ pub enum Call {
     },
     Shape,
     Notes,
+    Join,
+    Unjoin,
+    JoinedCheck,
+    JoinedRender(Renderer),
 }
 
 /// A call with all that it reads and all that its room holds before it.
@@ -34,7 +39,7 @@ pub enum Call {
 pub struct Case {
     pub call: Call,
     /// the document; for the builder the text written or the document added; the body to split; the
-    /// text to page; the notes
+    /// text to page; the notes; the joined form
     pub document: Vec<u8>,
     /// the room before the call: a pattern without zeros, or the builder's document so far and then
     /// such a pattern
@@ -130,6 +135,19 @@ pub fn answer(case: &Case) -> Answer {
             let document = notes::taken_in(&case.document, case.room.len());
             fill(&mut answer.room, document)
         }
+        Call::Join => {
+            let form = joined::join(&case.document, case.room.len());
+            fill(&mut answer.room, form)
+        }
+        Call::Unjoin => {
+            let document = joined::unjoin(&case.document, case.room.len());
+            fill(&mut answer.room, document)
+        }
+        Call::JoinedCheck => joined::check_joined(&case.document).map(|()| 0),
+        Call::JoinedRender(renderer) => {
+            let run = joined::render(renderer, &case.document, case.room.len());
+            fill(&mut answer.room, run.outcome)
+        }
     };
     match outcome {
         Ok(at) => answer.at = at,
@@ -170,6 +188,14 @@ fn header(call: Call) -> Option<(u8, u64, bool, bool)> {
         Call::Split => (11, 0, false, false),
         Call::NextChunk { at, .. } => (12, at, false, false),
         Call::Tabstop => (13, 0, false, false),
+        Call::Join => (14, 0, false, false),
+        Call::Unjoin => (15, 0, false, false),
+        Call::JoinedCheck => (16, 0, false, false),
+        // 1 to 5 become 17 to 21
+        Call::JoinedRender(renderer) => {
+            let (number, setting, full, css) = header(Call::Render(renderer))?;
+            (number + 16, setting, full, css)
+        }
         Call::PageCount { .. } | Call::Page { .. } | Call::Shape | Call::Notes => return None,
     })
 }
@@ -196,21 +222,24 @@ fn put(out: &mut Vec<u8>, number: u64) {
 /// ```text
 /// n    bytes of this case after this number
 /// u8   call: 0 check, 1 console, 2 html, 3 html_strict, 4 markdown, 5 roff,
-///      6 write, 7 open, 8 close, 9 doc, 10 em_doc, 11 split, 12 next_chunk, 13 tabstop
+///      6 write, 7 open, 8 close, 9 doc, 10 em_doc, 11 split, 12 next_chunk, 13 tabstop,
+///      14 join, 15 unjoin, 16 joined_check, 17 to 21 the renderers 1 to 5 of a joined form
 /// n    width (console), style (write), block (open, close) or place in the body (next_chunk); else 0
 /// u8   full (console, html, html_strict, markdown), ticks (next_chunk); else 0
 /// u8   css (html, html_strict), by characters (console); else 0
 /// n    room length R
 /// n    document length D
-/// D    the document; write: the text; doc, em_doc: the document added; split, next_chunk: the body
+/// D    the document; write: the text; doc, em_doc: the document added; split, next_chunk: the body;
+///      15 to 21: the joined form
 /// 6 to 10 only:
 ///   n    length so far L (may pass R)
 ///   the first L bytes of the room before the call, or R if that is less; the others are the pattern
 /// the answer:
 /// n    number: 0 accepted, else the refusal
-/// n    place of a refusal; accepted: length of the text (1 to 5), count of chunks (11), else 0
-/// accepted 1 to 5:  the text; the room's other bytes are 0
-/// refused 1 to 5:   nothing; every byte of the room is 0
+/// n    place of a refusal; accepted: length of the text (1 to 5, 17 to 21) or of what was moved (14,
+///      15), count of chunks (11), else 0
+/// accepted 1 to 5, 14, 15, 17 to 21:  the text or what was moved; the room's other bytes are 0
+/// refused 1 to 5, 14, 15, 17 to 21:   nothing; every byte of the room is 0
 /// accepted 6 to 10: n, the new length, and so many bytes; the room's other bytes are the pattern
 /// refused 6 to 10:  nothing; length and room are as before
 /// 11, for each chunk:
@@ -250,7 +279,7 @@ pub fn list(case: &Case, answer: &Answer, out: &mut Vec<u8>) {
     if answer.number == 0 && builds {
         put(&mut body, answer.length);
         body.extend_from_slice(document_in(&answer.room, answer.length));
-    } else if answer.number == 0 && matches!(case.call, Call::Render(_)) {
+    } else if answer.number == 0 && fills_room(case.call) {
         body.extend_from_slice(&answer.room[..answer.at as usize]);
     }
     for chunk in &answer.chunks {
@@ -266,6 +295,14 @@ pub fn list(case: &Case, answer: &Answer, out: &mut Vec<u8>) {
     answer.numbers.iter().for_each(|&n| put(&mut body, n));
     put(out, body.len() as u64);
     out.extend(body);
+}
+
+/// Whether an accepted call fills the first bytes of its room, and zeros the others.
+pub fn fills_room(call: Call) -> bool {
+    matches!(
+        call,
+        Call::Render(_) | Call::Notes | Call::Join | Call::Unjoin | Call::JoinedRender(_)
+    )
 }
 
 /// What a builder's room holds of a document of `length` bytes. The others are the pattern, which a

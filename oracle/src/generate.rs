@@ -25,10 +25,13 @@ pub enum Subject {
     Pages,
     Shape,
     Notes,
+    Join,
+    /// a joined form: checked, moved back, rendered
+    Joined,
 }
 
 impl Subject {
-    pub const ALL: [(Subject, &'static str); 14] = [
+    pub const ALL: [(Subject, &'static str); 16] = [
         (Subject::Check, "check"),
         (Subject::Console, "console"),
         (Subject::Html, "html"),
@@ -43,6 +46,8 @@ impl Subject {
         (Subject::Pages, "pages"),
         (Subject::Shape, "shape"),
         (Subject::Notes, "notes"),
+        (Subject::Join, "join"),
+        (Subject::Joined, "joined"),
     ];
 
     /// Whether lists have its calls.
@@ -798,10 +803,10 @@ fn room_length(rng: &mut Rng, need: usize) -> usize {
     }
 }
 
-fn rendering(rng: &mut Rng, subject: Subject, limits: Limits) -> Case {
-    let document = document(rng, subject, limits, 10);
+/// The renderer of a subject, in settings of chance.
+fn renderer(rng: &mut Rng, subject: Subject, limits: Limits) -> Renderer {
     let (full, css) = (!rng.once_in(3), rng.once_in(6));
-    let renderer = match subject {
+    match subject {
         Subject::Console => {
             Renderer::Console { width: width(rng, limits), full, characters: rng.once_in(2) }
         }
@@ -809,7 +814,12 @@ fn rendering(rng: &mut Rng, subject: Subject, limits: Limits) -> Case {
         Subject::HtmlStrict => Renderer::Html { full, css, strict: true },
         Subject::Markdown => Renderer::Markdown { full },
         _ => Renderer::Roff,
-    };
+    }
+}
+
+fn rendering(rng: &mut Rng, subject: Subject, limits: Limits) -> Case {
+    let document = document(rng, subject, limits, 10);
+    let renderer = renderer(rng, subject, limits);
     let need = rules::render(renderer, &document, usize::MAX).most;
     let room = pattern(0, room_length(rng, need)).collect();
     Case { call: Call::Render(renderer), document, room, length: 0 }
@@ -1116,6 +1126,98 @@ fn noting(rng: &mut Rng) -> Case {
     Case { call: Call::Notes, document: notes, room, length: 0 }
 }
 
+/// A joined form: of a valid document, and in a third of the cases changed.
+fn joined_form(rng: &mut Rng, subject: Subject, limits: Limits) -> Vec<u8> {
+    let palette = Palette::of(subject, rng);
+    let document = match rng.below(40) {
+        0 if limits.bytes > MOST_BYTES => {
+            let size = rng.within(MOST_BYTES - 1, MOST_BYTES);
+            sized(rng, palette, size)
+        }
+        1 if limits.bytes >= DEEP_BYTES => deep(rng, palette),
+        _ => document(rng, subject, limits, 1_000_000),
+    };
+    // record by record, so that documents which nest too deep are moved too
+    let (mut text, mut heads, mut rest) = (Vec::new(), Vec::new(), &document[..]);
+    while let Some((head, tail)) = rest.split_first_chunk::<6>() {
+        let size = u32::from_le_bytes([head[0], head[1], head[2], head[3]]) as usize;
+        let Some((body, after)) = tail.split_at_checked(size) else { break };
+        text.extend_from_slice(body);
+        heads.extend_from_slice(head);
+        rest = after;
+    }
+    let mut form = (text.len() as u32).to_le_bytes().to_vec();
+    form.extend(text);
+    form.extend(heads);
+    if !rng.once_in(3) {
+        return form;
+    }
+    let text = u32::from_le_bytes([form[0], form[1], form[2], form[3]]) as usize;
+    let records = (form.len() - 4 - text) / 6;
+    let some_record = 4 + text + 6 * rng.below(records.max(1));
+    let add = |form: &mut Vec<u8>, at: usize, n: i64| {
+        if let Some(bytes) = form.get_mut(at..at + 4) {
+            let size = u32::from_le_bytes([bytes[0], bytes[1], bytes[2], bytes[3]]);
+            bytes.copy_from_slice(&(i64::from(size) + n).max(0).to_le_bytes()[..4]);
+        }
+    };
+    let one = rng.pick(&[-1, 1]);
+    match rng.below(16) {
+        // the text's length, alone or with a byte of text put in or taken out
+        0 => add(&mut form, 0, one),
+        1 => form[..4].copy_from_slice(&rng.pick(&[u32::MAX, 0x0100_0000, 0]).to_le_bytes()),
+        2 => {
+            add(&mut form, 0, 1);
+            form.insert(4 + rng.below(text + 1), rng.pick(&[b'x', b' ', 0xC3]));
+        }
+        3 if text > 0 => {
+            add(&mut form, 0, -1);
+            form.remove(4 + rng.below(text));
+        }
+        // one share grows, another shrinks, or both
+        4..=5 => add(&mut form, some_record, one),
+        6..=8 => {
+            let other = 4 + text + 6 * rng.below(records.max(1));
+            add(&mut form, some_record, one);
+            add(&mut form, other, -one);
+        }
+        // a byte of the text
+        9 if text > 0 => form[4 + rng.below(text)] = rng.pick(&[0x80, 0xFF, 0xC3, b'x', b'\n']),
+        // a record's kind, a record taken out or put in
+        10..=11 if some_record + 6 <= form.len() => {
+            let kind = rng.pick(&[0, 6, 0x0300, 0x010C, 1, 3, 0x0100, 0x010B, 0x0200, 0x020B]);
+            form[some_record + 4..some_record + 6].copy_from_slice(&u16::to_le_bytes(kind));
+        }
+        12 if some_record + 6 <= form.len() => drop(form.drain(some_record..some_record + 6)),
+        13 => {
+            let mut new = Vec::new();
+            put_record(&mut new, rng.pick(&[1, 2, 0x0100, 0x010B, 0x020B, 7]), b"");
+            form.splice(some_record.min(form.len())..some_record.min(form.len()), new);
+        }
+        14 => form.truncate(rng.below(form.len() + 1)),
+        _ => form.extend((0..rng.within(1, 7)).map(|_| rng.pick(&[0, 0, 1, 2, 11]))),
+    }
+    form
+}
+
+/// A call on a joined form.
+fn joining(rng: &mut Rng, limits: Limits) -> Case {
+    use Subject::*;
+    let subject = rng.pick(&[Console, Console, Console, Html, HtmlStrict, Markdown, Roff]);
+    let form = joined_form(rng, subject, limits);
+    let (call, need) = match rng.below(4) {
+        0 => (Call::JoinedCheck, 0),
+        1 => (Call::Unjoin, form.len().saturating_sub(4)),
+        _ => {
+            let renderer = renderer(rng, subject, limits);
+            let most = crate::joined::render(renderer, &form, usize::MAX).most;
+            (Call::JoinedRender(renderer), most)
+        }
+    };
+    let room_len = if call == Call::JoinedCheck { 0 } else { room_length(rng, need) };
+    Case { call, document: form, room: pattern(0, room_len).collect(), length: 0 }
+}
+
 /// The case of a subject with this seed and index.
 pub fn case(subject: Subject, seed: u64, index: u64, limits: Limits) -> Case {
     let rng = &mut Rng::new(seed, index);
@@ -1133,6 +1235,12 @@ pub fn case(subject: Subject, seed: u64, index: u64, limits: Limits) -> Case {
         Subject::Headings => heading_of_all(rng, index),
         Subject::Pages => paging(rng, limits),
         Subject::Notes => noting(rng),
+        Subject::Join => {
+            let document = document(rng, subject, limits, 4);
+            let room = pattern(0, room_length(rng, document.len() + 4)).collect();
+            Case { call: Call::Join, document, room, length: 0 }
+        }
+        Subject::Joined => joining(rng, limits),
         Subject::Split => splitting(rng, limits),
         Subject::NextChunk => stepping(rng, limits),
         _ => rendering(rng, subject, limits),
@@ -1188,6 +1296,8 @@ pub fn owed(subject: Subject) -> &'static [u32] {
         Subject::NextChunk => &[0, 1, 2, 3, 4],
         Subject::Pages => &[0, 20, 21],
         Subject::Notes => &[0, 1, 13, 19],
+        Subject::Join => &[0, 1, 2, 3, 4, 5, 6, 7, 8, 13],
+        Subject::Joined => &[0, 1, 2, 3, 4, 5, 6, 7, 8, 9, 10, 11, 13, 17, 18],
     }
 }
 

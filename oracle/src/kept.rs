@@ -10,6 +10,7 @@ use std::sync::Once;
 
 use crate::buffer::{plain_chunks, Color, PlainChunk, Token};
 use crate::cases::{Answer, Call, Case};
+use crate::joined;
 use crate::notes;
 use crate::pages;
 use crate::rules::{self, Chunk, Kind, Operation, Record, Refusal, Renderer};
@@ -58,6 +59,22 @@ fn rebuilt(records: &[Record], body: impl Fn(usize, &str) -> String) -> Doc {
         });
     }
     Doc::from_parts(tokens, payload)
+}
+
+/// The document of a text and of records whose bodies are only counted: bpaf's `Doc` is such a pair.
+pub(crate) fn unjoined(text: &[u8], records: &[Record]) -> Vec<u8> {
+    let tokens = records
+        .iter()
+        .map(|record| match record.kind {
+            Kind::Text(style) => {
+                Token::Text { bytes: record.body.len(), style: Style::ALL[style - 1].kept() }
+            }
+            Kind::Start(block) => Token::BlockStart(Block::ALL[block].kept()),
+            Kind::End(block) => Token::BlockEnd(Block::ALL[block].kept()),
+        })
+        .collect();
+    let payload = std::str::from_utf8(text).expect("accepted bodies, joined").to_string();
+    Doc::from_parts(tokens, payload).stored()
 }
 
 /// Strict HTML has no counterpart in the Rust. Here it is the Rust's HTML of a document whose
@@ -487,5 +504,7 @@ pub fn confirm(case: &Case, answer: &Answer) -> Result<(), String> {
         }
         Call::Shape => shape::confirm(&case.document),
         Call::Notes => notes::confirm(&case.document),
+        Call::Join => joined::confirm_join(&case.document),
+        Call::Unjoin | Call::JoinedCheck | Call::JoinedRender(_) => joined::confirm_joined(case),
     }
 }

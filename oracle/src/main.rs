@@ -18,7 +18,7 @@ const USAGE: &str = "\
 usage: oracle answer console|html|html_strict|markdown|roff
               [--width N] [--full 0|1] [--characters 0|1] [--css 0|1] [--room N] < document
        oracle record check|console|html|html_strict|markdown|roff|headings|builder|split
-              |next_chunk|tabstop
+              |next_chunk|tabstop|join|joined
               --seed S --cases N [--max-bytes B] > list
        oracle compare --seed S --cases N [--only SUBJECT,..]
        oracle selfcheck --seed S --cases N [--only SUBJECT,..]

@@ -167,6 +167,22 @@ pub(crate) fn number(call: Call, document: &[u8], room: &mut [u8], stored: &mut 
                 c::sefgrunn_page(d, n, height as usize, page as usize, first, second)
             }
             Call::Notes => c::sefgrunn_notes(d, n, r, r_len, at),
+            Call::Join => c::sefgrunn_join(d, n, r, r_len, at),
+            Call::Unjoin => c::sefgrunn_unjoin(d, n, r, r_len, at),
+            Call::JoinedCheck => c::sefgrunn_joined_check(d, n, at),
+            Call::JoinedRender(Renderer::Console { width, full, characters }) => {
+                c::sefgrunn_joined_console(d, n, width as usize, full, characters, r, r_len, at)
+            }
+            Call::JoinedRender(Renderer::Html { full, css, strict: false }) => {
+                c::sefgrunn_joined_html(d, n, full, css, r, r_len, at)
+            }
+            Call::JoinedRender(Renderer::Html { full, css, strict: true }) => {
+                c::sefgrunn_joined_html_strict(d, n, full, css, r, r_len, at)
+            }
+            Call::JoinedRender(Renderer::Markdown { full }) => {
+                c::sefgrunn_joined_markdown(d, n, full, r, r_len, at)
+            }
+            Call::JoinedRender(Renderer::Roff) => c::sefgrunn_joined_roff(d, n, r, r_len, at),
             Call::Shape => {
                 let mut shaped = u32::MAX;
                 let number = c::sefgrunn_house_shape(d, n, &mut shaped, at);

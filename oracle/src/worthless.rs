@@ -4,7 +4,7 @@
 //! Each is as hard to tell as it can be: all but the first refuse exactly what 01 refuses, and are
 //! worthless only where a call is accepted.
 
-use crate::cases::{answer, put_chunk, Answer, Call, Case};
+use crate::cases::{answer, fills_room, put_chunk, Answer, Call, Case};
 use crate::generate::{case, owed, Limits, Subject};
 use crate::rules::{characters, render_misread, Chunk, Misreading, Refusal, Renderer};
 
@@ -99,7 +99,7 @@ fn refuse(got: &mut Answer, case: &Case, refusal: Refusal) {
     }
     (got.number, got.at) = (refusal.number, refusal.place as u64);
     match case.call {
-        Call::Render(_) | Call::Notes => got.room.fill(0),
+        call if fills_room(call) => got.room.fill(0),
         _ => (got.room, got.length) = (case.room.clone(), case.length),
     }
     got.numbers.fill(0);

@@ -66,6 +66,64 @@ extern "C" {
         room_len: usize,
         at: *mut usize,
     ) -> u32;
+    pub fn sefgrunn_join(
+        document: *const u8,
+        n: usize,
+        room: *mut u8,
+        room_len: usize,
+        at: *mut usize,
+    ) -> u32;
+    pub fn sefgrunn_unjoin(
+        joined: *const u8,
+        n: usize,
+        room: *mut u8,
+        room_len: usize,
+        at: *mut usize,
+    ) -> u32;
+    pub fn sefgrunn_joined_check(joined: *const u8, n: usize, place: *mut usize) -> u32;
+    pub fn sefgrunn_joined_console(
+        joined: *const u8,
+        n: usize,
+        width: usize,
+        full: bool,
+        characters: bool,
+        room: *mut u8,
+        room_len: usize,
+        at: *mut usize,
+    ) -> u32;
+    pub fn sefgrunn_joined_html(
+        joined: *const u8,
+        n: usize,
+        full: bool,
+        css: bool,
+        room: *mut u8,
+        room_len: usize,
+        at: *mut usize,
+    ) -> u32;
+    pub fn sefgrunn_joined_html_strict(
+        joined: *const u8,
+        n: usize,
+        full: bool,
+        css: bool,
+        room: *mut u8,
+        room_len: usize,
+        at: *mut usize,
+    ) -> u32;
+    pub fn sefgrunn_joined_markdown(
+        joined: *const u8,
+        n: usize,
+        full: bool,
+        room: *mut u8,
+        room_len: usize,
+        at: *mut usize,
+    ) -> u32;
+    pub fn sefgrunn_joined_roff(
+        joined: *const u8,
+        n: usize,
+        room: *mut u8,
+        room_len: usize,
+        at: *mut usize,
+    ) -> u32;
     pub fn sefgrunn_notes(
         notes: *const u8,
         n: usize,

@@ -27,6 +27,7 @@ use std::error::Error;
 use std::fmt;
 
 mod c;
+pub mod joined;
 mod linked;
 
 /// The most bytes that a document may have.
@@ -46,7 +47,7 @@ const FIRST_ROOM: usize = 4_096;
 #[derive(Debug, Clone, Copy, PartialEq, Eq, Hash, PartialOrd, Ord)]
 #[repr(u32)]
 pub enum Number {
-    /// The document, or notes, are over 32,768 bytes. Place 0.
+    /// The document, or notes, are over 32,768 bytes, or a joined form over 32,772. Place 0.
     TooLong = 1,
     /// Under 6 bytes are left, or a body is longer than what is left. Place of the record.
     CutShort = 2,
@@ -72,6 +73,11 @@ pub enum Number {
     // 12 is not used again.
     /// The room is too small. Place 0.
     NoRoom = 13,
+    /// A joined form has under four bytes, or its text runs past its end. Place 0.
+    NoJoinedText = 17,
+    /// A record's text passes the end of the joined text: place of the record. Or joined text is left
+    /// over: the place is the form's length.
+    WrongShare = 18,
     /// Notes are not UTF-8. Place 0.
     NotesNotUtf8 = 19,
     /// The height of a page is outside 1 to 200. Place 0.
@@ -82,7 +88,7 @@ pub enum Number {
 
 impl Number {
     /// All of them, in order.
-    pub const ALL: [Number; 15] = [
+    pub const ALL: [Number; 17] = [
         Number::TooLong,
         Number::CutShort,
         Number::UnknownKind,
@@ -95,6 +101,8 @@ impl Number {
         Number::BeyondMargin,
         Number::NoForm,
         Number::NoRoom,
+        Number::NoJoinedText,
+        Number::WrongShare,
         Number::NotesNotUtf8,
         Number::WrongHeight,
         Number::NoPage,
@@ -119,6 +127,8 @@ impl Number {
             Number::BeyondMargin => "text is more than 50 columns before its margin",
             Number::NoForm => "this form has no such block",
             Number::NoRoom => "no room",
+            Number::NoJoinedText => "a joined form without its text",
+            Number::WrongShare => "the records do not share out the joined text",
             Number::NotesNotUtf8 => "notes are not UTF-8",
             Number::WrongHeight => "the height of a page is outside 1 to 200",
             Number::NoPage => "there is no such page",
@@ -334,6 +344,23 @@ pub fn tabstop(document: &[u8]) -> Result<Tabstop, Refusal> {
     Ok(Tabstop { columns, settled: at })
 }
 
+/// The bytes that a call made in a room.
+fn made(room: &[u8], (number, at): (u32, usize)) -> Result<&[u8], Refusal> {
+    accepted(number, at)?;
+    Ok(&room[..at])
+}
+
+/// What is made in a room of so many bytes, as a `Vec`.
+fn in_room_of(
+    most: usize,
+    make: impl FnOnce(&mut [u8]) -> Result<usize, Refusal>,
+) -> Result<Vec<u8>, Refusal> {
+    let mut room = vec![0; most];
+    let length = make(&mut room)?;
+    room.truncate(length);
+    Ok(room)
+}
+
 /// The text in the first room that is large enough, up to [`MOST_ROOM`].
 fn grown(render: impl Fn(&mut [u8]) -> Result<usize, Refusal>) -> Result<String, Refusal> {
     let mut room = vec![0; FIRST_ROOM];
@@ -388,9 +415,8 @@ pub fn roff_string(document: &[u8]) -> Result<String, Refusal> {
 ///
 /// Every byte of the room is written: the document, then zeros; only zeros where the call is refused.
 pub fn notes<'r>(notes: &[u8], room: &'r mut [u8]) -> Result<&'r [u8], Refusal> {
-    let (number, at) = linked::notes(notes, room);
-    accepted(number, at)?;
-    Ok(&room[..at])
+    let answer = linked::notes(notes, room);
+    made(room, answer)
 }
 
 /// [`notes`] as a `Vec`.
@@ -404,10 +430,7 @@ pub fn notes<'r>(notes: &[u8], room: &'r mut [u8]) -> Result<&'r [u8], Refusal> 
 /// # }
 /// ```
 pub fn notes_document(notes: impl AsRef<[u8]>) -> Result<Vec<u8>, Refusal> {
-    let mut room = vec![0; MOST_BYTES];
-    let length = self::notes(notes.as_ref(), &mut room)?.len();
-    room.truncate(length);
-    Ok(room)
+    in_room_of(MOST_BYTES, |room| self::notes(notes.as_ref(), room).map(<[u8]>::len))
 }
 
 // ---------------------------------------------------------------------------------------------
@@ -682,7 +705,7 @@ mod tests {
     #[test]
     fn numbers_are_those_of_the_header() {
         let numbers: Vec<u32> = Number::ALL.map(Number::get).to_vec();
-        assert_eq!(numbers, [1, 2, 3, 4, 5, 6, 7, 8, 9, 10, 11, 13, 19, 20, 21]);
+        assert_eq!(numbers, [1, 2, 3, 4, 5, 6, 7, 8, 9, 10, 11, 13, 17, 18, 19, 20, 21]);
         for number in Number::ALL {
             assert_eq!(accepted(number.get(), 7), Err(Refusal { number, place: 7 }));
         }

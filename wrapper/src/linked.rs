@@ -104,6 +104,65 @@ pub fn tabstop(document: &[u8]) -> (u32, usize, usize) {
     (number, tabstop, at)
 }
 
+pub fn join(document: &[u8], room: &mut [u8]) -> (u32, usize) {
+    let (d, n, r, len, mut at) = parts(document, room);
+    // SAFETY: see above.
+    let number = unsafe { c::sefgrunn_join(d, n, r, len, &mut at) };
+    (number, at)
+}
+
+pub fn unjoin(joined: &[u8], room: &mut [u8]) -> (u32, usize) {
+    let (d, n, r, len, mut at) = parts(joined, room);
+    // SAFETY: see above.
+    let number = unsafe { c::sefgrunn_unjoin(d, n, r, len, &mut at) };
+    (number, at)
+}
+
+pub fn joined_check(joined: &[u8]) -> (u32, usize) {
+    let mut place = 0;
+    // SAFETY: see above.
+    let number = unsafe { c::sefgrunn_joined_check(joined.as_ptr(), joined.len(), &mut place) };
+    (number, place)
+}
+
+pub fn joined_console(joined: &[u8], settings: Settings, room: &mut [u8]) -> (u32, usize) {
+    let (d, n, r, len, mut at) = parts(joined, room);
+    let Settings { width, full, measure } = settings;
+    let characters = measure == Measure::Characters;
+    // SAFETY: see above.
+    let number =
+        unsafe { c::sefgrunn_joined_console(d, n, width, full, characters, r, len, &mut at) };
+    (number, at)
+}
+
+pub fn joined_html(joined: &[u8], full: bool, css: bool, room: &mut [u8]) -> (u32, usize) {
+    let (d, n, r, len, mut at) = parts(joined, room);
+    // SAFETY: see above.
+    let number = unsafe { c::sefgrunn_joined_html(d, n, full, css, r, len, &mut at) };
+    (number, at)
+}
+
+pub fn joined_html_strict(joined: &[u8], full: bool, css: bool, room: &mut [u8]) -> (u32, usize) {
+    let (d, n, r, len, mut at) = parts(joined, room);
+    // SAFETY: see above.
+    let number = unsafe { c::sefgrunn_joined_html_strict(d, n, full, css, r, len, &mut at) };
+    (number, at)
+}
+
+pub fn joined_markdown(joined: &[u8], full: bool, room: &mut [u8]) -> (u32, usize) {
+    let (d, n, r, len, mut at) = parts(joined, room);
+    // SAFETY: see above.
+    let number = unsafe { c::sefgrunn_joined_markdown(d, n, full, r, len, &mut at) };
+    (number, at)
+}
+
+pub fn joined_roff(joined: &[u8], room: &mut [u8]) -> (u32, usize) {
+    let (d, n, r, len, mut at) = parts(joined, room);
+    // SAFETY: see above.
+    let number = unsafe { c::sefgrunn_joined_roff(d, n, r, len, &mut at) };
+    (number, at)
+}
+
 pub fn notes(notes: &[u8], room: &mut [u8]) -> (u32, usize) {
     let (d, n, r, len, mut at) = parts(notes, room);
     // SAFETY: see above.

@@ -17,6 +17,8 @@ ghost use Rattle.pages.specs.Pages.{pageOf, pageStart, pageCount, shown};
 ghost use Rattle.html_rules.specs.Html.{html};
 ghost use Rattle.html_rules.specs.Markdown.{markdown};
 ghost use Rattle.manpage.specs.Roff.{roff};
+ghost use Rattle.joined_rules.specs.Joined.{checkJoined, joinsInto, unjoinsInto};
+ghost use Rattle.joined_render_rules.specs.Render.{joinedConsole, joinedHtml, joinedMarkdown, joinedRoff};
 ghost use Rattle.sefgrunn.specs.HouseShape.{ShapeTold};
 ghost use Rattle.sefgrunn.specs.Numbers.{numberOf, placeOf, lengthOrPlace, orZero, lengthAfter, told, measureAsked, settings, writesIn, opensIn, closesIn};
 use buffer::Built;
@@ -191,6 +193,41 @@ pub extern "C" fn sefgrunn_house_shape(document: &[u8], shaped: &mut u32, place:
     }
 }
 
+// A document into the joined form, or 1 to 8, or 13.
+#[no_mangle]
+pub extern "C" fn sefgrunn_join(document: &[u8], room: &mut [u8], at: &mut usize) -> u32
+    ensures number { λ r. ⌜ r ≡ numberOf (joinsInto (length (now (room .entry))) (now (document .entry))) ⌝ }
+    ensures at { λ _. ⌜ now (at .exit) ≡ lengthOrPlace (measured (joinsInto (length (now (room .entry))) (now (document .entry)))) ⌝ }
+    ensures room { λ _. ⌜ now (room .exit) ≡ filled (length (now (room .entry))) (joinsInto (length (now (room .entry))) (now (document .entry))) ⌝ }
+{
+    let moved = joined::join(document, room);
+    told(moved, at)
+}
+
+// A joined form back into a document, or 1, 17, 2 to 8 and 18, or 13.
+#[no_mangle]
+pub extern "C" fn sefgrunn_unjoin(joined: &[u8], room: &mut [u8], at: &mut usize) -> u32
+    ensures number { λ r. ⌜ r ≡ numberOf (unjoinsInto (length (now (room .entry))) (now (joined .entry))) ⌝ }
+    ensures at { λ _. ⌜ now (at .exit) ≡ lengthOrPlace (measured (unjoinsInto (length (now (room .entry))) (now (joined .entry)))) ⌝ }
+    ensures room { λ _. ⌜ now (room .exit) ≡ filled (length (now (room .entry))) (unjoinsInto (length (now (room .entry))) (now (joined .entry))) ⌝ }
+{
+    let moved = joined::unjoin(joined, room);
+    told(moved, at)
+}
+
+// Refusals 1, 17, 2 to 8 and 18 of a joined form; `place` is the refusal's, and 0 where it is accepted.
+#[no_mangle]
+pub extern "C" fn sefgrunn_joined_check(joined: &[u8], place: &mut usize) -> u32
+    ensures number { λ r. ⌜ r ≡ numberOf (checkJoined (now (joined .entry))) ⌝ }
+    ensures place { λ _. ⌜ now (place .exit) ≡ placeOf (checkJoined (now (joined .entry))) ⌝ }
+{
+    let verdict = joined_check::check(joined);
+    match verdict {
+        Checked::Accepted => accepted(place),
+        Checked::Refused(r) => refused(r, place),
+    }
+}
+
 // `Doc::render_html`.
 #[no_mangle]
 pub extern "C" fn sefgrunn_html(
@@ -262,6 +299,91 @@ pub extern "C" fn sefgrunn_notes(notes: &[u8], room: &mut [u8], at: &mut usize) 
 {
     let answer = notes::take_in(notes, room);
     told(answer, at)
+}
+
+// The console text of a joined form, with places there.
+#[no_mangle]
+pub extern "C" fn sefgrunn_joined_console(
+    joined: &[u8],
+    width: usize,
+    full: bool,
+    characters: bool,
+    room: &mut [u8],
+    at: &mut usize,
+) -> u32
+    ensures number { λ r. ⌜ r ≡ numberOf (joinedConsole (settings width full characters) (length (now (room .entry))) (now (joined .entry))) ⌝ }
+    ensures at { λ _. ⌜ now (at .exit) ≡ lengthOrPlace (measured (joinedConsole (settings width full characters) (length (now (room .entry))) (now (joined .entry)))) ⌝ }
+    ensures room { λ _. ⌜ now (room .exit) ≡ filled (length (now (room .entry))) (joinedConsole (settings width full characters) (length (now (room .entry))) (now (joined .entry))) ⌝ }
+{
+    let measure = measure_asked(characters);
+    let set = Settings {
+        width,
+        full,
+        measure,
+    };
+    let answer = joined_render::joined_console(joined, set, room);
+    told(answer, at)
+}
+
+// The HTML of a joined form.
+#[no_mangle]
+pub extern "C" fn sefgrunn_joined_html(
+    joined: &[u8],
+    full: bool,
+    css: bool,
+    room: &mut [u8],
+    at: &mut usize,
+) -> u32
+    ensures number { λ r. ⌜ r ≡ numberOf (joinedHtml (length (now (room .entry))) false full css (now (joined .entry))) ⌝ }
+    ensures at { λ _. ⌜ now (at .exit) ≡ lengthOrPlace (measured (joinedHtml (length (now (room .entry))) false full css (now (joined .entry)))) ⌝ }
+    ensures room { λ _. ⌜ now (room .exit) ≡ filled (length (now (room .entry))) (joinedHtml (length (now (room .entry))) false full css (now (joined .entry))) ⌝ }
+{
+    let answer = joined_render::joined_html(joined, full, css, room);
+    told(answer, at)
+}
+
+// The strict HTML of a joined form.
+#[no_mangle]
+pub extern "C" fn sefgrunn_joined_html_strict(
+    joined: &[u8],
+    full: bool,
+    css: bool,
+    room: &mut [u8],
+    at: &mut usize,
+) -> u32
+    ensures number { λ r. ⌜ r ≡ numberOf (joinedHtml (length (now (room .entry))) true full css (now (joined .entry))) ⌝ }
+    ensures at { λ _. ⌜ now (at .exit) ≡ lengthOrPlace (measured (joinedHtml (length (now (room .entry))) true full css (now (joined .entry)))) ⌝ }
+    ensures room { λ _. ⌜ now (room .exit) ≡ filled (length (now (room .entry))) (joinedHtml (length (now (room .entry))) true full css (now (joined .entry))) ⌝ }
+{
+    let answer = joined_render::joined_html_strict(joined, full, css, room);
+    told(answer, at)
+}
+
+// The Markdown of a joined form.
+#[no_mangle]
+pub extern "C" fn sefgrunn_joined_markdown(
+    joined: &[u8],
+    full: bool,
+    room: &mut [u8],
+    at: &mut usize,
+) -> u32
+    ensures number { λ r. ⌜ r ≡ numberOf (joinedMarkdown (length (now (room .entry))) full (now (joined .entry))) ⌝ }
+    ensures at { λ _. ⌜ now (at .exit) ≡ lengthOrPlace (measured (joinedMarkdown (length (now (room .entry))) full (now (joined .entry)))) ⌝ }
+    ensures room { λ _. ⌜ now (room .exit) ≡ filled (length (now (room .entry))) (joinedMarkdown (length (now (room .entry))) full (now (joined .entry))) ⌝ }
+{
+    let answer = joined_render::joined_markdown(joined, full, room);
+    told(answer, at)
+}
+
+// The roff of a joined form.
+#[no_mangle]
+pub extern "C" fn sefgrunn_joined_roff(joined: &[u8], room: &mut [u8], at: &mut usize) -> u32
+    ensures number { λ r. ⌜ r ≡ numberOf (joinedRoff (length (now (room .entry))) (now (joined .entry))) ⌝ }
+    ensures at { λ _. ⌜ now (at .exit) ≡ lengthOrPlace (measured (joinedRoff (length (now (room .entry))) (now (joined .entry)))) ⌝ }
+    ensures room { λ _. ⌜ now (room .exit) ≡ filled (length (now (room .entry))) (joinedRoff (length (now (room .entry))) (now (joined .entry))) ⌝ }
+{
+    let page = joined_render::joined_roff(joined, room);
+    told(page, at)
 }
 
 // How many pages a text has at a height; 0 after a refusal.

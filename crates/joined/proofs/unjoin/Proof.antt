@@ -1,0 +1,21 @@
+use borrow.Author.Needs.{needs}
+use Rattle.joined.proofs.unjoin.Statement.{statement}
+use Rattle.joined.proofs.unjoin.Tie as tie
+use Rattle.renderer.proofs.Answers.{answer-cleared}
+
+returns : tie.Need-returns
+returns c =
+    answer-cleared (c .before .before .before .before .before .before .unjoined-into .last .1 .0) _ _
+    (c .before .before .before .before .before .before .unjoined-into .result) _
+    (c .before .before .before .before .before .before .unjoined-into .kept .1 .0)
+    (c .before .before .before .before .before .before .unjoined-into .ensures .0)
+    (c .before .before .before .before .before .before .unjoined-into .ensures .1) (c .before .before .clear-after .ensures)
+
+pub unjoin-spec : {M : Type 1} → statement M
+unjoin-spec =
+    tie.close
+    (tie.spec
+    (λ c κs. search needs)
+    (λ c κs. search needs)
+    (λ c. search needs)
+    returns)

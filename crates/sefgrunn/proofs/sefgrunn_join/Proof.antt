@@ -1,0 +1,24 @@
+use mathlib.Core.Path.{_∙_}
+use borrow.Author.Needs.{needs}
+use denote.Ref.{now}
+use lib.ListN.{length}
+use Rattle.sefgrunn.proofs.sefgrunn_join.Statement.{statement}
+use Rattle.sefgrunn.proofs.sefgrunn_join.Tie as tie
+use Rattle.joined_rules.specs.Joined.{joinsInto}
+use Rattle.sefgrunn.proofs.Numbers.{rendered-number}
+
+returns : tie.Need-returns
+returns c =
+    let a = c .before .before .before .before .before .before .before .before .args in
+    let r = c .before .before .before .before .join in
+    let n = rendered-number (r .result) (joinsInto (length (now (a .room))) (now (a .document))) (r .ensures .0) in
+    (c .told .ensures .0 ∙ n .0, (c .told .ensures .1 ∙ n .1, r .ensures .1))
+
+pub sefgrunn-join-spec : {M : Type 1} → statement M
+sefgrunn-join-spec =
+    tie.close
+    (tie.spec
+    (λ c κs. search needs)
+    (λ c κs. search needs)
+    (λ c. search needs)
+    returns)

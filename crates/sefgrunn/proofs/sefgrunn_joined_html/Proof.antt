@@ -1,0 +1,25 @@
+use mathlib.Core.Path.{_∙_}
+use mathlib.Core.Bool.{false}
+use borrow.Author.Needs.{needs}
+use denote.Ref.{now}
+use lib.ListN.{length}
+use Rattle.sefgrunn.proofs.sefgrunn_joined_html.Statement.{statement}
+use Rattle.sefgrunn.proofs.sefgrunn_joined_html.Tie as tie
+use Rattle.joined_render_rules.specs.Render.{joinedHtml}
+use Rattle.sefgrunn.proofs.Numbers.{rendered-number}
+
+returns : tie.Need-returns
+returns c =
+    let a = c .before .before .before .before .before .before .before .before .args in
+    let r = c .before .before .before .before .joined-html in
+    let n = rendered-number (r .result) (joinedHtml (length (now (a .room))) false (a .full) (a .css) (now (a .joined))) (r .ensures .0) in
+    (c .told .ensures .0 ∙ n .0, (c .told .ensures .1 ∙ n .1, r .ensures .1))
+
+pub sefgrunn-joined-html-spec : {M : Type 1} → statement M
+sefgrunn-joined-html-spec =
+    tie.close
+    (tie.spec
+    (λ c κs. search needs)
+    (λ c κs. search needs)
+    (λ c. search needs)
+    returns)

@@ -1,0 +1,24 @@
+use mathlib.Core.Path.{_∙_}
+use borrow.Author.Needs.{needs}
+use denote.Ref.{now}
+use lib.ListN.{length}
+use Rattle.sefgrunn.proofs.sefgrunn_joined_roff.Statement.{statement}
+use Rattle.sefgrunn.proofs.sefgrunn_joined_roff.Tie as tie
+use Rattle.joined_render_rules.specs.Render.{joinedRoff}
+use Rattle.sefgrunn.proofs.Numbers.{rendered-number}
+
+returns : tie.Need-returns
+returns c =
+    let a = c .before .before .before .before .before .before .before .before .args in
+    let r = c .before .before .before .before .joined-roff in
+    let n = rendered-number (r .result) (joinedRoff (length (now (a .room))) (now (a .joined))) (r .ensures .0) in
+    (c .told .ensures .0 ∙ n .0, (c .told .ensures .1 ∙ n .1, r .ensures .1))
+
+pub sefgrunn-joined-roff-spec : {M : Type 1} → statement M
+sefgrunn-joined-roff-spec =
+    tie.close
+    (tie.spec
+    (λ c κs. search needs)
+    (λ c κs. search needs)
+    (λ c. search needs)
+    returns)
