@@ -165,10 +165,10 @@ static struct fenced documents, rooms, places, lengths, more[3];
 /* ---- what was reached -------------------------------------------------------------------------------------------------------- */
 
 enum function { CHECK, CONSOLE, HTML, HTML_STRICT, MARKDOWN, ROFF, WRITE, OPEN, CLOSE, DOC, EM_DOC, NEXT_CHUNK, TABSTOP, PAGE_COUNT, PAGE, HOUSE_SHAPE, NOTES, JOIN, UNJOIN,
-    JOINED_CHECK, JOINED_CONSOLE, JOINED_HTML, JOINED_HTML_STRICT, JOINED_MARKDOWN, JOINED_ROFF, FUNCTIONS };
+    JOINED_CHECK, JOINED_CONSOLE, JOINED_HTML, JOINED_HTML_STRICT, JOINED_MARKDOWN, JOINED_ROFF, ROOM_BOUND, FUNCTIONS };
 static const char *const names[FUNCTIONS] = {"check", "console", "html", "html_strict", "markdown", "roff", "write", "open", "close",
     "doc", "em_doc", "next_chunk", "tabstop", "page_count", "page", "house_shape", "notes", "join", "unjoin", "joined_check", "j_console", "j_html", "j_html_s",
-    "j_markdown", "j_roff"};
+    "j_markdown", "j_roff", "room_bound"};
 static unsigned long calls[FUNCTIONS], accepts[FUNCTIONS], numbers[MOST_NUMBER + 1], inputs;
 
 enum { MOST_BLOCKS = 8192, OUTCOMES = 16384 };
@@ -432,6 +432,40 @@ static void try_render(struct settings s, const uint8_t *document, size_t n, str
     must(again.number != 0 || (again.at == first.at && memcmp(kept, text, first.at) == 0), "renderer: another text in another room");
     if (first.at > 0) {
         must(run_render(s, document, n, checked, first.at - 1).number == 13, "renderer: accepted in a room below its length");
+    }
+}
+
+/* ---- how much room to lend --------------------------------------------------------------------------------------------------- */
+
+/* The bound of an accepted document, counted from its records. */
+static size_t bound_of(const uint8_t *document, size_t n)
+{
+    size_t bound = 1;
+    for (size_t at = 0; at < n;) {
+        size_t size = document[at] | (size_t)document[at + 1] << 8;
+        bound += 54 * size + (document[at + 4] == 9 && document[at + 5] > 0);
+        at += 6 + size;
+    }
+    return bound;
+}
+
+/* The bound; in a room of so many bytes the console never answers 13. */
+static void try_room_bound(uint64_t *state, const uint8_t *document, size_t n, struct answer checked)
+{
+    size_t bounds[2];
+    for (int p = ENDS_AT_FENCE; p <= STARTS_AT_FENCE; p++) {
+        const uint8_t *lent = lend(&documents, document, n, p);
+        size_t *at = lend_number(&places, UNWRITTEN, p);
+        uint32_t number = sefgrunn_room_bound(lent, n, at);
+        bounds[p] = *at;
+        outcome(ROOM_BOUND, number, *at);
+        must(number == checked.number, "room_bound: not the check's number");
+        must(*at == (number == 0 ? bound_of(document, n) : checked.at), "room_bound: bound or place");
+    }
+    must(bounds[0] == bounds[1], "room_bound: two answers");
+    if (checked.number == 0 && bounds[0] <= MOST_ROOM) {
+        struct settings s = {CONSOLE, width(state), below(state, 3) != 0, false, below(state, 2) == 0};
+        must(run_render(s, document, n, checked, bounds[0]).number != 13, "room_bound: not enough room");
     }
 }
 
@@ -875,6 +909,7 @@ int LLVMFuzzerTestOneInput(const uint8_t *data, size_t n)
         struct settings s = {f, width(&state), below(&state, 3) != 0, below(&state, 4) == 0, below(&state, 2) == 0};
         try_render(s, data, n, checked, room_size(&state, n));
     }
+    try_room_bound(&state, data, n, checked);
     try_splitter(&state, data, n);
     try_pages(&state, data, n);
     try_notes(&state, data, n);

@@ -103,6 +103,11 @@ uint32_t sefgrunn_console(const uint8_t *document, size_t n, size_t width, bool 
  * After a refusal *shaped is 0 and *place the refusal's; else *place is 0. Refusals 1 to 8. */
 uint32_t sefgrunn_house_shape(const uint8_t *document, size_t n, uint32_t *shaped, size_t *place);
 
+/* How much room to lend to sefgrunn_console: 54 times the bytes of the document's text, plus the number of TermRef starts and ends, plus 1.
+ * With so much room it never refuses by 13, whatever the width, full and characters are. Reads n bytes at document. Writes *at: the bytes,
+ * or the refusal's place. Refusals 1 to 8; a document that the console would refuse by 9 or 10 has such a room too. */
+uint32_t sefgrunn_room_bound(const uint8_t *document, size_t n, size_t *at);
+
 /* What sefgrunn_next_chunk found. */
 enum sefgrunn_chunk {
     SEFGRUNN_CHUNK_NONE = 0,       /* no further chunk */

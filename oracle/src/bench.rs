@@ -403,6 +403,7 @@ pub fn page(name: &str, document: &[u8]) -> Option<()> {
         row(what, name, whole.len(), beside_check(Call::Tabstop, &whole));
     }
     row("shape (rust: check)", name, bytes, beside_check(Call::Shape, document));
+    row("bound (rust: check)", name, bytes, beside_check(Call::RoomBound, document));
     joined_rows(name, document)?;
     for (what, renderer) in [
         ("console, room as needed", CONSOLE),

@@ -32,6 +32,7 @@ pub enum Call {
     Unjoin,
     JoinedCheck,
     JoinedRender(Renderer),
+    RoomBound,
 }
 
 /// A call with all that it reads and all that its room holds before it.
@@ -53,7 +54,8 @@ pub struct Answer {
     /// 0 where the call is accepted, else the refusal's number; or which chunk there is
     pub number: u32,
     /// the refusal's place, or the length of an accepted text or of what was made; the cursor after a chunk; what settles
-    /// the tabstop; the first record that is not in house shape; 0 for other accepted calls
+    /// the tabstop; the first record that is not in house shape; the room that is enough; 0 for other
+    /// accepted calls
     pub at: u64,
     /// every byte of the room after the call
     pub room: Vec<u8>,
@@ -148,6 +150,9 @@ pub fn answer(case: &Case) -> Answer {
             let run = joined::render(renderer, &case.document, case.room.len());
             fill(&mut answer.room, run.outcome)
         }
+        Call::RoomBound => {
+            rules::check(&case.document).map(|records| rules::room_bound(&records) as u64)
+        }
     };
     match outcome {
         Ok(at) => answer.at = at,
@@ -196,7 +201,8 @@ fn header(call: Call) -> Option<(u8, u64, bool, bool)> {
             let (number, setting, full, css) = header(Call::Render(renderer))?;
             (number + 16, setting, full, css)
         }
-        Call::PageCount { .. } | Call::Page { .. } | Call::Shape | Call::Notes => return None,
+        Call::PageCount { .. } | Call::Page { .. } | Call::Shape => return None,
+        Call::Notes | Call::RoomBound => return None,
     })
 }
 

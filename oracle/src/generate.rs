@@ -28,10 +28,11 @@ pub enum Subject {
     Join,
     /// a joined form: checked, moved back, rendered
     Joined,
+    RoomBound,
 }
 
 impl Subject {
-    pub const ALL: [(Subject, &'static str); 16] = [
+    pub const ALL: [(Subject, &'static str); 17] = [
         (Subject::Check, "check"),
         (Subject::Console, "console"),
         (Subject::Html, "html"),
@@ -48,11 +49,13 @@ impl Subject {
         (Subject::Notes, "notes"),
         (Subject::Join, "join"),
         (Subject::Joined, "joined"),
+        (Subject::RoomBound, "room_bound"),
     ];
 
     /// Whether lists have its calls.
     pub fn is_listed(self) -> bool {
-        !matches!(self, Subject::Pages | Subject::Shape | Subject::Notes)
+        use Subject::*;
+        !matches!(self, Pages | Shape | Notes | RoomBound)
     }
 
     pub fn named(name: &str) -> Option<Subject> {
@@ -396,6 +399,21 @@ impl Maker<'_> {
         });
     }
 
+    /// Little text that writes much: far from its margin, after an empty Block, before another.
+    fn much_of_little(&mut self) {
+        self.around(TERM_REF, |_| {});
+        self.start(2);
+        for _ in 0..self.rng.within(7, 8) {
+            self.start(ITEM_BODY);
+        }
+        for _ in 0..self.rng.below(4) {
+            self.around(BLOCK, |_| {});
+            let text = self.rng.pick(&["x", "x ", "\nx", "x\n", "\u{A0}", "", " ", "\n    "]);
+            self.text(text);
+        }
+        self.around(BLOCK, |_| {});
+    }
+
     fn act(&mut self) {
         match self.rng.below(30) {
             0..=5 => self.some_text(),
@@ -556,6 +574,16 @@ const FAR_BYTES: usize = 10 * 12 + 400;
 fn far(rng: &mut Rng, palette: Palette) -> Vec<u8> {
     let mut maker = Maker { rng, palette, bytes: Vec::new(), open: Vec::new(), most: FAR_BYTES };
     maker.past_the_margin();
+    while !maker.open.is_empty() {
+        maker.end();
+    }
+    maker.bytes
+}
+
+/// A valid document whose text needs much room.
+fn roomy(rng: &mut Rng, palette: Palette) -> Vec<u8> {
+    let mut maker = Maker { rng, palette, bytes: Vec::new(), open: Vec::new(), most: FAR_BYTES };
+    maker.much_of_little();
     while !maker.open.is_empty() {
         maker.end();
     }
@@ -750,6 +778,12 @@ fn document(rng: &mut Rng, subject: Subject, limits: Limits, faulty_once_in: usi
     if subject == Subject::Console && limits.bytes >= FAR_BYTES && rng.once_in(12) {
         return far(rng, palette);
     }
+    if matches!(subject, Subject::Console | Subject::RoomBound)
+        && limits.bytes >= FAR_BYTES
+        && rng.once_in(8)
+    {
+        return roomy(rng, palette);
+    }
     if subject == Subject::Shape && !rng.once_in(5) {
         let most = limits.one(rng).max(300);
         let shaped = shaped(rng, palette, most);
@@ -821,7 +855,11 @@ fn rendering(rng: &mut Rng, subject: Subject, limits: Limits) -> Case {
     let document = document(rng, subject, limits, 10);
     let renderer = renderer(rng, subject, limits);
     let need = rules::render(renderer, &document, usize::MAX).most;
-    let room = pattern(0, room_length(rng, need)).collect();
+    let bound = rules::check(&document).map_or(0, |records| rules::room_bound(&records));
+    // the room that 02 says is enough, in which the console never answers 13
+    let as_bound = subject == Subject::Console && bound < 40_000 && rng.once_in(6);
+    let length = if as_bound && !limits.recorded { bound } else { room_length(rng, need) };
+    let room = pattern(0, length).collect();
     Case { call: Call::Render(renderer), document, room, length: 0 }
 }
 
@@ -1222,9 +1260,10 @@ fn joining(rng: &mut Rng, limits: Limits) -> Case {
 pub fn case(subject: Subject, seed: u64, index: u64, limits: Limits) -> Case {
     let rng = &mut Rng::new(seed, index);
     match subject {
-        Subject::Check | Subject::Tabstop | Subject::Shape => {
+        Subject::Check | Subject::Tabstop | Subject::Shape | Subject::RoomBound => {
             let (call, faulty_once_in) = match subject {
                 Subject::Check => (Call::Check, 2),
+                Subject::RoomBound => (Call::RoomBound, 4),
                 Subject::Tabstop => (Call::Tabstop, 4),
                 _ => (Call::Shape, 2),
             };
@@ -1283,7 +1322,9 @@ pub fn numbers(subject: Subject, seed: u64, cases: u64) -> [u64; 24] {
 /// The numbers that a subject can answer.
 pub fn owed(subject: Subject) -> &'static [u32] {
     match subject {
-        Subject::Check | Subject::Tabstop | Subject::Shape => &[0, 1, 2, 3, 4, 5, 6, 7, 8],
+        Subject::Check | Subject::Tabstop | Subject::Shape | Subject::RoomBound => {
+            &[0, 1, 2, 3, 4, 5, 6, 7, 8]
+        }
         Subject::Console => &[0, 1, 2, 3, 4, 5, 6, 7, 8, 9, 10, 13],
         Subject::Html | Subject::HtmlStrict | Subject::Markdown => {
             &[0, 1, 2, 3, 4, 5, 6, 7, 8, 11, 13]

@@ -231,6 +231,10 @@ fn confirm_rendering(renderer: Renderer, case: &Case, answer: &Answer) -> Result
     };
     let records = rules::check(&case.document).map_err(|r| format!("read, yet refused: {r:?}"))?;
     confirm_text(renderer, &records, doc, &free.outcome)?;
+    if matches!(renderer, Renderer::Console { .. }) && free.most > rules::room_bound(&records) {
+        let bound = rules::room_bound(&records);
+        return Err(format!("{} bytes at some moment, over the bound {bound}", free.most));
+    }
 
     let Ok(text) = &free.outcome else { return Ok(()) };
     match renderer {
@@ -354,6 +358,28 @@ fn confirm_tabstop(case: &Case, answer: &Answer) -> Result<(), String> {
     let not_before = kept_tabstop(&records[..before]) < 28;
     if answer.number != 0 || answer.numbers != [whole as u64] || !settled || !not_before {
         return Err(format!("rules {answer:?}, kept Rust {whole}"));
+    }
+    Ok(())
+}
+
+/// The bound, from the kept `Doc`'s payload and tokens; texts at three widths and both measures keep it.
+fn confirm_bound(case: &Case, answer: &Answer) -> Result<(), String> {
+    let Some(doc) = decode(&case.document, Ending::Closed) else {
+        let refused = answer.number != 0;
+        return if refused { Ok(()) } else { Err(format!("should be refused, is {answer:?}")) };
+    };
+    let (bytes, refs) = doc.payload_and_refs();
+    if (answer.number, answer.at) != (0, 54 * bytes as u64 + refs as u64 + 1) {
+        return Err(format!("{answer:?} for {bytes} bytes of text, {refs} starts and ends"));
+    }
+    for (width, characters) in [(0, false), (40, true), (10_000, false)] {
+        for full in [false, true] {
+            let renderer = Renderer::Console { width, full, characters };
+            let most = rules::render(renderer, &case.document, usize::MAX).most;
+            if most as u64 > answer.at {
+                return Err(format!("{renderer:?} needs {most}, over the bound {}", answer.at));
+            }
+        }
     }
     Ok(())
 }
@@ -504,6 +530,7 @@ pub fn confirm(case: &Case, answer: &Answer) -> Result<(), String> {
         }
         Call::Shape => shape::confirm(&case.document),
         Call::Notes => notes::confirm(&case.document),
+        Call::RoomBound => confirm_bound(case, answer),
         Call::Join => joined::confirm_join(&case.document),
         Call::Unjoin | Call::JoinedCheck | Call::JoinedRender(_) => joined::confirm_joined(case),
     }

@@ -167,6 +167,7 @@ pub(crate) fn number(call: Call, document: &[u8], room: &mut [u8], stored: &mut 
                 c::sefgrunn_page(d, n, height as usize, page as usize, first, second)
             }
             Call::Notes => c::sefgrunn_notes(d, n, r, r_len, at),
+            Call::RoomBound => c::sefgrunn_room_bound(d, n, at),
             Call::Join => c::sefgrunn_join(d, n, r, r_len, at),
             Call::Unjoin => c::sefgrunn_unjoin(d, n, r, r_len, at),
             Call::JoinedCheck => c::sefgrunn_joined_check(d, n, at),

@@ -192,6 +192,14 @@ pub fn check(document: &[u8]) -> Ruled<Vec<Record<'_>>> {
     closed(document)
 }
 
+/// 02, point 10: the room that console text needs at most, at any moment of being written: 54 times the
+/// bytes of the document's text, plus the number of TermRef starts and ends, plus 1.
+pub fn room_bound(records: &[Record]) -> usize {
+    let text: usize = records.iter().map(|record| record.body.len()).sum();
+    let is_ref = |r: &&Record| matches!(r.kind, Kind::Start(TERM_REF) | Kind::End(TERM_REF));
+    54 * text + records.iter().filter(is_ref).count() + 1
+}
+
 /// 01's printing order of a document, from its records.
 pub fn printing_order(records: &[Record]) -> String {
     let mut order = String::new();

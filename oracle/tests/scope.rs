@@ -466,6 +466,45 @@ fn tabstop_is_refused_as_the_check() {
     assert_eq!(run(Call::Tabstop, &[0; 32_769], vec![], 0).number, 1);
 }
 
+// 02, point 10: how much room to lend
+
+fn bound(document: &[u8]) -> u64 {
+    let answer = run(Call::RoomBound, document, vec![], 0);
+    assert_eq!(answer.number, 0);
+    answer.at
+}
+
+#[test]
+fn room_bound() {
+    assert_eq!(bound(b""), 1);
+    // bytes, not characters; the starts and ends of TermRefs, not other blocks
+    assert_eq!(bound(&text("é")), 2 * 54 + 1);
+    let document = made(|d| nested(d, &[Block::TermRef, Block::Mono, Block::TermRef], ""));
+    assert_eq!(bound(&document), 4 + 1);
+    assert_eq!(shown(console(100), &document), "````");
+    // a document that the console refuses by 9 or 10 has a bound too
+    assert_eq!(bound(&made(|d| nested(d, &[Block::ItemBody; 9], "x"))), 55);
+    for fault in [&[1, 0][..], &[0, 0, 0, 0, 6, 0], &[0, 0, 0, 0, 11, 1], &[0; 32_769]] {
+        let answer = run(Call::RoomBound, fault, vec![], 0);
+        assert_eq!((answer.number, answer.at), check(fault));
+    }
+}
+
+/// The tightest document found: 53 times its text, plus its backticks, plus 1, one below the bound.
+#[test]
+fn room_bound_is_nearly_met() {
+    let document = made(|d| {
+        let d = d.within(Block::TermRef, |d| d).open(Block::Section3);
+        let d = (0..8).fold(d, |d, _| d.open(Block::ItemBody));
+        let d = d.within(Block::Block, |d| d).text("x").within(Block::Block, |d| d);
+        (0..8).fold(d, |d, _| d.close(Block::ItemBody)).close(Block::Section3)
+    });
+    assert_eq!(bound(&document), 57);
+    assert_eq!(shown(console(100), &document), format!("``\n\n{}x\n", " ".repeat(50)));
+    assert_eq!(render(console(100), &document, 56).number, 0);
+    assert_eq!(refusal(console(100), &document, 55), (13, 0));
+}
+
 // The rows of the refusal table
 
 #[test]

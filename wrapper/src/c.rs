@@ -18,6 +18,7 @@ extern "C" {
         shaped: *mut u32,
         place: *mut usize,
     ) -> u32;
+    pub fn sefgrunn_room_bound(document: *const u8, n: usize, at: *mut usize) -> u32;
     pub fn sefgrunn_tabstop(
         document: *const u8,
         n: usize,

@@ -98,7 +98,7 @@ pub fn roff<'r>(joined: &[u8], room: &'r mut [u8]) -> Result<&'r str, Refusal> {
     crate::text(room, answer)
 }
 
-/// [`console`] as a `String`, as [`crate::console_string`].
+/// [`console`] as a `String`; 13 only where [`crate::MOST_ROOM`] is too small.
 pub fn console_string(joined: &[u8], settings: Settings) -> Result<String, Refusal> {
     grown(|room| console(joined, settings, room).map(str::len))
 }

@@ -34,7 +34,7 @@ mod linked;
 pub const MOST_BYTES: usize = 32_768;
 /// The largest width of console text, in columns.
 pub const MOST_WIDTH: usize = 10_000;
-/// The largest room that a function whose name ends in `_string` tries: 1 MiB.
+/// The largest room that a function whose name ends in `_string`, but [`console_string`], tries: 1 MiB.
 pub const MOST_ROOM: usize = 1 << 20;
 
 /// The room that such a function tries first; each next one is twice as large.
@@ -378,9 +378,23 @@ fn grown(render: impl Fn(&mut [u8]) -> Result<usize, Refusal>) -> Result<String,
     }
 }
 
-/// [`console`] as a `String`; 13 only where [`MOST_ROOM`] is too small.
+/// How much room to lend to [`console`]: 54 times the bytes of the document's text, plus the number of
+/// TermRef starts and ends, plus 1. With so much it never refuses by 13, whatever the settings are.
+/// Refusals 1 to 8.
+pub fn room_bound(document: &[u8]) -> Result<usize, Refusal> {
+    let (number, at) = linked::room_bound(document);
+    accepted(number, at)?;
+    Ok(at)
+}
+
+/// [`console`] as a `String`, in a room of [`room_bound`], so never refused by 13.
 pub fn console_string(document: &[u8], settings: Settings) -> Result<String, Refusal> {
-    grown(|room| console(document, settings, room).map(str::len))
+    // a refused document has no bound: in no room it is refused as in any, by 9 before 2 to 8
+    let mut room = vec![0; room_bound(document).unwrap_or(0)];
+    let length = console(document, settings, &mut room)?.len();
+    room.truncate(length);
+    room.shrink_to_fit();
+    Ok(String::from_utf8(room).expect("what was a &str is UTF-8"))
 }
 
 /// [`html`] as a `String`; 13 only where [`MOST_ROOM`] is too small.

@@ -95,6 +95,13 @@ pub fn house_shape(document: &[u8]) -> (u32, bool, usize) {
     (number, shaped != 0, place)
 }
 
+pub fn room_bound(document: &[u8]) -> (u32, usize) {
+    let mut at = 0;
+    // SAFETY: see above.
+    let number = unsafe { c::sefgrunn_room_bound(document.as_ptr(), document.len(), &mut at) };
+    (number, at)
+}
+
 /// The number, the tabstop, and what settles it or the place.
 pub fn tabstop(document: &[u8]) -> (u32, usize, usize) {
     let (mut tabstop, mut at) = (0, 0);

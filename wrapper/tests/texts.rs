@@ -2,7 +2,7 @@
 
 use sefgrunn::{
     Block, Builder, Chunk, Html, Measure, Number, Piece, Refusal, Settings, Style, Tabstop,
-    MOST_ROOM, WIDTH_CODE, WIDTH_TICKED,
+    WIDTH_CODE, WIDTH_TICKED,
 };
 
 const PREAMBLE: &str = ".ie \\n(.g .ds Aq \\(aq\n.el .ds Aq '\n";
@@ -273,7 +273,7 @@ fn what_a_room_holds() {
     assert_eq!(sefgrunn::roff(b"", &mut [0; 35]), Ok(PREAMBLE));
 }
 
-/// Texts far longer than the first room, and the longest that a page of one-letter words makes:
+/// Texts far longer than the first room that is tried, and the longest that a page of one-letter words makes:
 /// each word on a line of its own, 50 columns in.
 #[test]
 fn strings_grow() {
@@ -289,5 +289,29 @@ fn strings_grow() {
     let shown = console(&document, 0);
     assert_eq!(shown.lines().count(), words);
     assert!(shown.lines().all(|line| line.len() == 51 && line.ends_with(" a")));
-    assert!(shown.len() < MOST_ROOM);
+    let bound = sefgrunn::room_bound(&document).unwrap();
+    assert!(shown.len() < bound && bound == 54 * 2 * words + 1);
+}
+
+/// In the room that is said to be enough every width is accepted; a refused document has none.
+#[test]
+fn how_much_room_to_lend() {
+    let document = made(|b| {
+        b.write(Style::Text, "é b c\n d")?.open(Block::TermRef)?;
+        b.write(Style::Literal, "-p")?.close(Block::TermRef)
+    });
+    let bound = sefgrunn::room_bound(&document).unwrap();
+    assert_eq!(bound, 54 * (9 + 2) + 2 + 1);
+    for width in [0, 1, 3, 100, 10_000] {
+        for measure in [Measure::Bytes, Measure::Characters] {
+            let settings = Settings { width, full: true, measure };
+            assert!(sefgrunn::console(&document, settings, &mut vec![0; bound]).is_ok());
+        }
+    }
+    let cut = Refusal { number: Number::CutShort, place: 0 };
+    assert_eq!(sefgrunn::room_bound(&[1, 0]), Err(cut));
+    // as the console refuses: 9 before 2
+    let wide = Settings { width: 10_001, ..Settings::default() };
+    let too_wide = Refusal { number: Number::TooWide, place: 0 };
+    assert_eq!(sefgrunn::console_string(&[1, 0], wide), Err(too_wide));
 }

@@ -1,3 +1,4 @@
 pub mod Numbers
 pub mod Pages
 pub mod HouseShape
+pub mod RoomBound

@@ -1,6 +1,7 @@
 // The C interface (include/sefgrunn.h). Each function returns 0 for accepted, else the refusal's number.
 ghost use mathlib.Core.Path.{_≡_};
 ghost use mathlib.Core.Bool.{true, false};
+ghost use Prim.Native.Nat.{_≤_};
 ghost use lib.ListN.{length, take, drop};
 ghost use Rattle.base.specs.Result.{measured};
 ghost use Rattle.document.specs.Document.{check};
@@ -8,6 +9,7 @@ ghost use Rattle.refusal.specs.Numbers.{refusalNumber, refusalPlace};
 ghost use Rattle.renderer.specs.Rendered.{answered, filled};
 ghost use Rattle.console_rules.specs.Console.{tabstopIn, settledIn, console};
 ghost use Rattle.console.specs.Answers.{Demand3};
+ghost use Rattle.console_bound.specs.Bound.{bound, roomBound};
 ghost use Rattle.buffer.specs.Answers.{builtAs, kept};
 ghost use Rattle.buffer.specs.Builder.{addsDoc, addsEmDoc};
 ghost use Rattle.notes_rules.specs.Notes.{takenIn};
@@ -22,6 +24,7 @@ ghost use Rattle.joined_render_rules.specs.Render.{joinedConsole, joinedHtml, j
 ghost use Rattle.sefgrunn.specs.HouseShape.{ShapeTold};
 ghost use Rattle.sefgrunn.specs.Numbers.{numberOf, placeOf, lengthOrPlace, orZero, lengthAfter, told, measureAsked, settings, writesIn, opensIn, closesIn};
 use buffer::Built;
+use console_bound::Lend;
 use console_rules::Measure;
 use console_rules::Settings;
 use console_tabstop::Searched;
@@ -109,6 +112,7 @@ pub extern "C" fn sefgrunn_console(
     ensures at { λ _. ⌜ now (at .exit) ≡ lengthOrPlace (measured (console (settings width full characters) (length (now (room .entry))) (now (document .entry)))) ⌝ }
     ensures room { λ _. ⌜ now (room .exit) ≡ filled (length (now (room .entry))) (console (settings width full characters) (length (now (room .entry))) (now (document .entry))) ⌝ }
     ensures demand3 { λ r. ⌜ Demand3 (settings width full characters) (now (document .entry)) (now (room .entry)) (now (room .exit)) (told r (now (at .exit))) ⌝ }
+    ensures enough { λ r. ⌜ (bound (now (document .entry)) ≤ length (now (room .entry)) → r ≡ 13 → ⊥) ⌝ }
 {
     let measure = measure_asked(characters);
     let answer = console::render_console(
@@ -121,6 +125,22 @@ pub extern "C" fn sefgrunn_console(
         room,
     );
     told(answer, at)
+}
+
+// How much room to lend to `sefgrunn_console`, so that it never answers 13: `at` is so many bytes, or the refusal's place.
+#[no_mangle]
+pub extern "C" fn sefgrunn_room_bound(document: &[u8], at: &mut usize) -> u32
+    ensures number { λ r. ⌜ r ≡ numberOf (roomBound (now (document .entry))) ⌝ }
+    ensures at { λ _. ⌜ now (at .exit) ≡ lengthOrPlace (roomBound (now (document .entry))) ⌝ }
+{
+    let answer = console_bound::room_bound(document);
+    match answer {
+        Lend::Bound(bytes) => {
+            *at = bytes;
+            0
+        }
+        Lend::Refused(a) => refused(a, at),
+    }
 }
 
 // The chunk of a body at a cursor, which moves past it; 0 where there is none.

@@ -368,6 +368,16 @@ impl Doc {
     }
 }
 
+// ADDED: the bytes of the payload, and how many tokens start or end a TermRef.
+impl Doc {
+    pub(crate) fn payload_and_refs(&self) -> (usize, usize) {
+        let is_ref = |token: &&Token| {
+            matches!(token, Token::BlockStart(Block::TermRef) | Token::BlockEnd(Block::TermRef))
+        };
+        (self.payload.len(), self.tokens.iter().filter(is_ref).count())
+    }
+}
+
 // ADDED: the splitter's chunks as plain values, because `splitter` is private to this module:
 // text and width of a raw chunk, or which of the two other chunks it is.
 #[derive(Debug, Clone, Copy, Eq, PartialEq)]

@@ -8,6 +8,7 @@ use Rattle.console_rules.specs.Console.{console}
 use Rattle.console_rules.specs.declared.Settings.{Settings}
 use Rattle.sefgrunn.proofs.Numbers.{rendered-number, told-gives}
 use Rattle.console.proofs.Order.{demand3}
+use Rattle.sefgrunn.proofs.RoomBound.{room-enough}
 
 returns : tie.Need-returns
 returns c =
@@ -19,8 +20,8 @@ returns c =
     let n = rendered-number (r .result) x (r .ensures .0) in
     let number = c .told .ensures .0 ∙ n .0 in
     let at = c .told .ensures .1 ∙ n .1 in
-    rw (← m .ensures)
-    (number, (at, (r .ensures .1 .0, demand3 set (now (a .document)) (now (a .room)) _ _ (λ text e. told-gives x _ _ text number at e) (r .ensures .1 .0))))
+    let three = demand3 set (now (a .document)) (now (a .room)) _ _ (λ text e. told-gives x _ _ text number at e) (r .ensures .1 .0) in
+    rw (← m .ensures) (number, (at, (r .ensures .1 .0, (three, room-enough set (length (now (a .room))) (now (a .document)) _ number))))
 
 pub sefgrunn-console-spec : {M : Type 1} → statement M
 sefgrunn-console-spec =
