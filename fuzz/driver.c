@@ -165,10 +165,10 @@ static struct fenced documents, rooms, places, lengths, more[3];
 /* ---- what was reached -------------------------------------------------------------------------------------------------------- */
 
 enum function { CHECK, CONSOLE, HTML, HTML_STRICT, MARKDOWN, ROFF, WRITE, OPEN, CLOSE, DOC, EM_DOC, NEXT_CHUNK, TABSTOP, PAGE_COUNT, PAGE, HOUSE_SHAPE, NOTES, JOIN, UNJOIN,
-    JOINED_CHECK, JOINED_CONSOLE, JOINED_HTML, JOINED_HTML_STRICT, JOINED_MARKDOWN, JOINED_ROFF, ROOM_BOUND, FUNCTIONS };
+    JOINED_CHECK, JOINED_CONSOLE, JOINED_HTML, JOINED_HTML_STRICT, JOINED_MARKDOWN, JOINED_ROFF, FIGURES, ROOM_BOUND, FUNCTIONS };
 static const char *const names[FUNCTIONS] = {"check", "console", "html", "html_strict", "markdown", "roff", "write", "open", "close",
     "doc", "em_doc", "next_chunk", "tabstop", "page_count", "page", "house_shape", "notes", "join", "unjoin", "joined_check", "j_console", "j_html", "j_html_s",
-    "j_markdown", "j_roff", "room_bound"};
+    "j_markdown", "j_roff", "figures", "room_bound"};
 static unsigned long calls[FUNCTIONS], accepts[FUNCTIONS], numbers[MOST_NUMBER + 1], inputs;
 
 enum { MOST_BLOCKS = 8192, OUTCOMES = 16384 };
@@ -748,6 +748,52 @@ static void try_joined(uint64_t *state, const uint8_t *data, size_t n, struct an
     try_any_joined(form, form_n, room_len);
 }
 
+/* ---- bundles ----------------------------------------------------------------------------------------------------------------- */
+
+static struct answer run_figures(const uint8_t *bundle, size_t n)
+{
+    struct { uint32_t number; size_t documents, accepted, refused, characters, place; } got[2];
+    for (int p = ENDS_AT_FENCE; p <= STARTS_AT_FENCE; p++) {
+        const uint8_t *lent = lend(&documents, bundle, n, p);
+        size_t *docs = lend_number(&more[0], UNWRITTEN, p), *accepted = lend_number(&more[1], UNWRITTEN, p);
+        size_t *refused = lend_number(&more[2], UNWRITTEN, p), *characters = lend_number(&lengths, UNWRITTEN, p);
+        size_t *place = lend_number(&places, UNWRITTEN, p);
+        uint32_t number = sefgrunn_figures(lent, n, docs, accepted, refused, characters, place);
+        memset(&got[p], 0, sizeof got[p]);
+        got[p].number = number, got[p].documents = *docs, got[p].accepted = *accepted;
+        got[p].refused = *refused, got[p].characters = *characters, got[p].place = *place;
+        outcome(FIGURES, number, number == 0 ? *characters : *place);
+        must(number == 0 || (number >= 14 && number <= 16), "figures: no number of its own");
+        must((number == 16) == (n > 65536), "figures: 16");
+        must(*accepted + *refused == *docs && *docs <= n / 6 && *characters <= n, "figures: they do not add up");
+        must(number == 0 ? *place == 0 : *docs == 0 && *characters == 0 && *place <= n, "figures: after a refusal");
+    }
+    must(memcmp(&got[0], &got[1], sizeof got[0]) == 0, "figures: two answers");
+    return (struct answer){got[0].number, got[0].accepted};
+}
+
+/* The input, or parts of it, once or twice in a bundle; then a bundle with a byte changed. */
+static void try_figures(uint64_t *state, const uint8_t *data, size_t n, struct answer checked)
+{
+    static uint8_t bundle[2 * MOST_INPUT + 24];
+    size_t used = 0;
+    struct answer got;
+
+    for (int i = (int)below(state, 3); i >= 0 && used + n + 6 <= sizeof bundle; i--) {
+        size_t part = i == 0 ? n : below(state, n + 1);
+        const uint8_t head[6] = {(uint8_t)part, (uint8_t)(part >> 8), (uint8_t)(part >> 16), 0, 0, 3};
+        memcpy(bundle + used, head, 6);
+        memcpy(bundle + used + 6, data, part);
+        used += 6 + part;
+    }
+    got = run_figures(bundle, used);
+    must(got.number == 0 || used > 65536, "figures: a bundle that is refused");
+    must(checked.number != 0 || n > 0 || got.at > 0, "figures: an empty document is accepted");
+    bundle[below(state, 4) == 0 ? below(state, used) : below(state, 6)] ^= (uint8_t)(1u << below(state, 8));
+    run_figures(bundle, used);
+    run_figures(data, n);
+}
+
 /* ---- the builder ------------------------------------------------------------------------------------------------------------- */
 
 struct build {
@@ -916,6 +962,7 @@ int LLVMFuzzerTestOneInput(const uint8_t *data, size_t n)
     /* from the first text record's body on there is text that may be notes */
     try_notes(&state, data + (n < 6 ? n : 6), n < 6 ? 0 : n - 6);
     try_joined(&state, data, n, checked);
+    try_figures(&state, data, n, checked);
     try_builder(&state, data, n, below(&state, 4) == 0 ? n : record_start(&state, data, n));
     return 0;
 }

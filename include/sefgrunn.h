@@ -27,9 +27,10 @@ extern "C" {
 #define SEFGRUNN_VERSION_MINOR 1
 #define SEFGRUNN_VERSION_PATCH 0
 
-/* The limits of a document: its bytes, those of its joined form, the blocks that may be open at once, and the columns of console text. */
+/* The limits of a document: its bytes, those of its joined form and of a bundle, the blocks that may be open at once, and the columns of console text. */
 #define SEFGRUNN_MOST_BYTES 32768
 #define SEFGRUNN_MOST_JOINED_BYTES 32772
+#define SEFGRUNN_MOST_BUNDLE_BYTES 65536
 #define SEFGRUNN_MOST_OPEN 32
 #define SEFGRUNN_MOST_WIDTH 10000
 
@@ -50,6 +51,9 @@ enum sefgrunn_refusal {
     SEFGRUNN_NO_FORM = 11,           /* Meta in HTML or Markdown, TermRef in roff; place of the record */
     /* 12 was a byte over 127 in a roff heading. Headings have been upper-cased beyond ASCII since; the number is not used again. */
     SEFGRUNN_NO_ROOM = 13,           /* no room; place 0 */
+    SEFGRUNN_BUNDLE_KIND = 14,       /* record of a bundle of another kind than 0x0300; place of the record */
+    SEFGRUNN_BUNDLE_CUT_SHORT = 15,  /* record of a bundle cut short; place of the record */
+    SEFGRUNN_BUNDLE_TOO_LONG = 16,   /* bundle over 65,536 bytes; place 0 */
     SEFGRUNN_NO_JOINED_TEXT = 17,    /* joined form of under four bytes, or whose text runs past its end; place 0 */
     SEFGRUNN_WRONG_SHARE = 18,       /* record's text past the end of the joined text; place of the record; or text left over; the place is
                                         the joined form's length */
@@ -188,6 +192,14 @@ uint32_t sefgrunn_joined_roff(const uint8_t *joined, size_t n, uint8_t *room, si
  * house shape. Reads n bytes at notes. Writes all room_len bytes at room: the document, then zeros; all zeros after a refusal. Writes *at:
  * the document's length, or 0. Refusals 1 where the notes are over 32,768 bytes, then 19, then 13, also for a document over 32,768 bytes. */
 uint32_t sefgrunn_notes(const uint8_t *notes, size_t n, uint8_t *room, size_t room_len, size_t *at);
+
+/* The figures of a bundle: records laid out as a document's, of kind 0x0300, each body a document. Reads n bytes at bundle. Writes
+ * *documents, the bodies; *accepted, those that sefgrunn_console accepts with width 100, full and without characters in a room of 65,536
+ * bytes; *refused, the others, one over 32,768 bytes too; *characters, the characters outside White_Space of the accepted texts, backticks
+ * of TermRefs included. *accepted and *refused add up to *documents. Writes *place: the refusal's, or 0. After a refusal all the others are
+ * 0. Refusals 16, then at each record 15, then 14. */
+uint32_t sefgrunn_figures(const uint8_t *bundle, size_t n, size_t *documents, size_t *accepted, size_t *refused, size_t *characters,
+    size_t *place);
 
 /* Pages of a console text for a screen of some rows. Any bytes are a text. A row ends at a line feed, which it has; a non-empty rest is a
  * row. A page is height rows, the last one 1 to height of them; pages joined in order are the text, and an empty text has none. Reads n

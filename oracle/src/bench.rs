@@ -338,6 +338,39 @@ pub fn paging() {
     row("page (rust: line feeds)", "60 KB of text", text.len(), Some(times));
 }
 
+/// The figures of a bundle of pages, 64 KB at most; the port's console texts of them, in rooms as needed,
+/// stand in for the Rust. Then those of the most empty documents, beside that bundle.
+pub fn bundles(pages: &[Vec<u8>]) {
+    let mut bodies: Vec<&[u8]> = Vec::new();
+    let mut left = crate::figures::MOST_BYTES;
+    for page in pages.iter().cycle().take(50 * pages.len()) {
+        if rules::check(page).is_ok() && page.len() + 6 <= left {
+            bodies.push(page);
+            left -= page.len() + 6;
+        }
+    }
+    let bundle = crate::figures::bundle(bodies.iter().copied());
+    let empty = crate::figures::bundle(std::iter::repeat_n(&b""[..], 10_922));
+    let call = Call::Render(CONSOLE);
+    let need = |page: &[u8]| rules::render(CONSOLE, page, usize::MAX).most;
+    let mut rooms: Vec<Vec<u8>> = bodies.iter().map(|page| vec![0; need(page)]).collect();
+    let figures = |bundle: &[u8]| assert_eq!(port(Call::Figures, bundle, &mut []), 0);
+    let times = medians(
+        40,
+        || batch(BATCH, || figures(&bundle)),
+        || {
+            batch(BATCH, || {
+                for (page, room) in bodies.iter().zip(&mut rooms) {
+                    black_box(port(call, page, room));
+                }
+            })
+        },
+    );
+    row("figures (rust: console)", "a bundle of pages", bundle.len(), Some(times));
+    let times = medians(40, || batch(1, || figures(&empty)), || batch(1, || figures(&bundle)));
+    row("figures (rust: pages)", "10,922 empty", empty.len(), Some(times));
+}
+
 /// Notes of 30 KB; the port's console text of the document that they make stands in for the Rust, which
 /// takes in no notes.
 pub fn noting() {

@@ -1,6 +1,7 @@
 //! One type for a call of any public function and one for its answer, with the list form that
 //! `oracle record` writes.
 
+use crate::figures::{self, Figures};
 use crate::joined;
 use crate::notes;
 use crate::pages;
@@ -32,6 +33,7 @@ pub enum Call {
     Unjoin,
     JoinedCheck,
     JoinedRender(Renderer),
+    Figures,
     RoomBound,
 }
 
@@ -40,7 +42,7 @@ pub enum Call {
 pub struct Case {
     pub call: Call,
     /// the document; for the builder the text written or the document added; the body to split; the
-    /// text to page; the notes; the joined form
+    /// text to page; the notes; the joined form; the bundle
     pub document: Vec<u8>,
     /// the room before the call: a pattern without zeros, or the builder's document so far and then
     /// such a pattern
@@ -150,6 +152,13 @@ pub fn answer(case: &Case) -> Answer {
             let run = joined::render(renderer, &case.document, case.room.len());
             fill(&mut answer.room, run.outcome)
         }
+        Call::Figures => {
+            let found = figures::figures(&case.document);
+            let Figures { documents, accepted, refused, characters } = found.unwrap_or_default();
+            let numbers = [documents, accepted, refused, characters];
+            answer.numbers = numbers.map(|number| number as u64).to_vec();
+            found.map(|_| 0)
+        }
         Call::RoomBound => {
             rules::check(&case.document).map(|records| rules::room_bound(&records) as u64)
         }
@@ -202,7 +211,7 @@ fn header(call: Call) -> Option<(u8, u64, bool, bool)> {
             (number + 16, setting, full, css)
         }
         Call::PageCount { .. } | Call::Page { .. } | Call::Shape => return None,
-        Call::Notes | Call::RoomBound => return None,
+        Call::Notes | Call::Figures | Call::RoomBound => return None,
     })
 }
 

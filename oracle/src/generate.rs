@@ -28,11 +28,12 @@ pub enum Subject {
     Join,
     /// a joined form: checked, moved back, rendered
     Joined,
+    Figures,
     RoomBound,
 }
 
 impl Subject {
-    pub const ALL: [(Subject, &'static str); 17] = [
+    pub const ALL: [(Subject, &'static str); 18] = [
         (Subject::Check, "check"),
         (Subject::Console, "console"),
         (Subject::Html, "html"),
@@ -49,13 +50,14 @@ impl Subject {
         (Subject::Notes, "notes"),
         (Subject::Join, "join"),
         (Subject::Joined, "joined"),
+        (Subject::Figures, "figures"),
         (Subject::RoomBound, "room_bound"),
     ];
 
     /// Whether lists have its calls.
     pub fn is_listed(self) -> bool {
         use Subject::*;
-        !matches!(self, Pages | Shape | Notes | RoomBound)
+        !matches!(self, Pages | Shape | Notes | Figures | RoomBound)
     }
 
     pub fn named(name: &str) -> Option<Subject> {
@@ -1256,6 +1258,48 @@ fn joining(rng: &mut Rng, limits: Limits) -> Case {
     Case { call, document: form, room: pattern(0, room_len).collect(), length: 0 }
 }
 
+/// A bundle of documents of chance; sometimes faulty, or about its limit.
+fn bundling(rng: &mut Rng, limits: Limits) -> Case {
+    let mut bundle = Vec::new();
+    let most = crate::figures::MOST_BYTES;
+    for _ in 0..rng.below(6) {
+        let document = match rng.below(12) {
+            0 => Vec::new(),
+            // a text that a room of 65,536 does not hold
+            1 if limits.bytes > MOST_BYTES && rng.once_in(40) => {
+                let mut document = Vec::new();
+                (0..8).for_each(|_| put_record(&mut document, 0x0105, b""));
+                put_record(&mut document, 1, "a\n ".repeat(rng.within(1_150, 1_300)).as_bytes());
+                (0..8).for_each(|_| put_record(&mut document, 0x0205, b""));
+                document
+            }
+            _ => document(rng, Subject::Console, limits, 4),
+        };
+        put_record(&mut bundle, crate::figures::BUNDLED, &document);
+    }
+    match rng.below(30) {
+        0 => bundle.truncate(rng.below(bundle.len() + 1)),
+        1 => {
+            let kind = rng.pick(&[0, 1, 3, 0x0100, 0x0200, 0x0301, 0x0003, 0xFF00]);
+            put_record(&mut bundle, kind, if rng.once_in(2) { b"" } else { b"abc" });
+        }
+        2 => bundle.extend((0..rng.within(1, 8)).map(|_| rng.pick(&[0, 0, 1, 3]))),
+        3 => {
+            let at = rng.below(bundle.len() + 1);
+            bundle.insert(at, rng.pick(&[0, 1, 3, 0xFF]));
+        }
+        4 if limits.bytes > MOST_BYTES && rng.once_in(8) => {
+            let left = rng.within(most - 1, most + 1).saturating_sub(bundle.len() + 6);
+            put_record(&mut bundle, crate::figures::BUNDLED, &vec![0; left]);
+        }
+        5 if rng.once_in(40) => {
+            bundle = crate::figures::bundle(std::iter::repeat_n(&b""[..], rng.below(10_924)));
+        }
+        _ => {}
+    }
+    Case { call: Call::Figures, document: bundle, room: Vec::new(), length: 0 }
+}
+
 /// The case of a subject with this seed and index.
 pub fn case(subject: Subject, seed: u64, index: u64, limits: Limits) -> Case {
     let rng = &mut Rng::new(seed, index);
@@ -1280,6 +1324,7 @@ pub fn case(subject: Subject, seed: u64, index: u64, limits: Limits) -> Case {
             Case { call: Call::Join, document, room, length: 0 }
         }
         Subject::Joined => joining(rng, limits),
+        Subject::Figures => bundling(rng, limits),
         Subject::Split => splitting(rng, limits),
         Subject::NextChunk => stepping(rng, limits),
         _ => rendering(rng, subject, limits),
@@ -1337,6 +1382,7 @@ pub fn owed(subject: Subject) -> &'static [u32] {
         Subject::NextChunk => &[0, 1, 2, 3, 4],
         Subject::Pages => &[0, 20, 21],
         Subject::Notes => &[0, 1, 13, 19],
+        Subject::Figures => &[0, 14, 15, 16],
         Subject::Join => &[0, 1, 2, 3, 4, 5, 6, 7, 8, 13],
         Subject::Joined => &[0, 1, 2, 3, 4, 5, 6, 7, 8, 9, 10, 11, 13, 17, 18],
     }

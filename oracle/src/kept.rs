@@ -10,6 +10,7 @@ use std::sync::Once;
 
 use crate::buffer::{plain_chunks, Color, PlainChunk, Token};
 use crate::cases::{Answer, Call, Case};
+use crate::figures;
 use crate::joined;
 use crate::notes;
 use crate::pages;
@@ -530,6 +531,7 @@ pub fn confirm(case: &Case, answer: &Answer) -> Result<(), String> {
         }
         Call::Shape => shape::confirm(&case.document),
         Call::Notes => notes::confirm(&case.document),
+        Call::Figures => figures::confirm(&case.document),
         Call::RoomBound => confirm_bound(case, answer),
         Call::Join => joined::confirm_join(&case.document),
         Call::Unjoin | Call::JoinedCheck | Call::JoinedRender(_) => joined::confirm_joined(case),

@@ -7,6 +7,7 @@
 //! - [`shape`]: 02's house shape of a document.
 //! - [`notes`]: 02's notes as documents.
 //! - [`joined`]: 02's joined form of a document.
+//! - [`figures`]: 02's figures of a bundle of documents.
 //! - [`kept`]: the kept Rust run beside `rules`; every disagreement is reported.
 //! - [`cases`]: one type for a call of any public function, one for its answer, and their list form.
 //! - [`generate`]: seeded documents, settings, rooms and builder calls.
@@ -27,6 +28,7 @@ use bpaf::buffer::Doc;
 
 pub mod bench;
 pub mod cases;
+pub mod figures;
 pub mod generate;
 pub mod joined;
 pub mod kept;

@@ -5,6 +5,7 @@ use std::process::ExitCode;
 
 use oracle::bench;
 use oracle::cases::{answer, list, pattern, Answer, Call, Case};
+use oracle::figures;
 use oracle::generate::{self, Limits, Subject};
 use oracle::kept::confirm;
 use oracle::port;
@@ -26,6 +27,8 @@ usage: oracle answer console|html|html_strict|markdown|roff
        oracle bench DOCUMENT..
        oracle growth DOCUMENT
        oracle notes < notes > document
+       oracle bundle DOCUMENT.. > bundle
+       oracle figures < bundle
 ";
 
 /// The room and width of 01's program.
@@ -119,6 +122,8 @@ fn main() -> ExitCode {
                 .and_then(|a| run_selfcheck(&a)),
             "bench" => Ok(run_bench(arguments)),
             "growth" => Arguments::read(arguments, &[]).and_then(|a| run_growth(&a)),
+            "bundle" => Ok(run_bundle(arguments)),
+            "figures" => Arguments::read(arguments, &[]).and_then(|a| run_figures(&a)),
             "notes" => Arguments::read(arguments, &[]).and_then(|a| run_notes(&a)),
             "reach" => Arguments::read(arguments, &["seed", "cases"]).and_then(|a| run_reach(&a)),
             _ => Err("a command is missing or unknown".into()),
@@ -139,20 +144,45 @@ fn write_out(bytes: &[u8]) -> ExitCode {
     }
 }
 
-/// The document of some notes, or a refusal line.
-fn run_notes(arguments: &Arguments) -> Parsed<ExitCode> {
+/// What standard input holds, made into something; or a refusal line.
+fn converted(
+    arguments: &Arguments,
+    make: impl FnOnce(&[u8]) -> rules::Ruled<Vec<u8>>,
+) -> Parsed<ExitCode> {
     arguments.no_operand()?;
-    let mut notes = Vec::new();
-    if let Err(error) = io::stdin().read_to_end(&mut notes) {
+    let mut given = Vec::new();
+    if let Err(error) = io::stdin().read_to_end(&mut given) {
         eprintln!("oracle: {error}");
         return Ok(ExitCode::FAILURE);
     }
-    Ok(match oracle::notes::taken_in(&notes, usize::MAX) {
-        Ok(document) => write_out(&document),
+    Ok(match make(&given) {
+        Ok(made) => write_out(&made),
         Err(refusal) => {
             write_out(format!("refused {} at {}\n", refusal.number, refusal.place).as_bytes())
         }
     })
+}
+
+/// The document of some notes.
+fn run_notes(arguments: &Arguments) -> Parsed<ExitCode> {
+    converted(arguments, |notes| oracle::notes::taken_in(notes, usize::MAX))
+}
+
+/// 02's line of figures.
+fn run_figures(arguments: &Arguments) -> Parsed<ExitCode> {
+    converted(arguments, |bundle| {
+        figures::figures(bundle).map(|figures| format!("{figures}\n").into_bytes())
+    })
+}
+
+/// A bundle of the documents at some paths.
+fn run_bundle(paths: impl Iterator<Item = String>) -> ExitCode {
+    let read =
+        |path: String| std::fs::read(&path).map_err(|error| eprintln!("oracle: {path}: {error}"));
+    match paths.map(read).collect::<Result<Vec<_>, ()>>() {
+        Ok(documents) => write_out(&figures::bundle(documents.iter().map(|d| &d[..]))),
+        Err(()) => ExitCode::FAILURE,
+    }
 }
 
 /// Runs a benchmark on the document at a path; says whether it was read and accepted.
@@ -184,6 +214,9 @@ fn run_bench(documents: impl Iterator<Item = String>) -> ExitCode {
     for path in &documents {
         fine &= timed(path, bench::page);
     }
+    let pages: Vec<Vec<u8>> =
+        documents.iter().filter_map(|path| std::fs::read(path).ok()).collect();
+    bench::bundles(&pages);
     bench::headings();
     bench::paging();
     bench::noting();

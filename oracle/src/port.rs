@@ -55,7 +55,7 @@ impl Stored {
     /// The other numbers that a call stores.
     fn numbers(&self, call: Call) -> Vec<u64> {
         let count = match call {
-            Call::NextChunk { .. } => 4,
+            Call::NextChunk { .. } | Call::Figures => 4,
             Call::Tabstop | Call::PageCount { .. } | Call::Shape => 1,
             Call::Page { .. } => 2,
             _ => 0,
@@ -167,6 +167,7 @@ pub(crate) fn number(call: Call, document: &[u8], room: &mut [u8], stored: &mut 
                 c::sefgrunn_page(d, n, height as usize, page as usize, first, second)
             }
             Call::Notes => c::sefgrunn_notes(d, n, r, r_len, at),
+            Call::Figures => c::sefgrunn_figures(d, n, first, second, third, fourth, at),
             Call::RoomBound => c::sefgrunn_room_bound(d, n, at),
             Call::Join => c::sefgrunn_join(d, n, r, r_len, at),
             Call::Unjoin => c::sefgrunn_unjoin(d, n, r, r_len, at),

@@ -125,6 +125,15 @@ extern "C" {
         room_len: usize,
         at: *mut usize,
     ) -> u32;
+    pub fn sefgrunn_figures(
+        bundle: *const u8,
+        n: usize,
+        documents: *mut usize,
+        accepted: *mut usize,
+        refused: *mut usize,
+        characters: *mut usize,
+        place: *mut usize,
+    ) -> u32;
     pub fn sefgrunn_notes(
         notes: *const u8,
         n: usize,

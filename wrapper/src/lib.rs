@@ -73,6 +73,12 @@ pub enum Number {
     // 12 is not used again.
     /// The room is too small. Place 0.
     NoRoom = 13,
+    /// A record of a bundle has another kind than 0x0300. Place of the record.
+    BundleKind = 14,
+    /// A record of a bundle is cut short. Place of the record.
+    BundleCutShort = 15,
+    /// A bundle is over 65,536 bytes. Place 0.
+    BundleTooLong = 16,
     /// A joined form has under four bytes, or its text runs past its end. Place 0.
     NoJoinedText = 17,
     /// A record's text passes the end of the joined text: place of the record. Or joined text is left
@@ -88,7 +94,7 @@ pub enum Number {
 
 impl Number {
     /// All of them, in order.
-    pub const ALL: [Number; 17] = [
+    pub const ALL: [Number; 20] = [
         Number::TooLong,
         Number::CutShort,
         Number::UnknownKind,
@@ -101,6 +107,9 @@ impl Number {
         Number::BeyondMargin,
         Number::NoForm,
         Number::NoRoom,
+        Number::BundleKind,
+        Number::BundleCutShort,
+        Number::BundleTooLong,
         Number::NoJoinedText,
         Number::WrongShare,
         Number::NotesNotUtf8,
@@ -127,6 +136,9 @@ impl Number {
             Number::BeyondMargin => "text is more than 50 columns before its margin",
             Number::NoForm => "this form has no such block",
             Number::NoRoom => "no room",
+            Number::BundleKind => "a record of a bundle is no document",
+            Number::BundleCutShort => "a record of a bundle is cut short",
+            Number::BundleTooLong => "the bundle is over 65,536 bytes",
             Number::NoJoinedText => "a joined form without its text",
             Number::WrongShare => "the records do not share out the joined text",
             Number::NotesNotUtf8 => "notes are not UTF-8",
@@ -416,6 +428,66 @@ pub fn markdown_string(document: &[u8], full: bool) -> Result<String, Refusal> {
 /// [`MOST_ROOM`] is too small.
 pub fn roff_string(document: &[u8]) -> Result<String, Refusal> {
     grown(|room| roff(document, room).map(str::len))
+}
+
+// ---------------------------------------------------------------------------------------------
+// Bundles
+
+/// The most bytes that a bundle may have.
+pub const MOST_BUNDLE_BYTES: usize = 65_536;
+
+/// The figures of a bundle of documents.
+#[derive(Debug, Clone, Copy, PartialEq, Eq, Hash)]
+pub struct Figures {
+    /// Documents in the bundle.
+    pub documents: usize,
+    /// Those whose console text, all of it, 100 columns wide and folded by bytes, is accepted in a
+    /// room of 65,536 bytes.
+    pub accepted: usize,
+    /// The others.
+    pub refused: usize,
+    /// Characters of the accepted texts outside White_Space; the backticks of TermRefs count.
+    pub characters: usize,
+}
+
+impl fmt::Display for Figures {
+    /// The line that the program `help_figures` prints, without its line end.
+    fn fmt(&self, f: &mut fmt::Formatter<'_>) -> fmt::Result {
+        let Figures { documents, accepted, refused, characters } = self;
+        write!(f, "documents {documents} accepted {accepted} ")?;
+        write!(f, "refused {refused} characters {characters}")
+    }
+}
+
+/// A bundle of documents: each is the body of a record of kind 0x0300. Nothing is checked; a bundle
+/// over [`MOST_BUNDLE_BYTES`] is for [`figures`] to refuse.
+pub fn bundle<D: AsRef<[u8]>>(documents: impl IntoIterator<Item = D>) -> Vec<u8> {
+    let mut bundle = Vec::new();
+    for document in documents {
+        let document = document.as_ref();
+        // a length that four bytes do not hold is past every limit
+        bundle.extend(u32::try_from(document.len()).unwrap_or(u32::MAX).to_le_bytes());
+        bundle.extend(0x0300u16.to_le_bytes());
+        bundle.extend(document);
+    }
+    bundle
+}
+
+/// The figures of a bundle. Refusals 16, then at each record 15, then 14.
+///
+/// ```
+/// # fn main() -> Result<(), sefgrunn::Refusal> {
+/// let a_b = [3, 0, 0, 0, 1, 0, b'a', b' ', b'b'];
+/// let bare_end = [0, 0, 0, 0, 0, 2];
+/// let figures = sefgrunn::figures(&sefgrunn::bundle([&a_b[..], &bare_end]))?;
+/// assert_eq!(figures.to_string(), "documents 2 accepted 1 refused 1 characters 2");
+/// # Ok(())
+/// # }
+/// ```
+pub fn figures(bundle: &[u8]) -> Result<Figures, Refusal> {
+    let (number, figures, place) = linked::figures(bundle);
+    accepted(number, place)?;
+    Ok(figures)
 }
 
 // ---------------------------------------------------------------------------------------------
@@ -719,7 +791,7 @@ mod tests {
     #[test]
     fn numbers_are_those_of_the_header() {
         let numbers: Vec<u32> = Number::ALL.map(Number::get).to_vec();
-        assert_eq!(numbers, [1, 2, 3, 4, 5, 6, 7, 8, 9, 10, 11, 13, 17, 18, 19, 20, 21]);
+        assert_eq!(numbers, (1..=21).filter(|&number| number != 12).collect::<Vec<u32>>());
         for number in Number::ALL {
             assert_eq!(accepted(number.get(), 7), Err(Refusal { number, place: 7 }));
         }

@@ -5,7 +5,7 @@
 //! an empty one) or of a local number, with the slice's own length beside it, and no two overlap,
 //! because a `&mut` overlaps with nothing.
 
-use crate::{c, Measure, Settings};
+use crate::{c, Figures, Measure, Settings};
 
 pub fn check(document: &[u8]) -> (u32, usize) {
     let mut place = 0;
@@ -168,6 +168,18 @@ pub fn joined_roff(joined: &[u8], room: &mut [u8]) -> (u32, usize) {
     // SAFETY: see above.
     let number = unsafe { c::sefgrunn_joined_roff(d, n, r, len, &mut at) };
     (number, at)
+}
+
+/// The number, the figures and the place.
+pub fn figures(bundle: &[u8]) -> (u32, Figures, usize) {
+    let mut found = Figures { documents: 0, accepted: 0, refused: 0, characters: 0 };
+    let Figures { documents, accepted, refused, characters } = &mut found;
+    let mut place = 0;
+    let (b, n) = (bundle.as_ptr(), bundle.len());
+    // SAFETY: see above.
+    let number =
+        unsafe { c::sefgrunn_figures(b, n, documents, accepted, refused, characters, &mut place) };
+    (number, found, place)
 }
 
 pub fn notes(notes: &[u8], room: &mut [u8]) -> (u32, usize) {

@@ -1,6 +1,6 @@
 //! Each refusal with its place, by 01's table, and a builder that a refused call leaves as it was.
 
-use sefgrunn::{check, Block, Builder, Html, Number, Refusal, Settings, Shape, Style};
+use sefgrunn::{check, Block, Builder, Figures, Html, Number, Refusal, Settings, Shape, Style};
 
 fn refusal<T>(number: Number, place: usize) -> Result<T, Refusal> {
     Err(Refusal { number, place })
@@ -64,6 +64,24 @@ fn of_renderers() {
     assert_eq!(sefgrunn::markdown_string(&meta, true), refusal(Number::NoForm, 0));
     let term_ref = nested(&[Block::Mono, Block::TermRef], "x");
     assert_eq!(sefgrunn::roff_string(&term_ref), refusal(Number::NoForm, 6));
+}
+
+#[test]
+fn of_bundles() {
+    let far = nested(&[Block::ItemBody; 9], "x");
+    let long = vec![0; 32_769];
+    let shelf = sefgrunn::bundle([&far[..], &long, &nested(&[Block::TermRef], "é"), b""]);
+    let expected = Figures { documents: 4, accepted: 2, refused: 2, characters: 3 };
+    assert_eq!(sefgrunn::figures(&shelf), Ok(expected));
+    let none = Figures { documents: 0, accepted: 0, refused: 0, characters: 0 };
+    assert_eq!(sefgrunn::figures(b""), Ok(none));
+    let good = sefgrunn::bundle([b""]);
+    let with = |rest: &[u8]| sefgrunn::figures(&[&good[..], rest].concat());
+    assert_eq!(with(&[0; 5]), refusal(Number::BundleCutShort, 6));
+    assert_eq!(with(&[1, 0, 0, 0, 1, 0]), refusal(Number::BundleCutShort, 6));
+    assert_eq!(with(&[0, 0, 0, 0, 1, 0]), refusal(Number::BundleKind, 6));
+    assert_eq!(sefgrunn::figures(&[0xFF; 65_537]), refusal(Number::BundleTooLong, 0));
+    assert_eq!(sefgrunn::figures(&[0xFF; 65_536]), refusal(Number::BundleCutShort, 0));
 }
 
 #[test]

@@ -21,6 +21,8 @@ ghost use Rattle.html_rules.specs.Markdown.{markdown};
 ghost use Rattle.manpage.specs.Roff.{roff};
 ghost use Rattle.joined_rules.specs.Joined.{checkJoined, joinsInto, unjoinsInto};
 ghost use Rattle.joined_render_rules.specs.Render.{joinedConsole, joinedHtml, joinedMarkdown, joinedRoff};
+ghost use Rattle.figures.specs.Bundle.{figures};
+ghost use Rattle.sefgrunn.specs.Figures.{orNone};
 ghost use Rattle.sefgrunn.specs.HouseShape.{ShapeTold};
 ghost use Rattle.sefgrunn.specs.Numbers.{numberOf, placeOf, lengthOrPlace, orZero, lengthAfter, told, measureAsked, settings, writesIn, opensIn, closesIn};
 use buffer::Built;
@@ -29,6 +31,7 @@ use console_rules::Measure;
 use console_rules::Settings;
 use console_tabstop::Searched;
 use document::Checked;
+use figures::Shelf;
 use pages::Counted;
 use pages::Paged;
 use records::Kind;
@@ -245,6 +248,42 @@ pub extern "C" fn sefgrunn_joined_check(joined: &[u8], place: &mut usize) -> u32
     match verdict {
         Checked::Accepted => accepted(place),
         Checked::Refused(r) => refused(r, place),
+    }
+}
+
+// The figures of a bundle, or 16, 15, 14: `texts` are the accepted documents, `others` the refused ones. After a refusal the four numbers are 0.
+#[no_mangle]
+pub extern "C" fn sefgrunn_figures(
+    bundle: &[u8],
+    documents: &mut usize,
+    texts: &mut usize,
+    others: &mut usize,
+    characters: &mut usize,
+    place: &mut usize,
+) -> u32
+    ensures number { λ r. ⌜ r ≡ numberOf (figures (now (bundle .entry))) ⌝ }
+    ensures documents { λ _. ⌜ now (documents .exit) ≡ orNone (figures (now (bundle .entry))) .documents ⌝ }
+    ensures texts { λ _. ⌜ now (texts .exit) ≡ orNone (figures (now (bundle .entry))) .accepted ⌝ }
+    ensures others { λ _. ⌜ now (others .exit) ≡ orNone (figures (now (bundle .entry))) .refused ⌝ }
+    ensures characters { λ _. ⌜ now (characters .exit) ≡ orNone (figures (now (bundle .entry))) .characters ⌝ }
+    ensures place { λ _. ⌜ now (place .exit) ≡ placeOf (figures (now (bundle .entry))) ⌝ }
+{
+    let answer = figures::figures_of(bundle);
+    match answer {
+        Shelf::Counted(f) => {
+            *documents = f.documents;
+            *texts = f.accepted;
+            *others = f.refused;
+            *characters = f.characters;
+            accepted(place)
+        }
+        Shelf::Refused(a) => {
+            *documents = 0;
+            *texts = 0;
+            *others = 0;
+            *characters = 0;
+            refused(a, place)
+        }
     }
 }
 

@@ -1,0 +1,4 @@
+pub mod Bundle
+pub mod Answers
+pub mod Parts
+pub mod Samples
