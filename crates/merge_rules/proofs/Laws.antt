@@ -6,30 +6,65 @@ use mathlib.Core.List.{List, []}
 use lib.ListN.{length}
 use borrow.Author.Tests.{le-leb}
 use Rattle.base.specs.Choice.{if_then_else_}
-use Rattle.base.specs.Result.{Result, gives, _>>=_}
+use Rattle.base.specs.Result.{Result, gives, refused, _>>=_}
 use Rattle.base.proofs.Choice.{if-true, and-both}
 use Rattle.base.proofs.Results.{bind-gives, if-gives, gives-same, refused-gives}
 use Rattle.records.specs.Records.{printingOrder}
 use Rattle.document.specs.Document.{check}
 use Rattle.document.proofs.Walks.{check-gives}
 use Rattle.buffer.specs.Builder.{fit}
-use Rattle.merge_rules.specs.Merge.{Item, listOf, Lists, ascending, merged, printed, Side, lists, no-list, inOrder, merging, Merges, TheMerge}
+use Rattle.merge_rules.specs.Merge.{Item, listOf, Lists, IsList, ascending, merged, printed, inOrder}
+use Rattle.merge_rules.specs.Merge.{merging, Merges, TheMerge, first-refused, second-refused, first-no-list, second-no-list, both-lists}
 use Rattle.merge_rules.proofs.Merged.{Ascends, ascending-ascends, merged-ascends, merged-itself, merged-left, merged-right}
 use Rattle.merge_rules.proofs.Listed.{result-lists, result-items, result-check, printed-list}
 use Rattle.merge_rules.proofs.Ends.{one-list}
 
--- the items of a side are one list, or there are none
-pub one-side : {s : List ℕ} {a b : Result (List Item)} → Side s a → Side s b → a ≡ b
-one-side (lists l) (lists m) = ap gives (one-list l m)
-one-side (lists {is = is} l) (no-list n) = absurd (n (is, l))
-one-side (no-list n) (lists {is = is} m) = absurd (n (is, m))
-one-side (no-list n) (no-list m) = refl
+-- The rules settle one answer: each case excludes those after it, and gives one value
+
+module _ {room s t : List ℕ} where
+  by-first-refused : {n p : ℕ} {b : Result (List ℕ)} → check s ≡ refused n p → Merges room s t b → refused n p ≡ b
+  by-first-refused e (first-refused f) = sym e ∙ f
+  by-first-refused e (second-refused c f) = absurd (refused-gives (sym e ∙ c))
+  by-first-refused e (first-no-list c d n) = absurd (refused-gives (sym e ∙ c))
+  by-first-refused e (second-no-list c d l n) = absurd (refused-gives (sym e ∙ c))
+  by-first-refused e (both-lists c d l k) = absurd (refused-gives (sym e ∙ c))
+
+  by-second-refused : {n p : ℕ} {b : Result (List ℕ)} → check s ≡ gives [] → check t ≡ refused n p → Merges room s t b → refused n p ≡ b
+  by-second-refused c e (first-refused f) = absurd (refused-gives (sym f ∙ c))
+  by-second-refused c e (second-refused d f) = sym e ∙ f
+  by-second-refused c e (first-no-list f d n) = absurd (refused-gives (sym e ∙ d))
+  by-second-refused c e (second-no-list f d l n) = absurd (refused-gives (sym e ∙ d))
+  by-second-refused c e (both-lists f d l k) = absurd (refused-gives (sym e ∙ d))
+
+  module _ (c : check s ≡ gives []) (d : check t ≡ gives []) where
+    by-first-no-list : {b : Result (List ℕ)} → (IsList s → ⊥) → Merges room s t b → refused 22 0 ≡ b
+    by-first-no-list n (first-refused f) = absurd (refused-gives (sym f ∙ c))
+    by-first-no-list n (second-refused e f) = absurd (refused-gives (sym f ∙ d))
+    by-first-no-list n (first-no-list e f m) = refl
+    by-first-no-list n (second-no-list e f l m) = refl
+    by-first-no-list n (both-lists {is = is} e f l k) = absurd (n (is, l))
+
+    by-second-no-list : {b : Result (List ℕ)} → (IsList t → ⊥) → Merges room s t b → refused 22 0 ≡ b
+    by-second-no-list n (first-refused f) = absurd (refused-gives (sym f ∙ c))
+    by-second-no-list n (second-refused e f) = absurd (refused-gives (sym f ∙ d))
+    by-second-no-list n (first-no-list e f m) = refl
+    by-second-no-list n (second-no-list e f l m) = refl
+    by-second-no-list n (both-lists {js = js} e f l k) = absurd (n (js, k))
+
+    by-both-lists : {is js : List Item} {b : Result (List ℕ)} → Lists s is → Lists t js → Merges room s t b → merging room is js ≡ b
+    by-both-lists x y (first-refused f) = absurd (refused-gives (sym f ∙ c))
+    by-both-lists x y (second-refused e f) = absurd (refused-gives (sym f ∙ d))
+    by-both-lists {is = is} x y (first-no-list e f n) = absurd (n (is, x))
+    by-both-lists {js = js} x y (second-no-list e f l n) = absurd (n (js, y))
+    by-both-lists x y (both-lists e f l k) = ap₂ (λ (u v : List Item). merging room u v) (one-list x l) (one-list y k)
 
 -- two answers that hold are the same
 pub one-answer : {room s t : List ℕ} {a b : Result (List ℕ)} → Merges room s t a → Merges room s t b → a ≡ b
-one-answer {room} {s} {t} m n =
-    m .says ∙ ap₂ (λ (f g : Result (List Item)). merging room s t f g) (one-side (m .first-side) (n .first-side)) (one-side (m .second-side) (n .second-side))
-    ∙ sym (n .says)
+one-answer (first-refused e) m = by-first-refused e m
+one-answer (second-refused c e) m = by-second-refused c e m
+one-answer (first-no-list c d n) m = by-first-no-list c d n m
+one-answer (second-no-list c d l n) m = by-second-no-list c d n m
+one-answer (both-lists c d l k) m = by-both-lists c d l k m
 
 -- Two sides that are such lists
 
@@ -37,7 +72,7 @@ module _ {room s t : List ℕ} {is js : List Item} (cs : check s ≡ gives []) (
     (us : ascending is ≡ true) (ut : ascending js ≡ true) where
   pub two-lists : Merges room s t (fit room (listOf (merged is js)))
   unfolding merging inOrder _>>=_ if_then_else_
-  two-lists = record { first = gives is; second = gives js; first-side = lists ls; second-side = lists lt; says = rw (cs, ct, us, ut) }
+  two-lists = subst (λ (r : Result (List ℕ)). Merges room s t r) (rw (us, ut)) (both-lists cs ct ls lt)
 
 -- merged with itself, given room for it, a list is given back
 pub itself : (room s : List ℕ) (is : List Item) → check s ≡ gives [] → Lists s is → ascending is ≡ true → length s ≤ length room → Merges room s s (gives s)
@@ -90,18 +125,18 @@ fits-same room y x e = gives-same (if-gives _ (gives y) _ _ x e .1)
 -- the result is such a list again, ascending, accepted by 1 to 8, and prints what the kept items print
 pub given : {room s t x : List ℕ} → Merges room s t (gives x) → Given room s t x
 unfolding merging _>>=_
-given {room} {s} {t} {x} m = of (m .first) (m .second) (m .first-side) (m .second-side) (sym (m .says))
+given {room} {s} {t} {x} m = of m refl
   where
-    of : (a b : Result (List Item)) → Side s a → Side t b → merging room s t a b ≡ gives x → Given room s t x
-    of a b (lists {is = is} l) (lists {is = js} k) e =
-        let c = bind-gives (check s) _ x e in
-        let d = bind-gives (check t) _ x (c .2) in
-        let f = bind-gives (inOrder is) _ x (d .2) in
+    of : {r : Result (List ℕ)} → Merges room s t r → r ≡ gives x → Given room s t x
+    of (first-refused f) e = absurd (refused-gives e)
+    of (second-refused c f) e = absurd (refused-gives e)
+    of (first-no-list c d n) e = absurd (refused-gives e)
+    of (second-no-list c d l n) e = absurd (refused-gives e)
+    of (both-lists {is = is} {js = js} cs ct l k) e =
+        let f = bind-gives (inOrder is) _ x e in
         let g = bind-gives (inOrder js) _ x (f .2) in
         let p = in-order is (f .0) (f .1) in
         let q = in-order js (g .0) (g .1) in
-        let cs : check s ≡ gives [] = c .1 ∙ ap gives (check-gives s (c .0) (c .1) .2) in
-        let ct : check t ≡ gives [] = d .1 ∙ ap gives (check-gives t (d .0) (d .1) .2) in
         let r : fit room (listOf (merged is js)) ≡ gives x = ap₂ (λ (u v : List Item). fit room (listOf (merged u v))) (sym (p .1)) (sym (q .1)) ∙ g .2 in
         let y : listOf (merged is js) ≡ x = fits-same room (listOf (merged is js)) x r in
         record {
@@ -116,9 +151,6 @@ given {room} {s} {t} {x} m = of (m .first) (m .second) (m .first-side) (m .secon
           accepted = result-check cs ct l k room x r;
           prints = ap printingOrder (sym y) ∙ printed-list (merged is js) (result-items cs ct l k);
         }
-    of a b (lists l) (no-list n) e = let c = bind-gives (check s) _ x e in absurd (refused-gives (bind-gives (check t) _ x (c .2) .2))
-    of a b (no-list n) (lists l) e = let c = bind-gives (check s) _ x e in absurd (refused-gives (bind-gives (check t) _ x (c .2) .2))
-    of a b (no-list n) (no-list k) e = let c = bind-gives (check s) _ x e in absurd (refused-gives (bind-gives (check t) _ x (c .2) .2))
 
 -- the answer on two sides, by any that holds
 pub the-merge : {room s t : List ℕ} {r : Result (List ℕ)} → Merges room s t r → TheMerge room s t r

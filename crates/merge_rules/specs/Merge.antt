@@ -100,34 +100,27 @@ unfoldable pub printed : List Item → List ℕ
 printed [] = []
 printed (i ∷ is) = printingOrder (records i) ++ printed is
 
--- '22 when a side, the order of its terms aside, isn't such a list': the items of a side, or 22
-pub data Side (s : List ℕ) : Result (List Item) → Type 0 where
-  lists : {is : List Item} → Lists s is → Side s (gives is)
-  no-list : (IsList s → ⊥) → Side s (refused 22 0)
-
--- '23 when its terms don't ascend'
+-- '23 when its terms don't ascend', of the items of a side
 unfoldable pub inOrder : List Item → Result (List Item)
 inOrder is = if ascending is then gives is else refused 23 0
 
--- 'Refusals 1 to 8 apply to the first side, then the second. After these comes 22 .., tested on both sides, first side first, then 23 ..,
--- likewise, both with place 0, and last 13 for the result, also when it exceeds 32,768 bytes' (`fit`)
-unfoldable pub merging : List ℕ → List ℕ → List ℕ → Result (List Item) → Result (List Item) → Result (List ℕ)
-merging room s t first second =
-    check s >>= λ _.
-    check t >>= λ _.
-    first >>= λ is.
-    second >>= λ js.
+-- of two lists '23 .., likewise' (first side first), 'both with place 0, and last 13 for the result, also when it exceeds 32,768 bytes'
+unfoldable pub merging : List ℕ → List Item → List Item → Result (List ℕ)
+merging room is js =
     inOrder is >>= λ is.
     inOrder js >>= λ js.
     fit room (listOf (merged is js))
 
 -- what two sides give in a room
-pub record Merges (room s t : List ℕ) (r : Result (List ℕ)) : Type 0 where
-  pub first : Result (List Item)
-  pub second : Result (List Item)
-  pub first-side : Side s first
-  pub second-side : Side t second
-  pub says : r ≡ merging room s t first second
+pub data Merges (room s t : List ℕ) : Result (List ℕ) → Type 0 where
+  -- 'Refusals 1 to 8 apply to the first side, then the second'
+  first-refused : {n p : ℕ} → check s ≡ refused n p → Merges room s t (refused n p)
+  second-refused : {n p : ℕ} → check s ≡ gives [] → check t ≡ refused n p → Merges room s t (refused n p)
+  -- 'After these comes 22 when a side, the order of its terms aside, isn't such a list, tested on both sides, first side first'
+  first-no-list : check s ≡ gives [] → check t ≡ gives [] → (IsList s → ⊥) → Merges room s t (refused 22 0)
+  second-no-list : check s ≡ gives [] → check t ≡ gives [] → IsList s → (IsList t → ⊥) → Merges room s t (refused 22 0)
+  -- 'then 23 .. and last 13'
+  both-lists : {is js : List Item} → check s ≡ gives [] → check t ≡ gives [] → Lists s is → Lists t js → Merges room s t (merging room is js)
 
 -- the answer on two sides: it holds, and no other does
 pub record TheMerge (room s t : List ℕ) (r : Result (List ℕ)) : Type 0 where
