@@ -14,9 +14,9 @@ use Rattle.merge_rules.specs.declared.Order.the-variants as order
 use Rattle.merge_rules.proofs.Whole.{around-alone}
 use Rattle.merge_rules.proofs.Merged.{next-less, next-same, next-more, merged-left, merged-right}
 use Rattle.merge_rules.proofs.Ends.{one-list}
-use Rattle.merge_sides.specs.Steps.{Keyed}
-use Rattle.merge_sides.specs.declared.Entry.{Entry}
-use Rattle.merge_sides.proofs.Texts.{wrote-more, from-nothing}
+use Rattle.merge_items.proofs.Items.{Holding}
+use Rattle.merge_items.specs.declared.Entry.{Entry}
+use Rattle.merge_items.proofs.Texts.{wrote-more, from-nothing}
 use Rattle.merge_sides.proofs.Sides.{Rest, rest-0, start-0, Taken, taken-keyed, keyed-text, no-more}
 use Rattle.merge.specs.Steps.{Written}
 
@@ -30,8 +30,8 @@ pub record Going (s t : List ℕ) (limit : ℕ) (room text other : List ℕ) (le
   pub js : List Item
   pub first : Rest s i is
   pub second : Rest t j js
-  pub keyed : Keyed s i text (record { next = next; len = n })
-  pub keyed-too : Keyed t j other (record { next = then; len = m })
+  pub keyed : Holding s i text (record { next = next; len = n })
+  pub keyed-too : Holding t j other (record { next = then; len = m })
   pub size : length room ≡ limit
   pub key-size : length text ≡ 32768
   pub other-size : length other ≡ 32768
@@ -45,7 +45,7 @@ whole-list limit is = ap (λ (x : List ℕ). extended limit x []) (sym (around-a
 module _ (s t : List ℕ) (is js : List Item) (l : Lists s is) (k : Lists t js) (old room : List ℕ) (len limit : ℕ) (eo : length old ≡ limit)
     (er : length room ≡ limit)
     (w : seen room len ≡ (seen old 0 >>= extended (length old) (take 6 s))) where
-  pub going-0 : (text other : List ℕ) (e f : Entry) → length text ≡ 32768 → length other ≡ 32768 → Keyed s 6 text e → Keyed t 6 other f
+  pub going-0 : (text other : List ℕ) (e f : Entry) → length text ≡ 32768 → length other ≡ 32768 → Holding s 6 text e → Holding t 6 other f
       → Going s t limit room text other len 6 6 (e .next) (e .len) (f .next) (f .len)
   going-0 text other e f et eh ke kf = record {
     all = is;
@@ -92,7 +92,7 @@ module _ {s t : List ℕ} {limit : ℕ} {room text other : List ℕ} {len i j ne
 
     pub going-less : o ≡ order.Less → seen new to ≡ (seen room len >>= extended (length room) (part s i next)) → (text₁ : List ℕ) (p : Entry)
         → length text₁ ≡ length text
-        → Keyed s next text₁ p → Going s t limit new text₁ other to next j (p .next) (p .len) then m
+        → Holding s next text₁ p → Going s t limit new text₁ other to next j (p .next) (p .len) then m
     going-less c w text₁ p l f =
         let a = take-first h in
         let b = take-second k in
@@ -116,7 +116,7 @@ module _ {s t : List ℕ} {limit : ℕ} {room text other : List ℕ} {len i j ne
         }
 
     pub going-same : o ≡ order.Same → seen new to ≡ (seen room len >>= extended (length room) (part s i next)) → (text₁ other₁ : List ℕ) (p q : Entry)
-        → length text₁ ≡ length text → length other₁ ≡ length other → Keyed s next text₁ p → Keyed t then other₁ q
+        → length text₁ ≡ length text → length other₁ ≡ length other → Holding s next text₁ p → Holding t then other₁ q
         → Going s t limit new text₁ other₁ to next then (p .next) (p .len) (q .next) (q .len)
     going-same c w text₁ other₁ p q l v f u =
         let a = take-first h in
@@ -141,7 +141,7 @@ module _ {s t : List ℕ} {limit : ℕ} {room text other : List ℕ} {len i j ne
 
     pub going-more : o ≡ order.More → seen new to ≡ (seen room len >>= extended (length room) (part t j then)) → (other₁ : List ℕ) (q : Entry)
         → length other₁ ≡ length other
-        → Keyed t then other₁ q → Going s t limit new text other₁ to i then next n (q .next) (q .len)
+        → Holding t then other₁ q → Going s t limit new text other₁ to i then next n (q .next) (q .len)
     going-more c w other₁ q v u =
         let a = take-first h in
         let b = take-second k in

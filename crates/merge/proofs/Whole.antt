@@ -24,10 +24,12 @@ use Rattle.renderer.proofs.Answers.{answer-cleared}
 use Rattle.buffer.specs.Builder.{fit}
 use Rattle.room.specs.Room.{extended, seen}
 use Rattle.room.proofs.Laws.{extended-in, extended-out}
-use Rattle.merge_rules.specs.Merge.{listOf, IsList, merged, inOrder, merging, Merges, both-lists, TheMerge}
+use Rattle.merge_rules.specs.Merge.{listOf, IsList, merged, inOrder, merging, Merges, first-no-list, second-no-list, both-lists, TheMerge}
 use Rattle.merge_rules.proofs.Laws.{two-lists, the-merge}
-use Rattle.merge_sides.specs.Steps.{Asked, Climbs}
-use Rattle.merge_sides.proofs.Texts.{seen-text}
+use Rattle.merge_sides.specs.Steps.{SideIs}
+use Rattle.merge_sides.specs.declared.Side.{Side}
+use Rattle.merge_sides.proofs.Listing.{tells-yes, tells-no}
+use Rattle.merge_items.proofs.Texts.{seen-text}
 use Rattle.merge.specs.Steps.{Written, Accepted, Sound}
 use Rattle.merge.specs.Answers.{Answer}
 
@@ -39,51 +41,53 @@ module _ {s t : List ℕ} {v : Checked} (e : Sound s t v) where
   pub sound-refused : {a : Refusal} → v ≡ checked.Refused a → (room : List ℕ) → TheMerge room s t (refused (refusalNumber a) (refusalPlace a))
   sound-refused f room = the-merge (subst (λ (v : Checked). Sound s t v) f e room)
 
-pub climbs-as : {s : List ℕ} {r b : Bool} → Climbs s r → r ≡ b → Climbs s b
-climbs-as {s} c e = subst (λ (b : Bool). Climbs s b) e c
+-- Two sides that 1 to 8 accept: 22 and 23
 
--- Two sides that 1 to 8 accept and that are lists
+module _ {s t : List ℕ} {a b : Side} (cs : check s ≡ gives []) (ct : check t ≡ gives []) (x : SideIs s a) (y : SideIs t b) where
+  pub first-not : a .list ≡ false → (room : List ℕ) → Merges room s t (refused 22 0)
+  first-not e room = first-no-list cs ct (tells-no (a .list) (x .list) e)
 
-pub accepted : (s t : List ℕ) → check s ≡ gives [] → check t ≡ gives [] → IsList s → IsList t → Accepted s t
-accepted s t c d l k = record {
-  sides = record {
-    is = l .0;
-    js = k .0;
-    first = l .1;
-    second = k .1;
-    short = check-gives s [] c .0;
-    also-short = check-gives t [] d .0;
-  };
-  first = c;
-  second = d;
-}
+  module _ (e : a .list ≡ true) where
+    pub second-not : b .list ≡ false → (room : List ℕ) → Merges room s t (refused 22 0)
+    second-not f room = second-no-list cs ct (tells-yes (a .list) (x .list) e) (tells-no (b .list) (y .list) f)
 
-module _ {s t : List ℕ} (a : Accepted s t) where
-  pub asked-first : Asked s
-  asked-first = record { is = a .sides .is; listed = a .sides .first; short = a .sides .short }
+    module _ (f : b .list ≡ true) where
+      l : IsList s
+      l = tells-yes (a .list) (x .list) e
 
-  pub asked-second : Asked t
-  asked-second = record { is = a .sides .js; listed = a .sides .second; short = a .sides .also-short }
+      k : IsList t
+      k = tells-yes (b .list) (y .list) f
 
-  merges : (room : List ℕ) → Merges room s t (merging room (a .sides .is) (a .sides .js))
-  merges room = both-lists (a .first) (a .second) (a .sides .first) (a .sides .second)
+      pub first-down : a .ordered ≡ false → (room : List ℕ) → Merges room s t (refused 23 0)
+      unfolding merging inOrder _>>=_ if_then_else_
+      first-down u room =
+          subst (λ (r : Result (List ℕ)). Merges room s t r) (rw (sym (x .ordered (l .0) (l .1)) ∙ u)) (both-lists cs ct (l .1) (k .1))
 
-  pub not-first : (room : List ℕ) → Climbs s false → TheMerge room s t (refused 23 0)
-  unfolding merging inOrder _>>=_ if_then_else_
-  not-first room n =
-      the-merge (subst (λ (r : Result (List ℕ)). Merges room s t r) (rw (← n .says (a .sides .is) (a .sides .first))) (merges room))
+      module _ (u : a .ordered ≡ true) where
+        pub second-down : b .ordered ≡ false → (room : List ℕ) → Merges room s t (refused 23 0)
+        unfolding merging inOrder _>>=_ if_then_else_
+        second-down v room =
+            subst (λ (r : Result (List ℕ)). Merges room s t r) (rw (sym (x .ordered (l .0) (l .1)) ∙ u, sym (y .ordered (k .0) (k .1)) ∙ v))
+            (both-lists cs ct (l .1) (k .1))
 
-  module _ (up : Climbs s true) where
-    pub not-second : (room : List ℕ) → Climbs t false → TheMerge room s t (refused 23 0)
-    unfolding merging inOrder _>>=_ if_then_else_
-    not-second room n =
-        the-merge (subst (λ (r : Result (List ℕ)). Merges room s t r)
-        (rw (← up .says (a .sides .is) (a .sides .first), ← n .says (a .sides .js) (a .sides .second))) (merges room))
+        pub accepted : b .ordered ≡ true → Accepted s t
+        accepted v = record {
+          sides = record {
+            is = l .0;
+            js = k .0;
+            first = l .1;
+            second = k .1;
+            short = check-gives s [] cs .0;
+            also-short = check-gives t [] ct .0;
+          };
+          first = cs;
+          second = ct;
+          first-up = sym (x .ordered (l .0) (l .1)) ∙ u;
+          second-up = sym (y .ordered (k .0) (k .1)) ∙ v;
+        }
 
-    pub both-up : (room : List ℕ) → Climbs t true → TheMerge room s t (fit room (listOf (merged (a .sides .is) (a .sides .js))))
-    both-up room n =
-        the-merge (two-lists {room = room} (a .first) (a .second) (a .sides .first) (a .sides .second)
-        (sym (up .says (a .sides .is) (a .sides .first))) (sym (n .says (a .sides .js) (a .sides .second))))
+both-up : {s t : List ℕ} (a : Accepted s t) (room : List ℕ) → TheMerge room s t (fit room (listOf (merged (a .sides .is) (a .sides .js))))
+both-up a room = the-merge (two-lists {room = room} (a .first) (a .second) (a .sides .first) (a .sides .second) (a .first-up) (a .second-up))
 
 -- '13 for the result, also when it exceeds 32,768 bytes': by the length that was written
 
@@ -119,15 +123,15 @@ module _ (room x : List ℕ) where
         (le-or-lt (length x) (length room))
 
 -- the answer, after the list was written
-module _ {room s t : List ℕ} (a : Accepted s t) (up : Climbs s true) (also : Climbs t true) (new : List ℕ) (len : ℕ) (w : Written s t room new len) where
+module _ {room s t : List ℕ} (a : Accepted s t) (new : List ℕ) (len : ℕ) (w : Written s t room new len) where
   here : seen new len ≡ extended (length room) (listOf (merged (a .sides .is) (a .sides .js))) []
   here = w .writes (a .sides .is) (a .sides .js) (a .sides .first) (a .sides .second)
 
   pub too-long : 32768 < len → TheMerge room s t (refused 13 0)
-  too-long h = subst (λ (r : Result (List ℕ)). TheMerge room s t r) (long-refused room _ new len here h) (both-up a up room also)
+  too-long h = subst (λ (r : Result (List ℕ)). TheMerge room s t r) (long-refused room _ new len here h) (both-up a room)
 
   pub fits-there : (r : Result (List ℕ)) → len ≤ 32768 → r ≡ seen new len → TheMerge room s t r
-  fits-there r h e = subst (λ (r : Result (List ℕ)). TheMerge room s t r) (sym (e ∙ short-seen room _ new len here h)) (both-up a up room also)
+  fits-there r h e = subst (λ (r : Result (List ℕ)). TheMerge room s t r) (sym (e ∙ short-seen room _ new len here h)) (both-up a room)
 
 -- the answer lies in a room of the same length
 pub stays-inside : (a : Rendered) (m n : ℕ) → m ≡ n → Inside m a → Inside n a

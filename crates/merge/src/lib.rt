@@ -1,13 +1,10 @@
 // One option list from two products.
 use document::Checked;
 use merge_rules::Order;
-use merge_sides::read_item;
 use refusal::Refusal;
 use renderer::Rendered;
 ghost use mathlib.Core.Path.{_≡_};
-ghost use Prim.Native.Nat.{_≤_};
 ghost use lib.ListN.{length};
-ghost use Rattle.base.specs.Result.{refused, gives};
 ghost use Rattle.renderer.specs.Rendered.{standing, Inside};
 ghost use Rattle.merge_rules.specs.Merge.{TheMerge};
 ghost use Rattle.merge.specs.Answers.{Answer};
@@ -30,40 +27,40 @@ fn merge_lists(
     let mut len = room::put_all(room, 0, &first[..6]);
     let mut i: usize = 6;
     let mut j: usize = 6;
-    let e = read_item(first, i, key);
+    let e = merge_items::read_item(first, i, key);
     let mut next = e.next;
     let mut n = e.len;
-    let f = read_item(second, j, other);
+    let f = merge_items::read_item(second, j, other);
     let mut then = f.next;
     let mut m = f.len;
     while i < last {
         if close <= j {
             return room::put_all(room, len, &first[i..]);
         }
-        let order = merge_sides::compare(&key[..n], &other[..m]);
+        let order = merge_items::compare(&key[..n], &other[..m]);
         match order {
             Order::Less => {
                 len = room::put_all(room, len, &first[i..next]);
                 i = next;
-                let e = read_item(first, i, key);
+                let e = merge_items::read_item(first, i, key);
                 next = e.next;
                 n = e.len;
             }
             Order::Same => {
-                len = room::put_all(room, len, &first[i..next]);
+                len = room::put_all(room, len, &first[i..next]); // the first side's item
                 i = next;
                 j = then;
-                let e = read_item(first, i, key);
+                let e = merge_items::read_item(first, i, key);
                 next = e.next;
                 n = e.len;
-                let f = read_item(second, j, other);
+                let f = merge_items::read_item(second, j, other);
                 then = f.next;
                 m = f.len;
             }
             Order::More => {
                 len = room::put_all(room, len, &second[j..then]);
                 j = then;
-                let f = read_item(second, j, other);
+                let f = merge_items::read_item(second, j, other);
                 then = f.next;
                 m = f.len;
             }
@@ -72,7 +69,7 @@ fn merge_lists(
     room::put_all(room, len, &second[j..])
 }
 
-// Refusals 1 to 8 of both sides, first side first, then 22 likewise.
+// Refusals 1 to 8 of both sides, first side first, then 22 and 23 likewise.
 fn refused_sides(first: &[u8], second: &[u8]) -> Checked
     ensures { λ r. ⌜ Sound (now (first .entry)) (now (second .entry)) r ⌝ }
 {
@@ -84,11 +81,19 @@ fn refused_sides(first: &[u8], second: &[u8]) -> Checked
             match verdict2 {
                 Checked::Refused(r) => Checked::Refused(r),
                 Checked::Accepted => {
-                    if !merge_sides::is_list(first) {
-                        return Checked::Refused(Refusal::NotAList);
+                    let a = merge_sides::side_of(first);
+                    let b = merge_sides::side_of(second);
+                    if !a.list {
+                        return Checked::Refused(Refusal::NotAList); // of the first side
                     }
-                    if !merge_sides::is_list(second) {
-                        return Checked::Refused(Refusal::NotAList);
+                    if !b.list {
+                        return Checked::Refused(Refusal::NotAList); // of the second side
+                    }
+                    if !a.ordered {
+                        return Checked::Refused(Refusal::NotAscending); // of the first side
+                    }
+                    if !b.ordered {
+                        return Checked::Refused(Refusal::NotAscending); // of the second side
                     }
                     Checked::Accepted
                 }
@@ -108,12 +113,6 @@ fn merged(first: &[u8], second: &[u8], room: &mut [u8]) -> Rendered
         Checked::Accepted => {
             let mut key: [u8; 32768] = [0; 32768];
             let mut other: [u8; 32768] = [0; 32768];
-            if !merge_sides::in_order(first, &mut key, &mut other) {
-                return Rendered::Refused(Refusal::NotAscending);
-            }
-            if !merge_sides::in_order(second, &mut key, &mut other) {
-                return Rendered::Refused(Refusal::NotAscending);
-            }
             let len = merge_lists(first, second, room, &mut key, &mut other);
             if 32768 < len {
                 return Rendered::Refused(Refusal::NoRoom);

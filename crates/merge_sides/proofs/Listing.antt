@@ -16,9 +16,10 @@ use Rattle.shape.specs.Shape.{parts, inlines}
 use Rattle.merge_rules.specs.Merge.{Item, records, allRecords, listOf, Filled, Lists, IsList}
 use Rattle.merge_rules.specs.Merge as merge
 use Rattle.merge_rules.proofs.Whole.{around-alone, around-then}
-use Rattle.merge_sides.specs.Steps.{Found, Stands, Tells}
-use Rattle.merge_sides.specs.declared.Place.{Place}
-use Rattle.merge_sides.proofs.Items.{length-records}
+use Rattle.merge_items.specs.Steps.{Found}
+use Rattle.merge_sides.specs.Steps.{Stands, Tells, Climbs, SideIs}
+use Rattle.merge_items.specs.declared.Place.{Place}
+use Rattle.merge_items.proofs.Items.{length-records}
 use Rattle.merge_sides.proofs.Sides.{Rest, rest-0, list-length, starts-list, Taken, taken, no-more}
 
 -- an answer and its fact
@@ -200,9 +201,9 @@ listing-0 s h e = record {
 }
 
 module _ {s : List ℕ} {at : ℕ} (g : Listing s at) where
-  module _ (p : Place) (f : Found s at p) (h : at < length s - 6) where
+  module _ (short : length s ≤ 32768) (p : Place) (f : Found s at p) (h : at < length s - 6) where
     next-taken : (l : IsList s) → Taken s at (p .next) (g .no (l .0) (l .1) .0)
-    next-taken l = taken s at (p .next) _ (g .no (l .0) (l .1) .1) (λ i w q e. f .item i w q e .1) h
+    next-taken l = taken s at (p .next) _ (g .no (l .0) (l .1) .1) (λ i w q e. f .item short i w q e .1) h
 
     pub past-not : length s - 6 < p .next → IsList s → ⊥
     past-not k l = let t = next-taken l in omega (arith, t .inside)
@@ -210,7 +211,7 @@ module _ {s : List ℕ} {at : ℕ} (g : Listing s at) where
     pub stands-not : (Stands s at (p .stop) (p .next) → ⊥) → IsList s → ⊥
     stands-not n l =
         let t = next-taken l in
-        let e = f .item (t .item) _ (t .proper) (t .here) in
+        let e = f .item short (t .item) _ (t .proper) (t .here) in
         n (record {
           item = t .item;
           proper = t .proper;
@@ -258,3 +259,10 @@ module _ {s : List ℕ} {at : ℕ} (g : Listing s at) where
     pub listing-end : (r : Bool) → r ≡ startsWith listEnd (drop (length s - 6) s) → Tells (IsList s) r
     listing-end true e = end-yes (sym e)
     listing-end false e = end-not (sym e)
+
+-- what a document is as a side
+pub side-no : (s : List ℕ) → (IsList s → ⊥) → SideIs s (record { list = false; ordered = false })
+side-no s n = record { list = n; ordered = λ is l. absurd (n (is, l)) }
+
+pub side-list : (s : List ℕ) (b : Bool) → IsList s → Climbs s b → SideIs s (record { list = true; ordered = b })
+side-list s b l c = record { list = l; ordered = c .says }

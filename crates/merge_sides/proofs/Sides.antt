@@ -18,10 +18,10 @@ use Rattle.merge_rules.specs.declared.Order.{Order}
 use Rattle.merge_rules.proofs.Whole.{around-alone}
 use Rattle.merge_rules.proofs.Merged.{head-of, tail-of}
 use Rattle.merge_rules.proofs.Ends.{one-list}
-use Rattle.merge_sides.specs.Steps.{Keyed, Climbs}
-use Rattle.merge_sides.specs.declared.Entry.{Entry}
-use Rattle.merge_sides.proofs.Texts.{seen-text, from-nothing}
-use Rattle.merge_sides.proofs.Items.{length-records}
+use Rattle.merge_sides.specs.Steps.{Climbs}
+use Rattle.merge_items.specs.declared.Entry.{Entry}
+use Rattle.merge_items.proofs.Texts.{seen-text, from-nothing}
+use Rattle.merge_items.proofs.Items.{length-records, Holding}
 
 -- From a place on a side has these items, and then the list's end record.
 pub record Rest (s : List ℕ) (at : ℕ) (is : List Item) : Type 0 where
@@ -103,7 +103,7 @@ no-more s at [] r h = refl
 no-more s at (i ∷ is) r h = absurd (omega (arith, rest-length s at (i ∷ is) r, length-append (records i) (allRecords is), length-records i))
 
 -- the same by what was read there
-module _ {s : List ℕ} {at next len : ℕ} {text : List ℕ} {is : List Item} (k : Keyed s at text (record { next = next; len = len })) where
+module _ {s : List ℕ} {at next len : ℕ} {text : List ℕ} {is : List Item} (k : Holding s at text (record { next = next; len = len })) where
   pub taken-keyed : Rest s at is → at < length s - 6 → Taken s at next is
   taken-keyed r h = taken s at next is r (λ i w p e. k .item i w p e .0) h
 
@@ -115,8 +115,8 @@ module _ {s : List ℕ} {at next len : ℕ} {text : List ℕ} {is : List Item} (
     keyed-text = seen-text text len (key (t .item)) (k .item (t .item) _ (t .proper) (t .here) .1) .1
 
 -- a term's text copied into another key
-pub keyed-copied : (s : List ℕ) (at : ℕ) (other text new : List ℕ) (f : Entry) (n : ℕ) → Keyed s at other f → length other ≤ length text
-    → seen new n ≡ (seen text 0 >>= extended (length text) (take (f .len) other)) → Keyed s at new (record { next = f .next; len = n })
+pub keyed-copied : (s : List ℕ) (at : ℕ) (other text new : List ℕ) (f : Entry) (n : ℕ) → Holding s at other f → length other ≤ length text
+    → seen new n ≡ (seen text 0 >>= extended (length text) (take (f .len) other)) → Holding s at new (record { next = f .next; len = n })
 keyed-copied s at other text new f n k l w = record {
   item = λ i v p e.
       let g = k .item i v p e in
@@ -135,10 +135,10 @@ pub record Climbing (s text : List ℕ) (at next len : ℕ) : Type 0 where
   pub listed : Lists s all
   pub is : List Item
   pub rest : Rest s at is
-  pub keyed : Keyed s at text (record { next = next; len = len })
+  pub keyed : Holding s at text (record { next = next; len = len })
   pub same : ascending is ≡ ascending all
 
-pub climbing-0 : (s : List ℕ) (is : List Item) (text : List ℕ) (e : Entry) → Lists s is → Keyed s 6 text e → Climbing s text 6 (e .next) (e .len)
+pub climbing-0 : (s : List ℕ) (is : List Item) (text : List ℕ) (e : Entry) → Lists s is → Holding s 6 text e → Climbing s text 6 (e .next) (e .len)
 climbing-0 s is text e l f = record { all = is; listed = l; is = is; rest = rest-0 s is l; keyed = f; same = refl }
 
 climbs : {s : List ℕ} {all : List Item} {r : Bool} → Lists s all → r ≡ ascending all → Climbs s r
@@ -158,7 +158,7 @@ module _ {s text : List ℕ} {at next len : ℕ} (c : Climbing s text at next le
       let t = climbing-taken h in
       climbs (c .listed) (sym (ap ascending (t .split ∙ ap (λ (l : List Item). t .item ∷ l) (no-more s next (t .others) (t .after) k))) ∙ c .same)
 
-  module _ (other : List ℕ) (f : Entry) (h : at < length s - 6) (k : next < length s - 6) (g : Keyed s next other f) where
+  module _ (other : List ℕ) (f : Entry) (h : at < length s - 6) (k : next < length s - 6) (g : Holding s next other f) where
     pub climbing-second : Taken s next (f .next) (climbing-taken h .others)
     climbing-second = taken-keyed g (climbing-taken h .after) k
 

@@ -1,144 +1,20 @@
-// A side of the merge: whether it is a list, its items and their terms, and whether the terms ascend.
+// A side of the merge: whether it is a list, and whether its terms ascend.
 use merge_rules::Order;
 use records::Block;
 use records::Kind;
-use records::index_of;
-use records::record_at;
 use shape::Shape;
-use shape::house_shape;
 ghost use mathlib.Core.Path.{_≡_};
-ghost use mathlib.Core.List.{[]};
-ghost use Prim.Native.Nat.{_<_, _≤_};
+ghost use Prim.Native.Nat.{_≤_};
 ghost use lib.ListN.{length};
 ghost use Rattle.records.specs.Records.{tokensFrom};
-ghost use Rattle.room.specs.Room.{seen, extended};
 ghost use Rattle.shape.specs.Shape.{parts, inlines, inline, kinds};
-ghost use Rattle.merge_rules.specs.Merge.{compared, isLess, Filled, IsList};
-ghost use Rattle.merge_rules.specs.Ends.{deeper, endOf};
-ghost use Rattle.merge_sides.specs.Steps.{deepAs, textTo, Found, Keyed, Stands, Asked, Climbs, Tells, plain, allPlain};
+ghost use Rattle.merge_rules.specs.Merge.{isLess, Filled, IsList};
+ghost use Rattle.merge_sides.specs.Steps.{Stands, Asked, Climbs, Tells, SideIs, plain, allPlain};
 
-// How many blocks are open in a block, or that it ends.
-enum Deep {
-    Open(usize),
-    Ends,
-}
-
-// Of an item: where its term's end record stands, and where the item ends.
-struct Place {
-    stop: usize,
-    next: usize,
-}
-
-// Of an item: where it ends, and the length of its term's text, which stands in a lent key.
-pub struct Entry {
-    pub next: usize,
-    pub len: usize,
-}
-
-// The blocks open in a block after a record.
-fn open_after(kind: Kind, depth: usize) -> Deep
-    requires { ⌜ depth < 32768 ⌝ }
-    ensures { λ r. ⌜ deepAs r ≡ deeper kind depth ⌝ }
-{
-    match kind {
-        Kind::Text(_) => Deep::Open(depth),
-        Kind::Start(_) => Deep::Open(depth + 1),
-        Kind::End(_) => {
-            if depth < 1 {
-                return Deep::Ends;
-            }
-            Deep::Open(depth - 1)
-        }
-        Kind::Unknown => Deep::Open(depth),
-    }
-}
-
-// Where the block ends whose content stands from a place on.
-fn end_of(document: &[u8], from: usize) -> usize
-    requires { ⌜ length (now document) ≤ 32768 ⌝ }
-    ensures { λ r. ⌜ (r ≡ endOf (tokensFrom (now (document .entry)) from) 0) × (r ≤ length (now (document .entry))) ⌝ }
-{
-    let mut at = from;
-    let mut depth: usize = 0;
-    while at < document.len() {
-        let h = record_at(document, at);
-        let kind = h.kind;
-        let deep = open_after(kind, depth);
-        match deep {
-            Deep::Open(d) => {
-                depth = d;
-                at = h.next;
-            }
-            Deep::Ends => {
-                return at;
-            }
-        }
-    }
-    0
-}
-
-// The item at a place, if one stands there.
-fn item_at(document: &[u8], at: usize) -> Place
-    requires { ⌜ (length (now document) ≤ 32768) × (at ≤ length (now document)) ⌝ }
-    ensures { λ r. ⌜ Found (now (document .entry)) at r ⌝ }
-{
-    let stop = end_of(document, at + 6);
-    let last = end_of(document, stop + 12);
-    Place {
-        stop,
-        next: last + 6,
-    }
-}
-
-// The text of the records from a place on up to another, joined in a lent key.
-fn key_of(document: &[u8], from: usize, stop: usize, key: &mut [u8]) -> usize
-    requires { ⌜ stop ≤ length (now document) ⌝ }
-    ensures { λ r. ⌜ seen (now (key .exit)) r ≡ extended (length (now (key .entry))) (textTo stop (tokensFrom (now (document .entry)) from)) [] ⌝ }
-{
-    let mut at = from;
-    let mut len: usize = 0;
-    while at < stop {
-        let h = record_at(document, at);
-        let start = h.start;
-        let to = h.stop;
-        len = room::put_all(key, len, &document[start..to]);
-        at = h.next;
-    }
-    len
-}
-
-// The item at a place, if one stands there, with its term's text joined in a lent key. A term is joined once, so that no step of the merge
-// goes over its records again.
-pub fn read_item(document: &[u8], at: usize, key: &mut [u8]) -> Entry
-    requires { ⌜ (length (now document) ≤ 32768) × (at ≤ length (now document)) × (length (now key) ≡ 32768) ⌝ }
-    ensures { λ r. ⌜ Keyed (now (document .entry)) at (now (key .exit)) r ⌝ }
-{
-    let p = item_at(document, at);
-    let len = key_of(document, at + 6, p.stop, key);
-    Entry { next: p.next, len }
-}
-
-// One text beside another, by their bytes.
-pub fn compare(a: &[u8], b: &[u8]) -> Order
-    ensures { λ r. ⌜ r ≡ compared (now (a .entry)) (now (b .entry)) ⌝ }
-{
-    let mut i: usize = 0;
-    while i < a.len() {
-        if b.len() <= i {
-            return Order::More;
-        }
-        if a[i] < b[i] {
-            return Order::Less;
-        }
-        if b[i] < a[i] {
-            return Order::More;
-        }
-        i += 1;
-    }
-    if i < b.len() {
-        return Order::Less;
-    }
-    Order::Same
+// A document as a side: whether it is a list of items, whatever their order, and whether their terms ascend.
+pub struct Side {
+    pub list: bool,
+    pub ordered: bool,
 }
 
 fn is_less(o: Order) -> bool
@@ -152,22 +28,22 @@ fn is_less(o: Order) -> bool
 }
 
 // Whether the terms of a list ascend. `key` has the term of the item at `at`, `other` that of the next one.
-pub fn in_order(document: &[u8], key: &mut [u8], other: &mut [u8]) -> bool
+fn in_order(document: &[u8], key: &mut [u8], other: &mut [u8]) -> bool
     requires { ⌜ Asked (now document) × (length (now key) ≡ 32768) × (length (now other) ≡ 32768) ⌝ }
     ensures { λ r. ⌜ Climbs (now (document .entry)) r ⌝ }
 {
     let last = document.len() - 6;
     let mut at: usize = 6;
-    let e = read_item(document, at, key);
+    let e = merge_items::read_item(document, at, key);
     let mut next = e.next;
     let mut len = e.len;
     while at < last {
         if last <= next {
             return true;
         }
-        let f = read_item(document, next, other);
+        let f = merge_items::read_item(document, next, other);
         let second = f.len;
-        let order = compare(&key[..len], &other[..second]);
+        let order = merge_items::compare(&key[..len], &other[..second]);
         if !is_less(order) {
             return false;
         }
@@ -181,7 +57,7 @@ pub fn in_order(document: &[u8], key: &mut [u8], other: &mut [u8]) -> bool
 fn is_inline(b: Block) -> bool
     ensures { λ r. ⌜ r ≡ inline b ⌝ }
 {
-    let i = index_of(b);
+    let i = records::index_of(b);
     if i == 9 {
         return true;
     }
@@ -208,7 +84,7 @@ fn all_plain(content: &[u8]) -> bool
 {
     let mut at: usize = 0;
     while at < content.len() {
-        let h = record_at(content, at);
+        let h = records::record_at(content, at);
         let kind = h.kind;
         if !is_plain(kind) {
             return false;
@@ -223,7 +99,7 @@ fn fills_body(content: &[u8]) -> bool
     requires { ⌜ length (now content) ≤ 32768 ⌝ }
     ensures { λ r. ⌜ Tells (Filled parts (now (content .entry))) r ⌝ }
 {
-    let shape = house_shape(content);
+    let shape = shape::house_shape(content);
     match shape {
         Shape::Shaped => true,
         Shape::Unshaped(_) => false,
@@ -269,7 +145,7 @@ fn stands(document: &[u8], at: usize, stop: usize, next: usize) -> bool
 }
 
 // Whether a document is one list of items, whatever their order.
-pub fn is_list(document: &[u8]) -> bool
+fn is_list(document: &[u8]) -> bool
     requires { ⌜ length (now document) ≤ 32768 ⌝ }
     ensures { λ r. ⌜ Tells (IsList (now (document .entry))) r ⌝ }
 {
@@ -282,7 +158,7 @@ pub fn is_list(document: &[u8]) -> bool
     let last = document.len() - 6;
     let mut at: usize = 6;
     while at < last {
-        let p = item_at(document, at);
+        let p = merge_items::item_at(document, at);
         if last < p.next {
             return false;
         }
@@ -292,4 +168,29 @@ pub fn is_list(document: &[u8]) -> bool
         at = p.next;
     }
     base::starts_with(document, last, b"\0\0\0\0\x06\x02")
+}
+
+// What a document is as a side. Nothing is said of more bytes than a document has.
+pub fn side_of(document: &[u8]) -> Side
+    ensures { λ r. ⌜ (length (now (document .entry)) ≤ 32768 → SideIs (now (document .entry)) r) ⌝ }
+{
+    if 32768 < document.len() {
+        return Side {
+            list: false,
+            ordered: false,
+        };
+    }
+    if !is_list(document) {
+        return Side {
+            list: false,
+            ordered: false,
+        };
+    }
+    let mut key: [u8; 32768] = [0; 32768];
+    let mut other: [u8; 32768] = [0; 32768];
+    let ordered = in_order(document, &mut key, &mut other);
+    Side {
+        list: true,
+        ordered,
+    }
 }

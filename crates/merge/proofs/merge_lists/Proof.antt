@@ -10,6 +10,7 @@ use lib.Seq.{length-take-le}
 use native.Mathlib.Nat.{le-refl}
 use Rattle.base.proofs.Parts.{part-over}
 use Rattle.merge_sides.proofs.Sides.{list-length, keyed-inside}
+use Rattle.merge_items.proofs.Items.{holding}
 use Rattle.merge.proofs.Merging.{Going, going-0, take-first, take-second, going-less, going-same, going-more, ended-first, ended-second}
 
 -- What stands in the room, with what is left of both sides merged, is the whole merged list; each key has the term of its side's next item.
@@ -33,19 +34,6 @@ slice-aggregate-put-all c =
     let h : 6 ≤ length (c .before .before .before .before .before .before .before .args .first .now) = omega (arith, list-length _ _ (p .first)) in
     sym (length-take-le 6 (c .before .before .before .before .before .before .before .args .first .now) h)
 
-read-item-requires : tie.Need-read-item-requires Inv-loop μ-loop
-read-item-requires c κs =
-    let p = c .before .before .before .before .before .before .before .before .before .before .before .pre .0 in
-    (p .short, omega (arith, list-length _ _ (p .first)), c .before .before .before .before .before .before .before .before .before .before .before .pre .1)
-
-read-item-requires-2 : tie.Need-read-item-requires-2 Inv-loop μ-loop
-read-item-requires-2 c κs =
-    let p = c .before .before .before .before .before .before .before .before .before .before .before .before .before .before .before .pre .0 in (
-      p .also-short,
-      omega (arith, list-length _ _ (p .second)),
-      c .before .before .before .before .before .before .before .before .before .before .before .before .before .before .before .pre .2,
-    )
-
 loop-holds : tie.Need-loop-holds Inv-loop μ-loop
 loop-holds c =
     let p = c .before .before .before .before .before .before .before .before .before .before .before .before .before .before .before .before .before
@@ -57,7 +45,14 @@ loop-holds c =
     ∙ c .before .before .before .before .before .before .before .before .before .before .before .before .before .before .before .before .before
     .before .pre .1) (c .before .before .read-item2 .kept .1 .1 .0
     ∙ c .before .before .before .before .before .before .before .before .before .before .before .before .before .before .before .before .before
-    .before .pre .2) (c .before .before .before .before .before .before .read-item .ensures) (c .before .before .read-item2 .ensures)
+    .before .pre .2) (holding (p .short)
+    (c .before .before .before .before .before .before .read-item .kept .1 .1 .0
+    ∙ c .before .before .before .before .before .before .before .before .before .before .before .before .before .before .before .before .before
+    .before .pre .1) (c .before .before .before .before .before .before .read-item .ensures))
+    (holding (p .also-short)
+    (c .before .before .read-item2 .kept .1 .1 .0
+    ∙ c .before .before .before .before .before .before .before .before .before .before .before .before .before .before .before .before .before
+    .before .pre .2) (c .before .before .read-item2 .ensures))
 
 sub-put-all : tie.Need-sub-put-all Inv-loop μ-loop
 sub-put-all c = c .before .before .before .loop .inv .first .inside
@@ -123,17 +118,6 @@ part-put-all-end-2 c =
     let t = take-first (c .before .before .before .before .before .before .before .before .loop .inv)
     (c .before .before .before .before .before .before .before .loop-test .taken) in omega (arith, t .inside, t .on)
 
-read-item-requires-3 : tie.Need-read-item-requires-3 Inv-loop μ-loop
-read-item-requires-3 c κs =
-    let t = take-first (c .before .before .before .before .before .before .before .before .before .before .before .before .before .loop .inv)
-    (c .before .before .before .before .before .before .before .before .before .before .before .before .loop-test .taken) in (
-      c .before .before .before .before .before .before .before .before .before .before .before .before .before .before .before .before .before .before
-          .before .before .before .before .before .before .before .before .before .before .before .before .before .before .pre .0 .short,
-      omega
-          (arith, t .inside),
-      c .before .before .before .before .before .before .before .before .before .before .before .before .before .loop .inv .key-size,
-    )
-
 loop-less : tie.Need-loop-less Inv-loop μ-loop
 loop-less c = let t =
     take-first (c .before .before .before .before .before .before .before .before .before .before .before .before .before .before .before .before .loop .inv)
@@ -149,7 +133,12 @@ loop-again c =
     (c .before .before .before .before .before .before .before .before .before .before .before .compare .ensures)
     (c .before .before .before .before .before .before .before .before .before .enum-told .given .1)
     (c .before .before .before .before .before .before .put-all3 .ensures) _ _ (c .before .before .read-item3 .kept .1 .1 .0)
-    (c .before .before .read-item3 .ensures)
+    (holding (c .before .before .before .before .before .before .before .before .before .before .before .before .before .before .before .before .before
+    .before .before .before .before .before .before .before .before .before .before .before .before .before .before .before .before .before
+    .before .pre .0 .short)
+    (c .before .before .read-item3 .kept .1 .1 .0
+    ∙ c .before .before .before .before .before .before .before .before .before .before .before .before .before .before .before
+    .before .loop .inv .key-size) (c .before .before .read-item3 .ensures))
 
 sub-put-all-3 : tie.Need-sub-put-all-3 Inv-loop μ-loop
 sub-put-all-3 c = let t =
@@ -165,30 +154,6 @@ part-put-all-end-3 : tie.Need-part-put-all-end-3 Inv-loop μ-loop
 part-put-all-end-3 c =
     let t = take-first (c .before .before .before .before .before .before .before .before .loop .inv)
     (c .before .before .before .before .before .before .before .loop-test .taken) in omega (arith, t .inside, t .on)
-
-read-item-requires-4 : tie.Need-read-item-requires-4 Inv-loop μ-loop
-read-item-requires-4 c κs =
-    let t = take-first (c .before .before .before .before .before .before .before .before .before .before .before .before .before .loop .inv)
-    (c .before .before .before .before .before .before .before .before .before .before .before .before .loop-test .taken) in (
-      c .before .before .before .before .before .before .before .before .before .before .before .before .before .before .before .before .before .before
-          .before .before .before .before .before .before .before .before .before .before .before .before .before .before .pre .0 .short,
-      omega
-          (arith, t .inside),
-      c .before .before .before .before .before .before .before .before .before .before .before .before .before .loop .inv .key-size,
-    )
-
-read-item-requires-5 : tie.Need-read-item-requires-5 Inv-loop μ-loop
-read-item-requires-5 c κs =
-    let u = take-second (c .before .before .before .before .before .before .before .before .before .before .before .before .before .before .before .before
-    .before .loop .inv) (omega
-    (arith, c .before .before .before .before .before .before .before .before .before .before .before .before .before .before .before .if1 .left)) in (
-      c .before .before .before .before .before .before .before .before .before .before .before .before .before .before .before .before .before .before
-          .before .before .before .before .before .before .before .before .before .before .before .before .before .before .before .before .before
-          .before .pre .0 .also-short,
-      omega (arith, u .inside),
-      c .before .before .before .before .before .before .before .before .before .before .before .before .before .before .before .before
-          .before .loop .inv .other-size,
-    )
 
 loop-less-2 : tie.Need-loop-less-2 Inv-loop μ-loop
 loop-less-2 c =
@@ -220,7 +185,18 @@ loop-again-2 c =
     (c .before .before .before .before .before .before .before .before .before .before .before .before .before .enum-told2 .given .1)
     (c .before .before .before .before .before .before .before .before .before .before .put-all4 .ensures) _ _ _ _
     (c .before .before .before .before .before .before .read-item4 .kept .1 .1 .0) (c .before .before .read-item5 .kept .1 .1 .0)
-    (c .before .before .before .before .before .before .read-item4 .ensures) (c .before .before .read-item5 .ensures)
+    (holding (c .before .before .before .before .before .before .before .before .before .before .before .before .before .before .before .before .before
+    .before .before .before .before .before .before .before .before .before .before .before .before .before .before .before .before .before .before
+    .before .before .before .before .pre .0 .short)
+    (c .before .before .before .before .before .before .read-item4 .kept .1 .1 .0
+    ∙ c .before .before .before .before .before .before .before .before .before .before .before .before .before .before .before .before .before .before
+    .before .before .loop .inv .key-size) (c .before .before .before .before .before .before .read-item4 .ensures))
+    (holding (c .before .before .before .before .before .before .before .before .before .before .before .before .before .before .before .before .before
+    .before .before .before .before .before .before .before .before .before .before .before .before .before .before .before .before .before .before
+    .before .before .before .before .pre .0 .also-short)
+    (c .before .before .read-item5 .kept .1 .1 .0
+    ∙ c .before .before .before .before .before .before .before .before .before .before .before .before .before .before .before .before .before .before
+    .before .before .loop .inv .other-size) (c .before .before .read-item5 .ensures))
 
 sub-put-all-4 : tie.Need-sub-put-all-4 Inv-loop μ-loop
 sub-put-all-4 c = let u =
@@ -237,17 +213,6 @@ part-put-all-end-4 c =
     let u = take-second (c .before .before .before .before .before .before .before .before .loop .inv)
     (omega (arith, c .before .before .before .before .before .before .if1 .left)) in omega (arith, u .inside, u .on)
 
-read-item-requires-6 : tie.Need-read-item-requires-6 Inv-loop μ-loop
-read-item-requires-6 c κs =
-    let u = take-second (c .before .before .before .before .before .before .before .before .before .before .before .before .before .loop .inv)
-    (omega (arith, c .before .before .before .before .before .before .before .before .before .before .before .if1 .left)) in (
-      c .before .before .before .before .before .before .before .before .before .before .before .before .before .before .before .before .before .before
-          .before .before .before .before .before .before .before .before .before .before .before .before .before .before .pre .0 .also-short,
-      omega
-          (arith, u .inside),
-      c .before .before .before .before .before .before .before .before .before .before .before .before .before .loop .inv .other-size,
-    )
-
 loop-less-3 : tie.Need-loop-less-3 Inv-loop μ-loop
 loop-less-3 c = let u =
     take-second (c .before .before .before .before .before .before .before .before .before .before .before .before .before .before .before .before .loop .inv)
@@ -263,7 +228,12 @@ loop-again-3 c =
     (c .before .before .before .before .before .before .before .before .before .before .before .compare .ensures)
     (c .before .before .before .before .before .before .before .before .before .enum-told3 .given .1)
     (c .before .before .before .before .before .before .put-all5 .ensures) _ _ (c .before .before .read-item6 .kept .1 .1 .0)
-    (c .before .before .read-item6 .ensures)
+    (holding (c .before .before .before .before .before .before .before .before .before .before .before .before .before .before .before .before .before
+    .before .before .before .before .before .before .before .before .before .before .before .before .before .before .before .before .before
+    .before .pre .0 .also-short)
+    (c .before .before .read-item6 .kept .1 .1 .0
+    ∙ c .before .before .before .before .before .before .before .before .before .before .before .before .before .before .before
+    .before .loop .inv .other-size) (c .before .before .read-item6 .ensures))
 
 sub-put-all-5 : tie.Need-sub-put-all-5 Inv-loop μ-loop
 sub-put-all-5 c = c .before .before .loop .inv .second .inside
@@ -308,8 +278,8 @@ merge-lists-spec =
     sub-close
     slice-aggregate-put-all
     (λ c κs. search needs)
-    read-item-requires
-    read-item-requires-2
+    (λ c κs. search needs)
+    (λ c κs. search needs)
     loop-holds
     sub-put-all
     part-put-all-start
@@ -329,7 +299,7 @@ merge-lists-spec =
     part-put-all-start-2
     part-put-all-end-2
     (λ c κs. search needs)
-    read-item-requires-3
+    (λ c κs. search needs)
     loop-less
     loop-again
     (λ c. search needs)
@@ -337,8 +307,8 @@ merge-lists-spec =
     part-put-all-start-3
     part-put-all-end-3
     (λ c κs. search needs)
-    read-item-requires-4
-    read-item-requires-5
+    (λ c κs. search needs)
+    (λ c κs. search needs)
     loop-less-2
     loop-again-2
     (λ c. search needs)
@@ -346,7 +316,7 @@ merge-lists-spec =
     part-put-all-start-4
     part-put-all-end-4
     (λ c κs. search needs)
-    read-item-requires-6
+    (λ c κs. search needs)
     loop-less-3
     loop-again-3
     sub-put-all-5

@@ -7,6 +7,7 @@ use lib.ListN.{length}
 use Rattle.merge_sides.proofs.in_order.Statement.{statement}
 use Rattle.merge_sides.proofs.in_order.Tie as tie
 use lib.Seq.{length-take-le}
+use Rattle.merge_items.proofs.Items.{holding}
 use Rattle.merge_sides.proofs.Sides.{list-length, keyed-inside, Climbing, climbing-0, climbed}
 use Rattle.merge_sides.proofs.Sides.{climbed-one, climbing-taken, climbing-second, climbs-not, climbing-next}
 
@@ -20,13 +21,12 @@ abbrev μ-loop : tie.MeasureT-loop
 sub-last : tie.Need-sub-last Inv-loop μ-loop
 sub-last c = let p = c .before .before .before .pre .0 in omega (arith, list-length _ _ (p .listed))
 
-read-item-requires : tie.Need-read-item-requires Inv-loop μ-loop
-read-item-requires c κs =
-    let p = c .before .before .before .before .pre .0 in (p .short, omega (arith, list-length _ _ (p .listed)), c .before .before .before .before .pre .1)
-
 loop-holds : tie.Need-loop-holds Inv-loop μ-loop
 loop-holds c = (
-  climbing-0 _ _ _ _ (c .before .before .before .before .before .before .before .pre .0 .listed) (c .before .before .read-item .ensures),
+  climbing-0 _ _ _ _ (c .before .before .before .before .before .before .before .pre .0 .listed)
+      (holding (c .before .before .before .before .before .before .before .pre .0 .short)
+      (c .before .before .read-item .kept .1 .1 .0 ∙ c .before .before .before .before .before .before .before .pre .1)
+      (c .before .before .read-item .ensures)),
   c .before .before .read-item .kept .1 .1 .0
       ∙ c .before .before .before .before .before .before .before .pre .1,
   c .before .before .before .before .before .before .before .pre .2,
@@ -41,14 +41,6 @@ same-length-2 c = c .before .before .loop .inv .2 ∙ sym (c .before .before .be
 returns : tie.Need-returns Inv-loop μ-loop
 returns c = climbed-one (c .before .before .loop .inv .0) (c .before .loop-test .taken) (c .if1 .taken)
 
-read-item-requires-2 : tie.Need-read-item-requires-2 Inv-loop μ-loop
-read-item-requires-2 c κs =
-    let t = climbing-taken (c .before .before .before .loop .inv .0) (c .before .before .loop-test .taken) in (
-      c .before .before .before .before .before .before .before .before .before .before .before .pre .0 .short,
-      omega (arith, t .inside),
-      c .before .before .before .loop .inv .2,
-    )
-
 slice-reshare-prefix-compare : tie.Need-slice-reshare-prefix-compare Inv-loop μ-loop
 slice-reshare-prefix-compare c =
     let i = c .before .before .before .before .before .before .loop .inv .0 in
@@ -61,18 +53,30 @@ slice-aggregate-compare c =
 
 slice-reshare-prefix-compare-2 : tie.Need-slice-reshare-prefix-compare-2 Inv-loop μ-loop
 slice-reshare-prefix-compare-2 c =
-    keyed-inside (c .before .before .before .read-item2 .ensures)
+    keyed-inside (holding
+    (c .before .before .before .before .before .before .before .before .before .before .before .before .before .before .before .pre .0 .short)
+    (c .before .before .before .read-item2 .kept .1 .1 .0 ∙ c .before .before .before .before .before .before .before .loop .inv .2)
+    (c .before .before .before .read-item2 .ensures))
     (climbing-second (c .before .before .before .before .before .before .before .loop .inv .0) _ _
     (c .before .before .before .before .before .before .loop-test .taken) (omega (arith, c .before .before .before .before .before .if1 .left))
-    (c .before .before .before .read-item2 .ensures))
+    (holding (c .before .before .before .before .before .before .before .before .before .before .before .before .before .before .before .pre .0 .short)
+    (c .before .before .before .read-item2 .kept .1 .1 .0 ∙ c .before .before .before .before .before .before .before .loop .inv .2)
+    (c .before .before .before .read-item2 .ensures)))
 
 slice-aggregate-compare-2 : tie.Need-slice-aggregate-compare-2 Inv-loop μ-loop
 slice-aggregate-compare-2 c =
     sym (length-take-le _ _
-    (keyed-inside (c .before .before .before .before .read-item2 .ensures)
+    (keyed-inside (holding
+    (c .before .before .before .before .before .before .before .before .before .before .before .before .before .before .before .before .pre .0 .short)
+    (c .before .before .before .before .read-item2 .kept .1 .1 .0 ∙ c .before .before .before .before .before .before .before .before .loop .inv .2)
+    (c .before .before .before .before .read-item2 .ensures))
     (climbing-second (c .before .before .before .before .before .before .before .before .loop .inv .0) _ _
     (c .before .before .before .before .before .before .before .loop-test .taken)
-    (omega (arith, c .before .before .before .before .before .before .if1 .left)) (c .before .before .before .before .read-item2 .ensures))))
+    (omega (arith, c .before .before .before .before .before .before .if1 .left))
+    (holding (c .before .before .before .before .before .before .before .before .before .before .before .before .before .before .before
+    .before .pre .0 .short)
+    (c .before .before .before .before .read-item2 .kept .1 .1 .0 ∙ c .before .before .before .before .before .before .before .before .loop .inv .2)
+    (c .before .before .before .before .read-item2 .ensures)))))
 
 same-length-3 : tie.Need-same-length-3 Inv-loop μ-loop
 same-length-3 c = c .before .before .before .before .before .before .before .before .before .before .before .loop .inv .1
@@ -90,25 +94,47 @@ returns-2 c =
     climbs-not (c .before .before .before .before .before .before .before .before .before .before .before .loop .inv .0) _ _
     (c .before .before .before .before .before .before .before .before .before .before .loop-test .taken)
     (omega (arith, c .before .before .before .before .before .before .before .before .before .if1 .left))
-    (c .before .before .before .before .before .before .before .read-item2 .ensures) _ (c .before .before .compare .ensures)
+    (holding (c .before .before .before .before .before .before .before .before .before .before .before .before .before .before .before .before .before
+    .before .before .pre .0 .short)
+    (c .before .before .before .before .before .before .before .read-item2 .kept .1 .1 .0
+    ∙ c .before .before .before .before .before .before .before .before .before .before .before .loop .inv .2)
+    (c .before .before .before .before .before .before .before .read-item2 .ensures)) _ (c .before .before .compare .ensures)
     (sym (c .before .is-less .ensures) ∙ not-true _ (c .if2 .taken))
 
 slice-reshare-prefix-put-all : tie.Need-slice-reshare-prefix-put-all Inv-loop μ-loop
 slice-reshare-prefix-put-all c =
-    keyed-inside (c .before .before .before .before .before .before .before .before .read-item2 .ensures)
+    keyed-inside (holding
+    (c .before .before .before .before .before .before .before .before .before .before .before .before .before .before .before .before .before .before
+    .before .before .pre .0 .short)
+    (c .before .before .before .before .before .before .before .before .read-item2 .kept .1 .1 .0
+    ∙ c .before .before .before .before .before .before .before .before .before .before .before .before .loop .inv .2)
+    (c .before .before .before .before .before .before .before .before .read-item2 .ensures))
     (climbing-second (c .before .before .before .before .before .before .before .before .before .before .before .before .loop .inv .0) _ _
     (c .before .before .before .before .before .before .before .before .before .before .before .loop-test .taken)
     (omega (arith, c .before .before .before .before .before .before .before .before .before .before .if1 .left))
-    (c .before .before .before .before .before .before .before .before .read-item2 .ensures))
+    (holding (c .before .before .before .before .before .before .before .before .before .before .before .before .before .before .before .before .before
+    .before .before .before .pre .0 .short)
+    (c .before .before .before .before .before .before .before .before .read-item2 .kept .1 .1 .0
+    ∙ c .before .before .before .before .before .before .before .before .before .before .before .before .loop .inv .2)
+    (c .before .before .before .before .before .before .before .before .read-item2 .ensures)))
 
 slice-aggregate-put-all : tie.Need-slice-aggregate-put-all Inv-loop μ-loop
 slice-aggregate-put-all c =
     sym (length-take-le _ _
-    (keyed-inside (c .before .before .before .before .before .before .before .before .before .read-item2 .ensures)
+    (keyed-inside (holding
+    (c .before .before .before .before .before .before .before .before .before .before .before .before .before .before .before .before .before .before
+    .before .before .before .pre .0 .short)
+    (c .before .before .before .before .before .before .before .before .before .read-item2 .kept .1 .1 .0
+    ∙ c .before .before .before .before .before .before .before .before .before .before .before .before .before .loop .inv .2)
+    (c .before .before .before .before .before .before .before .before .before .read-item2 .ensures))
     (climbing-second (c .before .before .before .before .before .before .before .before .before .before .before .before .before .loop .inv .0) _ _
     (c .before .before .before .before .before .before .before .before .before .before .before .before .loop-test .taken)
     (omega (arith, c .before .before .before .before .before .before .before .before .before .before .before .if1 .left))
-    (c .before .before .before .before .before .before .before .before .before .read-item2 .ensures))))
+    (holding (c .before .before .before .before .before .before .before .before .before .before .before .before .before .before .before .before .before
+    .before .before .before .before .pre .0 .short)
+    (c .before .before .before .before .before .before .before .before .before .read-item2 .kept .1 .1 .0
+    ∙ c .before .before .before .before .before .before .before .before .before .before .before .before .before .loop .inv .2)
+    (c .before .before .before .before .before .before .before .before .before .read-item2 .ensures)))))
 
 loop-less : tie.Need-loop-less Inv-loop μ-loop
 loop-less c = let t =
@@ -123,7 +149,11 @@ loop-again c = (
       .before .loop .inv .0) _ _
       (c .before .before .before .before .before .before .before .before .before .before .before .before .before .before .before .loop-test .taken)
       (omega (arith, c .before .before .before .before .before .before .before .before .before .before .before .before .before .before .if1 .left))
-      (c .before .before .before .before .before .before .before .before .before .before .before .before .read-item2 .ensures) _
+      (holding (c .before .before .before .before .before .before .before .before .before .before .before .before .before .before .before .before .before
+      .before .before .before .before .before .before .before .pre .0 .short)
+      (c .before .before .before .before .before .before .before .before .before .before .before .before .read-item2 .kept .1 .1 .0
+      ∙ c .before .before .before .before .before .before .before .before .before .before .before .before .before .before .before .before .loop .inv .2)
+      (c .before .before .before .before .before .before .before .before .before .before .before .before .read-item2 .ensures)) _
       (c .before .before .before .before .before .before .before .compare .ensures)
       (sym (c .before .before .before .before .before .before .is-less .ensures) ∙ not-false _ (c .before .before .before .before .before .if2 .left)) _ _
       (omega (
@@ -155,12 +185,12 @@ in-order-spec =
     Inv-loop
     μ-loop
     sub-last
-    read-item-requires
+    (λ c κs. search needs)
     loop-holds
     same-length
     same-length-2
     returns
-    read-item-requires-2
+    (λ c κs. search needs)
     slice-reshare-prefix-compare
     slice-aggregate-compare
     slice-reshare-prefix-compare-2

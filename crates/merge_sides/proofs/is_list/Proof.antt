@@ -28,12 +28,10 @@ sub-last c = omega (arith, c .before .before .before .if1 .left)
 loop-holds : tie.Need-loop-holds Inv-loop μ-loop
 loop-holds c = listing-0 _ (omega (arith, c .before .before .before .if1 .left)) (sym (c .before .starts-with .ensures) ∙ not-false _ (c .if2 .left))
 
-item-at-requires : tie.Need-item-at-requires Inv-loop μ-loop
-item-at-requires c κs = (c .before .before .before .before .before .before .before .pre, omega (arith, c .before .loop .inv .high))
-
 returns-3 : tie.Need-returns-3 Inv-loop μ-loop
-returns-3 c = past-not (c .before .before .before .before .loop .inv) _ (c .before .before .item-at .ensures) (c .before .before .before .loop-test .taken)
-    (c .if3 .taken)
+returns-3 c = past-not (c .before .before .before .before .loop .inv)
+    (c .before .before .before .before .before .before .before .before .before .before .pre) _ (c .before .before .item-at .ensures)
+    (c .before .before .before .loop-test .taken) (c .if3 .taken)
 
 stands-requires : tie.Need-stands-requires Inv-loop μ-loop
 stands-requires c κs = (
@@ -45,8 +43,9 @@ stands-requires c κs = (
 )
 
 returns-4 : tie.Need-returns-4 Inv-loop μ-loop
-returns-4 c = stands-not (c .before .before .before .before .before .before .loop .inv) _ (c .before .before .before .before .item-at .ensures)
-    (c .before .before .before .before .before .loop-test .taken)
+returns-4 c = stands-not (c .before .before .before .before .before .before .loop .inv)
+    (c .before .before .before .before .before .before .before .before .before .before .before .before .pre) _
+    (c .before .before .before .before .item-at .ensures) (c .before .before .before .before .before .loop-test .taken)
     (tells-no (c .before .stands .result) (c .before .stands .ensures) (not-true _ (c .if4 .taken)))
 
 loop-less : tie.Need-loop-less Inv-loop μ-loop
@@ -55,8 +54,9 @@ loop-less c = let st = tells-yes (c .before .stands .result) (c .before .stands 
 
 loop-again : tie.Need-loop-again Inv-loop μ-loop
 loop-again c =
-    listing-next (c .before .before .before .before .before .before .loop .inv) _ (c .before .before .before .before .item-at .ensures)
-    (c .before .before .before .before .before .loop-test .taken)
+    listing-next (c .before .before .before .before .before .before .loop .inv)
+    (c .before .before .before .before .before .before .before .before .before .before .before .before .pre) _
+    (c .before .before .before .before .item-at .ensures) (c .before .before .before .before .before .loop-test .taken)
     (tells-yes (c .before .stands .result) (c .before .stands .ensures) (not-false _ (c .if4 .left))) (omega (arith, c .before .before .if3 .left))
 
 returns-5 : tie.Need-returns-5 Inv-loop μ-loop
@@ -74,7 +74,7 @@ is-list-spec =
     returns-2
     sub-last
     loop-holds
-    item-at-requires
+    (λ c κs. search needs)
     returns-3
     stands-requires
     returns-4

@@ -4,13 +4,13 @@ use Prim.Native.Nat.{_-_}
 use native.Mathlib.Omega.{arith}
 use borrow.Author.Needs.{needs}
 use lib.ListN.{length}
-use Rattle.merge_sides.proofs.key_of.Statement.{statement}
-use Rattle.merge_sides.proofs.key_of.Tie as tie
+use Rattle.merge_items.proofs.key_of.Statement.{statement}
+use Rattle.merge_items.proofs.key_of.Tie as tie
 use Rattle.base.specs.Result.{_>>=_}
 use Rattle.records.specs.Records.{tokensFrom}
 use Rattle.room.specs.Room.{seen, extended}
-use Rattle.merge_sides.specs.Steps.{textTo}
-use Rattle.merge_sides.proofs.Texts.{from-nothing, joined-on, joined-end}
+use Rattle.merge_items.specs.Steps.{textTo}
+use Rattle.merge_items.proofs.Texts.{from-nothing, joined-on, joined-end}
 
 -- The key, with the text from a record on, is the whole text. What is left of the document falls.
 abbrev Inv-loop : tie.InvT-loop

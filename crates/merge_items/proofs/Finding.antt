@@ -19,9 +19,9 @@ use Rattle.records.proofs.Tokens.{tokens-end}
 use Rattle.records.proofs.Reading.{read-next}
 use Rattle.merge_rules.specs.Ends.{deeper, on, endOf}
 use Rattle.merge_rules.proofs.Ends.{none-some, some-same}
-use Rattle.merge_sides.specs.Steps.{deepAs}
-use Rattle.merge_sides.specs.declared.Deep.{Deep}
-use Rattle.merge_sides.specs.declared.Deep.the-variants as deep
+use Rattle.merge_items.specs.Steps.{deepAs}
+use Rattle.merge_items.specs.declared.Deep.{Deep}
+use Rattle.merge_items.specs.declared.Deep.the-variants as deep
 
 module _ (k : Kind) (d : ℕ) where
   pub deep-text : {st : Style} → k ≡ kind.Text st → some d ≡ deeper k d

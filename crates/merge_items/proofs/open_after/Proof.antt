@@ -1,8 +1,8 @@
 use native.Mathlib.Omega.{arith}
 use borrow.Author.Needs.{needs}
-use Rattle.merge_sides.proofs.open_after.Statement.{statement}
-use Rattle.merge_sides.proofs.open_after.Tie as tie
-use Rattle.merge_sides.proofs.Finding.{deep-text, deep-start, deep-ends, deep-less, deep-unknown}
+use Rattle.merge_items.proofs.open_after.Statement.{statement}
+use Rattle.merge_items.proofs.open_after.Tie as tie
+use Rattle.merge_items.proofs.Finding.{deep-text, deep-start, deep-ends, deep-less, deep-unknown}
 
 returns : tie.Need-returns
 returns c = deep-ends _ _ (c .before .enum-told3 .given .1) (c .if1 .taken)

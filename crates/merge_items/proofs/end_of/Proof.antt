@@ -3,11 +3,11 @@ use Prim.Native.Nat.{_-_, _≤_}
 use native.Mathlib.Omega.{arith}
 use borrow.Author.Needs.{needs}
 use lib.ListN.{length}
-use Rattle.merge_sides.proofs.end_of.Statement.{statement}
-use Rattle.merge_sides.proofs.end_of.Tie as tie
+use Rattle.merge_items.proofs.end_of.Statement.{statement}
+use Rattle.merge_items.proofs.end_of.Tie as tie
 use Rattle.records.specs.Records.{tokensFrom}
 use Rattle.merge_rules.specs.Ends.{endOf}
-use Rattle.merge_sides.proofs.Finding.{deep-low, deep-open, deep-over, end-on, end-here, end-past}
+use Rattle.merge_items.proofs.Finding.{deep-low, deep-open, deep-over, end-on, end-here, end-past}
 
 abbrev Inv-loop : tie.InvT-loop
 Inv-loop document from at₀ depth₀ at depth = (endOf (tokensFrom document at) depth ≡ endOf (tokensFrom document from) 0) × (depth ≤ at)

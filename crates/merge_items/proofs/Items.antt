@@ -1,11 +1,12 @@
 -- The item at a place of a side: where its term and its body end, and its text by the records that stand there. Assumes nothing.
-use Prim.Native.Nat.{ℕ, zero, suc, _+_, _-_, _≤_}
+use Prim.Native.Nat.{ℕ, zero, suc, _+_, _-_, _≤_, _<_}
 use mathlib.Core.Path.{_≡_, refl, sym, ap, ap₂, _∙_}
 use mathlib.Core.List.{List, [], _∷_, _++_, append-assoc, append-nil}
 use lib.ListN.{length, take, drop, length-append, length-take, length-drop}
 use lib.Seq.{drop-drop, drop-at}
 use native.Mathlib.Omega.{arith}
 use borrow.Author.Tests.{lt-ltb, le-ltb}
+use Rattle.base.specs.Result.{gives}
 use Rattle.base.proofs.Choice.{if-true, if-false}
 use Rattle.records.specs.Records.{Token, size, tokenAt, tokens, tokensFrom, joined, textOf}
 use Rattle.document.specs.Document.{openBlocks}
@@ -14,11 +15,12 @@ use Rattle.records.specs.declared.Block.{Block}
 use Rattle.records.specs.declared.Block.the-variants as block
 use Rattle.buffer_doc.proofs.Adding.{length-start, length-around}
 use Rattle.merge_rules.specs.Merge.{Item, key, records, Proper}
-use Rattle.merge_sides.specs.Steps.{textTo, Found, Keyed}
+use Rattle.merge_items.specs.Steps.{textTo, Found, Keyed}
 use Rattle.merge_rules.specs.Ends.{endOf}
 use Rattle.room.specs.Room.{seen, extended}
 use Rattle.room.proofs.Laws.{extended-in}
-use Rattle.merge_sides.specs.declared.Place.{Place}
+use Rattle.merge_items.specs.declared.Place.{Place}
+use Rattle.merge_items.specs.declared.Entry.{Entry}
 use Rattle.merge_rules.proofs.Whole.{tokens-append, reads-shift, around-then}
 use Rattle.merge_rules.proofs.Ends.{term-closing, body-closing, content-ends}
 
@@ -61,14 +63,25 @@ module _ (s : List ℕ) (at : ℕ) (i : Item) (w : List ℕ) (p : Proper i) (e :
       ap (λ (l : List ℕ). endOf (tokens (at + 6 + length (i .term) + 12) 0 l) 0) d ∙ content-ends body-closing (at + 6 + length (i .term) + 12) w (p .body)
 
 pub found : (s : List ℕ) (at stop last : ℕ) → stop ≡ endOf (tokensFrom s (at + 6)) 0 → last ≡ endOf (tokensFrom s (stop + 12)) 0 → stop ≤ length s
-    → Found s at (record { stop = stop; next = last + 6 })
+    → Found s at (record { from = at + 6; stop = stop; next = last + 6 })
 found s at stop last f g h = record {
   inside = h;
-  item = λ i w p e.
+  item = λ _ i w p e.
       let t : stop ≡ at + 6 + length (i .term) = f ∙ term-ends s at i w p e in
-      let b : last ≡ at + 6 + length (i .term) + 12 + length (i .body) = g ∙ ap (λ (k : ℕ). endOf (tokensFrom s (k + 12)) 0) t ∙ body-ends s at i w p e in
-      (t, omega (arith, length-records i));
+      let b : last ≡ at + 6 + length (i .term) + 12 + length (i .body) =
+      g ∙ ap (λ (k : ℕ). endOf (tokensFrom s (k + 12)) 0) t ∙ body-ends s at i w p e in
+      (t, omega (arith, length-records i), refl);
 }
+
+-- no item stands past the end, and none is looked for in more than a document
+pub found-past : (s : List ℕ) (at : ℕ) → length s < at → Found s at (record { from = 0; stop = 0; next = 0 })
+found-past s at h = record {
+  inside = omega arith;
+  item = λ _ i w p e. let z : ⊥ = omega (arith, ap length e, length-drop at s, length-append (records i) w, length-records i) in absurd z;
+}
+
+pub found-none : (s : List ℕ) (at : ℕ) → 32768 < length s → Found s at (record { from = 0; stop = 0; next = 0 })
+found-none s at h = record { inside = omega arith; item = λ l i w p e. let z : ⊥ = omega (arith, l) in absurd z }
 
 -- Its text
 
@@ -120,16 +133,27 @@ joined-length (b ∷ s) p zero =
 
 -- The item with its text joined
 
-pub keyed : (s : List ℕ) (at : ℕ) (text : List ℕ) (limit len : ℕ) (p : Place) → length s ≤ 32768 → limit ≡ 32768 → Found s at p
-    → seen text len ≡ extended limit (textTo (p .stop) (tokensFrom s (at + 6))) [] → Keyed s at text (record { next = p .next; len = len })
-unfolding textOf
-keyed s at text limit len p h l f e = record {
-  item = λ i w q d.
-      let g = f .item i w q d in
-      let n : length (key i) ≤ length (i .term) = omega (arith, joined-length (i .term) 0 0) in
-      let m : length (i .term) ≤ 32768 = omega (arith, ap length d, length-drop at s, length-append (records i) w, length-records i) in (
+pub keyed : (s : List ℕ) (at : ℕ) (text : List ℕ) (limit len : ℕ) (p : Place) → length text ≡ limit → Found s at p
+    → seen text len ≡ extended limit (textTo (p .stop) (tokensFrom s (p .from))) [] → Keyed s at text (record { next = p .next; len = len })
+keyed s at text limit len p l f e = record {
+  item = λ h i w q d.
+      let g = f .item h i w q d in (
         g .1,
-        e ∙ ap (λ (k : ℕ). extended limit (textTo k (tokensFrom s (at + 6))) []) (g .0) ∙ ap (λ (x : List ℕ). extended limit x []) (key-at s at i w q d)
-            ∙ extended-in limit (key i) [] (omega arith),
+        e ∙ ap₂ (λ (k m : ℕ). extended limit (textTo k (tokensFrom s m)) []) (g .0) (g .2) ∙ ap (λ (x : List ℕ). extended limit x []) (key-at s at i w q d)
+            ∙ ap (λ (n : ℕ). extended n (key i) []) (sym l),
       );
+}
+
+-- in a document, with a key as long as one can be, the text stands there
+pub record Holding (s : List ℕ) (at : ℕ) (text : List ℕ) (r : Entry) : Type 0 where
+  pub item : (i : Item) (w : List ℕ) → Proper i → drop at s ≡ records i ++ w → (r .next ≡ at + length (records i)) × (seen text (r .len) ≡ gives (key i))
+
+pub holding : {s : List ℕ} {at : ℕ} {text : List ℕ} {r : Entry} → length s ≤ 32768 → length text ≡ 32768 → Keyed s at text r → Holding s at text r
+unfolding textOf
+holding {s} {at} {text} h l k = record {
+  item = λ i w q d.
+      let g = k .item h i w q d in
+      let n : length (key i) ≤ length (i .term) = omega (arith, joined-length (i .term) 0 0) in
+      let m : length (i .term) ≤ 32768 = omega (arith, ap length d, length-drop at s, length-append (records i) w, length-records i) in
+      (g .0, g .1 ∙ extended-in (length text) (key i) [] (omega arith));
 }
