@@ -1,3 +1,5 @@
+-- What stands in the room, with what is left of both sides merged, is the whole merged list; each key has the term of its side's next item.
+-- What is left of both sides falls.
 use mathlib.Core.Path.{refl, sym, _∙_}
 use Prim.Native.Nat.{_+_, _-_, _≤_}
 use native.Mathlib.Omega.{arith}
@@ -13,8 +15,6 @@ use Rattle.merge_sides.proofs.Sides.{list-length, keyed-inside}
 use Rattle.merge_items.proofs.Items.{holding}
 use Rattle.merge.proofs.Merging.{Going, going-0, take-first, take-second, going-less, going-same, going-more, ended-first, ended-second}
 
--- What stands in the room, with what is left of both sides merged, is the whole merged list; each key has the term of its side's next item.
--- What is left of both sides falls.
 abbrev Inv-loop : tie.InvT-loop
 Inv-loop first second room₀ key₀ other₀ last close len₀ i₀ j₀ next₀ n₀ then₀ m₀ room key other len i j next n then m =
     Going first second (length room₀) room key other len i j next n then m

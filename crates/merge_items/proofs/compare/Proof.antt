@@ -1,3 +1,5 @@
+-- The texts from a byte on compare as the whole texts do.
+-- What is left of the first one falls.
 use mathlib.Core.Path.{_≡_, refl}
 use Prim.Native.Nat.{_-_}
 use native.Mathlib.Omega.{arith}
@@ -7,7 +9,6 @@ use Rattle.merge_items.proofs.compare.Tie as tie
 use Rattle.merge_rules.specs.Merge.{compared}
 use Rattle.merge_items.proofs.Texts.{both-done, first-done, second-done, less-here, more-here, same-here}
 
--- The texts from a byte on compare as the whole texts do. What is left of the first one falls.
 abbrev Inv-loop : tie.InvT-loop
 Inv-loop a b i₀ i = compared (drop i a) (drop i b) ≡ compared a b
 

@@ -1,3 +1,5 @@
+-- The block ends, from the record at hand and the blocks open there, where it ends from the first one.
+-- What is left of the document falls.
 use mathlib.Core.Path.{_≡_, refl, sym, _∙_}
 use Prim.Native.Nat.{_-_, _≤_}
 use native.Mathlib.Omega.{arith}

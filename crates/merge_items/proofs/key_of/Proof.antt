@@ -1,3 +1,5 @@
+-- The key, with the text from a record on, is the whole text.
+-- What is left of the document falls.
 use mathlib.Core.Path.{_≡_, refl, _∙_}
 use mathlib.Core.List.{[]}
 use Prim.Native.Nat.{_-_}
@@ -12,7 +14,6 @@ use Rattle.room.specs.Room.{seen, extended}
 use Rattle.merge_items.specs.Steps.{textTo}
 use Rattle.merge_items.proofs.Texts.{from-nothing, joined-on, joined-end}
 
--- The key, with the text from a record on, is the whole text. What is left of the document falls.
 abbrev Inv-loop : tie.InvT-loop
 Inv-loop document from stop key₀ at₀ len₀ key at len =
     ((seen key len >>= extended (length key₀) (textTo stop (tokensFrom document at))) ≡ extended (length key₀) (textTo stop (tokensFrom document from)) [])

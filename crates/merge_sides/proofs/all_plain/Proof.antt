@@ -1,3 +1,5 @@
+-- The records from one on are such that may stand in a term exactly if all are.
+-- What is left of the bytes falls.
 use mathlib.Core.Path.{_≡_, refl, sym, _∙_}
 use Prim.Native.Nat.{_-_}
 use native.Mathlib.Omega.{arith}

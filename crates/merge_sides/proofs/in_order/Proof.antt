@@ -1,3 +1,5 @@
+-- The items from one on ascend as all do, and the first key has its term.
+-- What is left of the document falls.
 use mathlib.Core.Path.{_≡_, sym, _∙_}
 use Prim.Native.Nat.{_-_}
 use native.Mathlib.Omega.{arith}
@@ -11,7 +13,6 @@ use Rattle.merge_items.proofs.Items.{holding}
 use Rattle.merge_sides.proofs.Sides.{list-length, keyed-inside, Climbing, climbing-0, climbed}
 use Rattle.merge_sides.proofs.Sides.{climbed-one, climbing-taken, climbing-second, climbs-not, climbing-next}
 
--- The items from one on ascend as all do, and the first key has its term. What is left of the document falls.
 abbrev Inv-loop : tie.InvT-loop
 Inv-loop document key₀ other₀ last at₀ next₀ len₀ key other at next len = Climbing document key at next len × (length key ≡ 32768) × (length other ≡ 32768)
 

@@ -1,3 +1,5 @@
+-- The document is a list exactly if from a place on items follow, and the end record.
+-- What is left of the document falls.
 use mathlib.Core.Path.{sym, _∙_}
 use Prim.Native.Nat.{_-_}
 use native.Mathlib.Omega.{arith}
@@ -9,7 +11,6 @@ use Rattle.merge_sides.proofs.is_list.Tie as tie
 use Rattle.merge_sides.proofs.Listing.{tells-yes, tells-no, stop-low, next-low, Listing, short-not}
 use Rattle.merge_sides.proofs.Listing.{start-not, listing-0, past-not, stands-not, listing-next, listing-end}
 
--- The document is a list exactly if from a place on items follow, and the end record. What is left of the document falls.
 abbrev Inv-loop : tie.InvT-loop
 Inv-loop document last at₀ t6 at = Listing document at
 
