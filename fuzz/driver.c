@@ -160,15 +160,15 @@ static uint32_t *lend_small_number(struct fenced *in, uint32_t value, enum place
     return number;
 }
 
-static struct fenced documents, rooms, places, lengths, more[3];
+static struct fenced documents, seconds, rooms, places, lengths, more[3];
 
 /* ---- what was reached -------------------------------------------------------------------------------------------------------- */
 
 enum function { CHECK, CONSOLE, HTML, HTML_STRICT, MARKDOWN, ROFF, WRITE, OPEN, CLOSE, DOC, EM_DOC, NEXT_CHUNK, TABSTOP, PAGE_COUNT, PAGE, HOUSE_SHAPE, NOTES, JOIN, UNJOIN,
-    JOINED_CHECK, JOINED_CONSOLE, JOINED_HTML, JOINED_HTML_STRICT, JOINED_MARKDOWN, JOINED_ROFF, FIGURES, ROOM_BOUND, FUNCTIONS };
+    JOINED_CHECK, JOINED_CONSOLE, JOINED_HTML, JOINED_HTML_STRICT, JOINED_MARKDOWN, JOINED_ROFF, FIGURES, ROOM_BOUND, MERGE, FUNCTIONS };
 static const char *const names[FUNCTIONS] = {"check", "console", "html", "html_strict", "markdown", "roff", "write", "open", "close",
     "doc", "em_doc", "next_chunk", "tabstop", "page_count", "page", "house_shape", "notes", "join", "unjoin", "joined_check", "j_console", "j_html", "j_html_s",
-    "j_markdown", "j_roff", "figures", "room_bound"};
+    "j_markdown", "j_roff", "figures", "room_bound", "merge"};
 static unsigned long calls[FUNCTIONS], accepts[FUNCTIONS], numbers[MOST_NUMBER + 1], inputs;
 
 enum { MOST_BLOCKS = 8192, OUTCOMES = 16384 };
@@ -582,6 +582,7 @@ static void try_pages(uint64_t *state, const uint8_t *data, size_t n)
 struct maker {
     enum function function;
     uint32_t (*call)(const uint8_t *given, size_t n, uint8_t *room, size_t room_len, size_t *at);
+    size_t beside; /* bytes that are given beside these */
 };
 
 /* One call that makes bytes of bytes, in both placements; what an accepted one made is left in `text`. */
@@ -599,7 +600,7 @@ static struct answer run_maker(struct maker m, const uint8_t *given, size_t n, s
         size_t length = number == 0 ? *at : 0;
         answers[p] = (struct answer){number, *at};
         outcome(m.function, number, *at);
-        must(number == 0 ? *at <= room_len : *at <= n, "maker: a length over the room, or a place behind what was given");
+        must(*at <= (number == 0 ? room_len : n > m.beside ? n : m.beside), "maker: a length over the room, or a place behind what was given");
         if (room_len > 0) {
             must(memcmp(room + length, zeros, room_len - length) == 0, "maker: not 0 behind what was made or after a refusal");
             must(p == ENDS_AT_FENCE || memcmp(text, room, length) == 0, "maker: two results");
@@ -632,7 +633,7 @@ static struct answer try_maker(struct maker m, const uint8_t *given, size_t n, s
 /* Any bytes as notes: what they make is a document. */
 static void try_notes(uint64_t *state, const uint8_t *data, size_t n)
 {
-    struct maker m = {NOTES, sefgrunn_notes};
+    struct maker m = {NOTES, sefgrunn_notes, 0};
     struct answer got = try_maker(m, data, n, below(state, 3) == 0 ? below(state, 100) : 40000);
     must((got.number == 1) == (n > MOST_BYTES), "notes: 1");
     must((got.number == 19) == (n <= MOST_BYTES && !is_utf8(data, n)), "notes: 19");
@@ -688,14 +689,14 @@ static uint32_t joined_markdown(const uint8_t *joined, size_t n, uint8_t *room, 
     return sefgrunn_joined_markdown(joined, n, joined_settings.full, room, room_len, at);
 }
 
-static const struct maker joined_renderers[] = {{JOINED_CONSOLE, joined_console}, {JOINED_HTML, joined_html},
-    {JOINED_HTML_STRICT, joined_html_strict}, {JOINED_MARKDOWN, joined_markdown}, {JOINED_ROFF, sefgrunn_joined_roff}};
+static const struct maker joined_renderers[] = {{JOINED_CONSOLE, joined_console, 0}, {JOINED_HTML, joined_html, 0},
+    {JOINED_HTML_STRICT, joined_html_strict, 0}, {JOINED_MARKDOWN, joined_markdown, 0}, {JOINED_ROFF, sefgrunn_joined_roff, 0}};
 
 /* Any bytes as a joined form: checked, moved back, rendered. */
 static void try_any_joined(const uint8_t *joined, size_t n, size_t room_len)
 {
     struct answer checked = run_joined_check(joined, n), got;
-    struct maker unjoin = {UNJOIN, sefgrunn_unjoin};
+    struct maker unjoin = {UNJOIN, sefgrunn_unjoin, 0};
 
     got = try_maker(unjoin, joined, n, room_len);
     must(got.number == checked.number || (checked.number == 0 && got.number == 13), "unjoin: not the check's number");
@@ -718,7 +719,7 @@ static void try_any_joined(const uint8_t *joined, size_t n, size_t room_len)
 static void try_joined(uint64_t *state, const uint8_t *data, size_t n, struct answer checked)
 {
     static uint8_t form[MOST_ROOM], old[MOST_ROOM];
-    struct maker join = {JOIN, sefgrunn_join}, unjoin = {UNJOIN, sefgrunn_unjoin};
+    struct maker join = {JOIN, sefgrunn_join, 0}, unjoin = {UNJOIN, sefgrunn_unjoin, 0};
     size_t room_len = room_size(state, n), form_n;
     struct answer got;
 
@@ -792,6 +793,64 @@ static void try_figures(uint64_t *state, const uint8_t *data, size_t n, struct a
     bundle[below(state, 4) == 0 ? below(state, used) : below(state, 6)] ^= (uint8_t)(1u << below(state, 8));
     run_figures(bundle, used);
     run_figures(data, n);
+}
+
+/* ---- lists merged ------------------------------------------------------------------------------------------------------------ */
+
+/* The side that is merged with what is given. */
+static const uint8_t *second_side;
+static size_t second_n;
+
+static uint32_t merge_with(const uint8_t *first, size_t n, uint8_t *room, size_t room_len, size_t *at)
+{
+    /* at the fence at which the first side is not */
+    return sefgrunn_merge(first, n, lend(&seconds, second_side, second_n, STARTS_AT_FENCE), second_n, room, room_len, at);
+}
+
+/* An option list with terms from a to z, ascending but for one time in sixteen. */
+static size_t make_list(uint8_t *out, uint64_t *state)
+{
+    static const uint8_t open_list[] = {0, 0, 0, 0, 6, 1}, close_list[] = {0, 0, 0, 0, 6, 2};
+    uint8_t item[] = {0, 0, 0, 0, 4, 1, 1, 0, 0, 0, 3, 0, 'a', 0, 0, 0, 0, 4, 2, 0, 0, 0, 0, 5, 1, 0, 0, 0, 0, 5, 2};
+    size_t n = 0;
+
+    memcpy(out, open_list, 6);
+    n += 6;
+    for (uint8_t term = 'a'; term <= 'z'; term = (uint8_t)(term + 1 + below(state, 9))) {
+        item[12] = below(state, 40) == 0 ? 'c' : term;
+        memcpy(out + n, item, sizeof item);
+        n += sizeof item;
+    }
+    memcpy(out + n, close_list, 6);
+    return n + 6;
+}
+
+/* A first side merged with a second one. */
+static struct answer merge(const uint8_t *first, size_t n, const uint8_t *second, size_t m, size_t room_len)
+{
+    second_side = second, second_n = m;
+    return try_maker((struct maker){MERGE, merge_with, m}, first, n, room_len);
+}
+
+/* The input merged with itself, with a list and with a part of itself; two lists merged. */
+static void try_merge(uint64_t *state, const uint8_t *data, size_t n, struct answer checked)
+{
+    static uint8_t list[2048], other[2048], result[MOST_BYTES];
+    size_t list_n = make_list(list, state), other_n = make_list(other, state);
+    struct answer got = merge(data, n, data, n, n);
+
+    must(checked.number == 0 ? got.number == 0 || got.number == 22 || got.number == 23 : got.number == checked.number,
+        "merge: number");
+    must(got.number != 0 || (got.at == n && memcmp(text, data, n) == 0), "merge: a list merged with itself is another");
+    got = merge(data, n, list, list_n, room_size(state, n));
+    must(checked.number == 0 || (got.number == checked.number && got.at == checked.at), "merge: the first side is refused first");
+    got = merge(other, other_n, list, list_n, MOST_BYTES);
+    must(got.number == 0 || got.number == 23, "merge: two lists");
+    if (got.number == 0) {
+        memcpy(result, text, got.at);
+        must(run_check(result, got.at).number == 0, "merge: no document");
+    }
+    merge(other, other_n, data, below(state, n + 1), MOST_BYTES);
 }
 
 /* ---- the builder ------------------------------------------------------------------------------------------------------------- */
@@ -963,6 +1022,7 @@ int LLVMFuzzerTestOneInput(const uint8_t *data, size_t n)
     try_notes(&state, data + (n < 6 ? n : 6), n < 6 ? 0 : n - 6);
     try_joined(&state, data, n, checked);
     try_figures(&state, data, n, checked);
+    try_merge(&state, data, n, checked);
     try_builder(&state, data, n, below(&state, 4) == 0 ? n : record_start(&state, data, n));
     return 0;
 }
@@ -988,6 +1048,7 @@ static void prepare(void)
 {
     const char *list = getenv("FUZZ_BLOCKS");
     documents = fenced_for_reading(MOST_ROOM);
+    seconds = fenced_for_reading(MOST_ROOM);
     rooms = fenced(MOST_ROOM);
     places = fenced(4096);
     lengths = fenced(4096);

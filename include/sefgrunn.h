@@ -59,7 +59,9 @@ enum sefgrunn_refusal {
                                         the joined form's length */
     SEFGRUNN_NOTES_NOT_UTF8 = 19,    /* notes that are not UTF-8; place 0 */
     SEFGRUNN_WRONG_HEIGHT = 20,      /* height of a page outside 1 to 200; place 0 */
-    SEFGRUNN_NO_PAGE = 21            /* page 0, or beyond the last; place 0 */
+    SEFGRUNN_NO_PAGE = 21,           /* page 0, or beyond the last; place 0 */
+    SEFGRUNN_NOT_A_LIST = 22,        /* side to merge that is not a single list in house shape; place 0 */
+    SEFGRUNN_NOT_ASCENDING = 23      /* side to merge whose terms do not strictly ascend; place 0 */
 };
 
 /* The style of a text record: its kind. */
@@ -200,6 +202,14 @@ uint32_t sefgrunn_notes(const uint8_t *notes, size_t n, uint8_t *room, size_t ro
  * 0. Refusals 16, then at each record 15, then 14. */
 uint32_t sefgrunn_figures(const uint8_t *bundle, size_t n, size_t *documents, size_t *accepted, size_t *refused, size_t *characters,
     size_t *place);
+
+/* One option list from two. Each side is a document of a single DefinitionList in house shape and nothing else, its terms strictly ascending
+ * by the bytes of their text, joined over records; backticks of TermRefs are no part of it. The result has every term of either side once,
+ * ascending, each item's records unchanged; where both have a term, the first side's item stands. Reads n bytes at first and m at second.
+ * Writes all room_len bytes at room: the list, then zeros; all zeros after a refusal. Writes *at: the list's length, or the place. Refusals
+ * 1 to 8 of the first side, then of the second, each with places in that side (sefgrunn_check tells which it was); 22 of the first, then of
+ * the second; 23 likewise; 13 last, also for a list over 32,768 bytes. */
+uint32_t sefgrunn_merge(const uint8_t *first, size_t n, const uint8_t *second, size_t m, uint8_t *room, size_t room_len, size_t *at);
 
 /* Pages of a console text for a screen of some rows. Any bytes are a text. A row ends at a line feed, which it has; a non-empty rest is a
  * row. A page is height rows, the last one 1 to height of them; pages joined in order are the text, and an empty text has none. Reads n

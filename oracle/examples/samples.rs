@@ -14,6 +14,7 @@ use std::fs;
 use std::path::Path;
 use std::process::ExitCode;
 
+use oracle::merge::merged;
 use oracle::notes;
 use oracle::rules::{render, Renderer};
 use oracle::stored::{put_record, Block, Draft};
@@ -343,6 +344,38 @@ fn paths() -> Draft {
     page
 }
 
+/// Options of the balancer and of an invented gateway, by their long names. Both have `--port` and
+/// `--verbose`, each with help of its own.
+const PRODUCT_A: &[(&str, &str, &str)] = &[
+    ("--backend", "HOST:PORT", "A server to pass requests to"),
+    ("--backlog", "COUNT", "Connections that wait to be accepted"),
+    ("--port", "PORT", "Port to listen on; 0 takes any free port"),
+    ("--retries", "COUNT", "Other servers that are tried after a failure"),
+    ("--verbose", "", "Say more; may be given more than once"),
+];
+const PRODUCT_B: &[(&str, &str, &str)] = &[
+    ("--certificate", "FILE", "Certificate chain in PEM form"),
+    ("--port", "PORT", "Port of the gateway, 8443 if not given"),
+    ("--rate", "N/SECOND", "Requests of one client that are let through"),
+    ("--verbose", "", "Print each request"),
+    ("--zone", "NAME", "Zone that the gateway stands in"),
+];
+
+/// An option list, its terms ascending: what can be merged.
+fn product(options: &[(&str, &str, &str)]) -> Vec<u8> {
+    let mut draft = Draft::new();
+    draft.open(Block::DefinitionList);
+    for (name, metavar, help) in options {
+        draft
+            .within(Block::ItemTerm, |d| match *metavar {
+                "" => d.literal(name),
+                metavar => d.literal(name).text("=").metavar(metavar),
+            })
+            .within(Block::ItemBody, |d| d.text(help));
+    }
+    draft.close(Block::DefinitionList).stored()
+}
+
 /// Text between starts and ends of the blocks given, the first outermost.
 fn nested(blocks: &[Block], text: &str) -> Draft {
     let mut draft = Draft::new();
@@ -364,6 +397,9 @@ fn samples() -> Vec<(&'static str, Vec<u8>)> {
         ("paths.doc", paths().stored()),
         ("prose.doc", prose().stored()),
         ("nonascii.doc", nonascii().stored()),
+        ("product-a.doc", product(PRODUCT_A)),
+        ("product-b.doc", product(PRODUCT_B)),
+        ("products.doc", merged(&product(PRODUCT_A), &product(PRODUCT_B)).expect("two lists")),
         ("notes.doc", notes::document(NOTES.as_bytes()).expect("they are notes")),
         ("empty.doc", Vec::new()),
         ("a-b.doc", made(|d| d.text("a b"))),

@@ -371,6 +371,37 @@ pub fn bundles(pages: &[Vec<u8>]) {
     row("figures (rust: pages)", "10,922 empty", empty.len(), Some(times));
 }
 
+/// Two lists of 150 terms, 50 of them of both; the port's check of both stands in for the Rust.
+pub fn merging() {
+    let side = |from: usize| {
+        let mut draft = Draft::new();
+        draft.open(Block::DefinitionList);
+        for number in from..from + 150 {
+            draft
+                .within(Block::ItemTerm, |d| d.literal(&format!("--option-{number:04}")))
+                .within(Block::ItemBody, |d| d.text("Connections that wait to be accepted"));
+        }
+        draft.close(Block::DefinitionList).stored()
+    };
+    let (first, second) = (side(0), side(100));
+    let both = [&first[..], &second].concat();
+    let call = Call::Merge { first: first.len() as u64 };
+    let merged = crate::merge::merged(&first, &second).expect("two lists");
+    let mut room = vec![0; merged.len()];
+    let times = medians(
+        400,
+        || batch(BATCH, || assert_eq!(port(call, &both, black_box(&mut room)), 0)),
+        || {
+            batch(BATCH, || {
+                assert_eq!(port(Call::Check, &first, &mut []), 0);
+                assert_eq!(port(Call::Check, &second, &mut []), 0);
+            })
+        },
+    );
+    assert_eq!(room, merged);
+    row("merge (rust: two checks)", "two lists of 150", both.len(), Some(times));
+}
+
 /// Notes of 30 KB; the port's console text of the document that they make stands in for the Rust, which
 /// takes in no notes.
 pub fn noting() {

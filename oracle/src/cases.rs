@@ -3,6 +3,7 @@
 
 use crate::figures::{self, Figures};
 use crate::joined;
+use crate::merge;
 use crate::notes;
 use crate::pages;
 use crate::rules::{self, Chunk, Operation, PlainCursor, Refusal, Renderer};
@@ -35,6 +36,10 @@ pub enum Call {
     JoinedRender(Renderer),
     Figures,
     RoomBound,
+    /// the case's document is the first side, so many bytes, and then the second
+    Merge {
+        first: u64,
+    },
 }
 
 /// A call with all that it reads and all that its room holds before it.
@@ -162,6 +167,11 @@ pub fn answer(case: &Case) -> Answer {
         Call::RoomBound => {
             rules::check(&case.document).map(|records| rules::room_bound(&records) as u64)
         }
+        Call::Merge { first } => {
+            let (first, second) = case.document.split_at(first as usize);
+            let merged = merge::merge(first, second, case.room.len());
+            fill(&mut answer.room, merged)
+        }
     };
     match outcome {
         Ok(at) => answer.at = at,
@@ -184,7 +194,8 @@ pub fn put_chunk(answer: &mut Answer, given: PlainCursor, next: Option<(Chunk, P
     answer.numbers = vec![ticks.into(), start as u64, len as u64, width as u64];
 }
 
-/// The number of a call in a list, its setting (width, style, block or cursor), and its two flags.
+/// The number of a call in a list, its setting (width, style, block, cursor or length of a side), and
+/// its two flags.
 /// `None` for a call that no list has.
 fn header(call: Call) -> Option<(u8, u64, bool, bool)> {
     Some(match call {
@@ -210,6 +221,7 @@ fn header(call: Call) -> Option<(u8, u64, bool, bool)> {
             let (number, setting, full, css) = header(Call::Render(renderer))?;
             (number + 16, setting, full, css)
         }
+        Call::Merge { first } => (22, first, false, false),
         Call::PageCount { .. } | Call::Page { .. } | Call::Shape => return None,
         Call::Notes | Call::Figures | Call::RoomBound => return None,
     })
@@ -238,23 +250,25 @@ fn put(out: &mut Vec<u8>, number: u64) {
 /// n    bytes of this case after this number
 /// u8   call: 0 check, 1 console, 2 html, 3 html_strict, 4 markdown, 5 roff,
 ///      6 write, 7 open, 8 close, 9 doc, 10 em_doc, 11 split, 12 next_chunk, 13 tabstop,
-///      14 join, 15 unjoin, 16 joined_check, 17 to 21 the renderers 1 to 5 of a joined form
-/// n    width (console), style (write), block (open, close) or place in the body (next_chunk); else 0
+///      14 join, 15 unjoin, 16 joined_check, 17 to 21 the renderers 1 to 5 of a joined form,
+///      22 merge
+/// n    width (console), style (write), block (open, close), place in the body (next_chunk) or length of
+///      the first side (merge); else 0
 /// u8   full (console, html, html_strict, markdown), ticks (next_chunk); else 0
 /// u8   css (html, html_strict), by characters (console); else 0
 /// n    room length R
 /// n    document length D
 /// D    the document; write: the text; doc, em_doc: the document added; split, next_chunk: the body;
-///      15 to 21: the joined form
+///      15 to 21: the joined form; 22: the first side, then the second
 /// 6 to 10 only:
 ///   n    length so far L (may pass R)
 ///   the first L bytes of the room before the call, or R if that is less; the others are the pattern
 /// the answer:
 /// n    number: 0 accepted, else the refusal
-/// n    place of a refusal; accepted: length of the text (1 to 5, 17 to 21) or of what was moved (14,
-///      15), count of chunks (11), else 0
-/// accepted 1 to 5, 14, 15, 17 to 21:  the text or what was moved; the room's other bytes are 0
-/// refused 1 to 5, 14, 15, 17 to 21:   nothing; every byte of the room is 0
+/// n    place of a refusal; accepted: length of the text (1 to 5, 17 to 21) or of what was made (14, 15,
+///      22), count of chunks (11), else 0
+/// accepted 1 to 5, 14, 15, 17 to 22:  the text or what was made; the room's other bytes are 0
+/// refused 1 to 5, 14, 15, 17 to 22:   nothing; every byte of the room is 0
 /// accepted 6 to 10: n, the new length, and so many bytes; the room's other bytes are the pattern
 /// refused 6 to 10:  nothing; length and room are as before
 /// 11, for each chunk:
@@ -314,10 +328,8 @@ pub fn list(case: &Case, answer: &Answer, out: &mut Vec<u8>) {
 
 /// Whether an accepted call fills the first bytes of its room, and zeros the others.
 pub fn fills_room(call: Call) -> bool {
-    matches!(
-        call,
-        Call::Render(_) | Call::Notes | Call::Join | Call::Unjoin | Call::JoinedRender(_)
-    )
+    use Call::*;
+    matches!(call, Render(_) | Notes | Join | Unjoin | JoinedRender(_) | Merge { .. })
 }
 
 /// What a builder's room holds of a document of `length` bytes. The others are the pattern, which a

@@ -30,10 +30,11 @@ pub enum Subject {
     Joined,
     Figures,
     RoomBound,
+    Merge,
 }
 
 impl Subject {
-    pub const ALL: [(Subject, &'static str); 18] = [
+    pub const ALL: [(Subject, &'static str); 19] = [
         (Subject::Check, "check"),
         (Subject::Console, "console"),
         (Subject::Html, "html"),
@@ -52,6 +53,7 @@ impl Subject {
         (Subject::Joined, "joined"),
         (Subject::Figures, "figures"),
         (Subject::RoomBound, "room_bound"),
+        (Subject::Merge, "merge"),
     ];
 
     /// Whether lists have its calls.
@@ -414,6 +416,26 @@ impl Maker<'_> {
             self.text(text);
         }
         self.around(BLOCK, |_| {});
+    }
+
+    /// An item of an option list. The term's text may be cut over records and blocks.
+    fn item(&mut self, term: &str) {
+        let cut = (0..=term.len()).filter(|&at| term.is_char_boundary(at)).collect::<Vec<_>>();
+        let (cut, around) = (self.rng.pick(&cut), self.rng.pick(&[INLINE, TERM_REF, MONO]));
+        let (bracketed, filled) = (self.rng.once_in(3), !self.rng.once_in(3));
+        self.around(ITEM_TERM, |m| {
+            m.text(&term[..cut]);
+            if bracketed {
+                m.around(around, |m| m.text(&term[cut..]));
+            } else if cut < term.len() {
+                m.text(&term[cut..]);
+            }
+        });
+        self.around(ITEM_BODY, |m| {
+            if filled {
+                m.parts(1)
+            }
+        });
     }
 
     fn act(&mut self) {
@@ -1300,6 +1322,75 @@ fn bundling(rng: &mut Rng, limits: Limits) -> Case {
     Case { call: Call::Figures, document: bundle, room: Vec::new(), length: 0 }
 }
 
+/// Terms that ascend.
+const TERMS: &[&str] =
+    &["", "-", "--", "--all", "--allow", "-a", "-aa", "-b", "-é", "A", "a", "z", "é", "漢", "😀"];
+
+/// One side to merge: an option list of some of the terms; sometimes not ascending, not a list, or no
+/// document.
+fn side(rng: &mut Rng, limits: Limits) -> Vec<u8> {
+    let palette = Palette { ascii: false, term_refs: true, metas: true };
+    let often = rng.pick(&[1, 2, 4, 8]);
+    let mut terms: Vec<&str> = TERMS.iter().copied().filter(|_| rng.once_in(often)).collect();
+    if rng.once_in(12) && terms.len() > 1 {
+        let at = rng.below(terms.len() - 1);
+        match rng.once_in(2) {
+            true => terms.swap(at, at + 1),
+            false => terms[at + 1] = terms[at],
+        }
+    }
+    let most = 300 * (terms.len() + 1);
+    let mut maker = Maker { rng, palette, bytes: Vec::new(), open: Vec::new(), most };
+    maker.start(LIST);
+    terms.iter().for_each(|term| maker.item(term));
+    maker.end();
+    let mut list = maker.bytes;
+    match rng.below(40) {
+        0 => misshape(rng, &list),
+        1 => document(rng, Subject::Shape, limits, 2),
+        2 => {
+            damage(rng, &mut list);
+            list
+        }
+        3 => {
+            put_record(&mut list, 1, rng.pick(&[&b""[..], b"x"]));
+            list
+        }
+        4 => list.repeat(rng.pick(&[0, 2])),
+        _ => list,
+    }
+}
+
+/// Two sides, sometimes the same, sometimes of a list about the limit of 32,768 bytes.
+fn merging(rng: &mut Rng, limits: Limits) -> Case {
+    let first = side(rng, limits);
+    let mut second = if rng.once_in(8) { first.clone() } else { side(rng, limits) };
+    let large = limits.bytes > MOST_BYTES && rng.once_in(100);
+    if large {
+        // one term that the first side has not
+        let long = |bytes: usize| {
+            let mut list = Vec::new();
+            put_record(&mut list, 0x0106, b"");
+            put_record(&mut list, 0x0104, b"");
+            put_record(&mut list, 3, "\u{10FFFF}".as_bytes());
+            put_record(&mut list, 0x0204, b"");
+            put_record(&mut list, 0x0105, b"");
+            put_record(&mut list, 1, &vec![b'x'; bytes]);
+            put_record(&mut list, 0x0205, b"");
+            put_record(&mut list, 0x0206, b"");
+            list
+        };
+        let need = crate::merge::merged(&first, &long(0)).map_or(0, |list| list.len());
+        let size = rng.within(MOST_BYTES - 1, MOST_BYTES + 1);
+        second = long(size.saturating_sub(need));
+    }
+    let need = crate::merge::merged(&first, &second).map_or(0, |list| list.len());
+    let room_len = if large { need + rng.below(40) } else { room_length(rng, need) };
+    let call = Call::Merge { first: first.len() as u64 };
+    let room = pattern(0, room_len).collect();
+    Case { call, document: [first, second].concat(), room, length: 0 }
+}
+
 /// The case of a subject with this seed and index.
 pub fn case(subject: Subject, seed: u64, index: u64, limits: Limits) -> Case {
     let rng = &mut Rng::new(seed, index);
@@ -1325,6 +1416,7 @@ pub fn case(subject: Subject, seed: u64, index: u64, limits: Limits) -> Case {
         }
         Subject::Joined => joining(rng, limits),
         Subject::Figures => bundling(rng, limits),
+        Subject::Merge => merging(rng, limits),
         Subject::Split => splitting(rng, limits),
         Subject::NextChunk => stepping(rng, limits),
         _ => rendering(rng, subject, limits),
@@ -1383,6 +1475,7 @@ pub fn owed(subject: Subject) -> &'static [u32] {
         Subject::Pages => &[0, 20, 21],
         Subject::Notes => &[0, 1, 13, 19],
         Subject::Figures => &[0, 14, 15, 16],
+        Subject::Merge => &[0, 2, 3, 4, 5, 6, 8, 13, 22, 23],
         Subject::Join => &[0, 1, 2, 3, 4, 5, 6, 7, 8, 13],
         Subject::Joined => &[0, 1, 2, 3, 4, 5, 6, 7, 8, 9, 10, 11, 13, 17, 18],
     }
@@ -1508,8 +1601,9 @@ mod tests {
     #[test]
     fn recorded_cases_keep_their_limits() {
         for (subject, name) in Subject::ALL {
-            // each of the headings has its own size
-            let limited = subject != Subject::Headings && subject.is_listed();
+            // headings and lists to merge have sizes of their own
+            let own = matches!(subject, Subject::Headings | Subject::Merge);
+            let limited = !own && subject.is_listed();
             for index in if limited { 0..300 } else { 0..0 } {
                 let case = case(subject, 11, index, Limits { bytes: 100, ..Limits::RECORDED });
                 assert!(case.document.len() <= 140, "{name}: {}", case.document.len());

@@ -12,6 +12,7 @@ use crate::buffer::{plain_chunks, Color, PlainChunk, Token};
 use crate::cases::{Answer, Call, Case};
 use crate::figures;
 use crate::joined;
+use crate::merge;
 use crate::notes;
 use crate::pages;
 use crate::rules::{self, Chunk, Kind, Operation, Record, Refusal, Renderer};
@@ -533,6 +534,10 @@ pub fn confirm(case: &Case, answer: &Answer) -> Result<(), String> {
         Call::Notes => notes::confirm(&case.document),
         Call::Figures => figures::confirm(&case.document),
         Call::RoomBound => confirm_bound(case, answer),
+        Call::Merge { first } => {
+            let (first, second) = case.document.split_at(first as usize);
+            merge::confirm(first, second)
+        }
         Call::Join => joined::confirm_join(&case.document),
         Call::Unjoin | Call::JoinedCheck | Call::JoinedRender(_) => joined::confirm_joined(case),
     }

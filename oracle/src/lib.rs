@@ -8,6 +8,7 @@
 //! - [`notes`]: 02's notes as documents.
 //! - [`joined`]: 02's joined form of a document.
 //! - [`figures`]: 02's figures of a bundle of documents.
+//! - [`merge`]: 02's option list from two.
 //! - [`kept`]: the kept Rust run beside `rules`; every disagreement is reported.
 //! - [`cases`]: one type for a call of any public function, one for its answer, and their list form.
 //! - [`generate`]: seeded documents, settings, rooms and builder calls.
@@ -32,6 +33,7 @@ pub mod figures;
 pub mod generate;
 pub mod joined;
 pub mod kept;
+pub mod merge;
 pub mod notes;
 pub mod pages;
 pub mod port;

@@ -9,7 +9,7 @@ use oracle::figures;
 use oracle::generate::{self, Limits, Subject};
 use oracle::kept::confirm;
 use oracle::port;
-use oracle::rules::{Misreading, Renderer};
+use oracle::rules::{self, Misreading, Renderer};
 use oracle::worthless::Worthless;
 
 const NOT_LINKED: &str =
@@ -19,7 +19,7 @@ const USAGE: &str = "\
 usage: oracle answer console|html|html_strict|markdown|roff
               [--width N] [--full 0|1] [--characters 0|1] [--css 0|1] [--room N] < document
        oracle record check|console|html|html_strict|markdown|roff|headings|builder|split
-              |next_chunk|tabstop|join|joined
+              |next_chunk|tabstop|join|joined|merge
               --seed S --cases N [--max-bytes B] > list
        oracle compare --seed S --cases N [--only SUBJECT,..]
        oracle selfcheck --seed S --cases N [--only SUBJECT,..]
@@ -220,6 +220,7 @@ fn run_bench(documents: impl Iterator<Item = String>) -> ExitCode {
     bench::headings();
     bench::paging();
     bench::noting();
+    bench::merging();
     bench::building_head();
     for path in &documents {
         fine &= timed(path, bench::building);

@@ -169,6 +169,10 @@ pub(crate) fn number(call: Call, document: &[u8], room: &mut [u8], stored: &mut 
             Call::Notes => c::sefgrunn_notes(d, n, r, r_len, at),
             Call::Figures => c::sefgrunn_figures(d, n, first, second, third, fourth, at),
             Call::RoomBound => c::sefgrunn_room_bound(d, n, at),
+            Call::Merge { first } => {
+                let (a, b) = document.split_at(first as usize);
+                c::sefgrunn_merge(a.as_ptr(), a.len(), b.as_ptr(), b.len(), r, r_len, at)
+            }
             Call::Join => c::sefgrunn_join(d, n, r, r_len, at),
             Call::Unjoin => c::sefgrunn_unjoin(d, n, r, r_len, at),
             Call::JoinedCheck => c::sefgrunn_joined_check(d, n, at),

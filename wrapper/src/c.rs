@@ -134,6 +134,15 @@ extern "C" {
         characters: *mut usize,
         place: *mut usize,
     ) -> u32;
+    pub fn sefgrunn_merge(
+        first: *const u8,
+        n: usize,
+        second: *const u8,
+        m: usize,
+        room: *mut u8,
+        room_len: usize,
+        at: *mut usize,
+    ) -> u32;
     pub fn sefgrunn_notes(
         notes: *const u8,
         n: usize,

@@ -90,11 +90,15 @@ pub enum Number {
     WrongHeight = 20,
     /// A page is 0 or beyond the last. Place 0.
     NoPage = 21,
+    /// A side to merge is not a single list in house shape. Place 0.
+    NotAList = 22,
+    /// The terms of a side to merge do not strictly ascend. Place 0.
+    NotAscending = 23,
 }
 
 impl Number {
     /// All of them, in order.
-    pub const ALL: [Number; 20] = [
+    pub const ALL: [Number; 22] = [
         Number::TooLong,
         Number::CutShort,
         Number::UnknownKind,
@@ -115,6 +119,8 @@ impl Number {
         Number::NotesNotUtf8,
         Number::WrongHeight,
         Number::NoPage,
+        Number::NotAList,
+        Number::NotAscending,
     ];
 
     /// The header's number.
@@ -144,6 +150,8 @@ impl Number {
             Number::NotesNotUtf8 => "notes are not UTF-8",
             Number::WrongHeight => "the height of a page is outside 1 to 200",
             Number::NoPage => "there is no such page",
+            Number::NotAList => "a side to merge is not a single list",
+            Number::NotAscending => "the terms of a side to merge do not ascend",
         }
     }
 }
@@ -491,6 +499,27 @@ pub fn figures(bundle: &[u8]) -> Result<Figures, Refusal> {
 }
 
 // ---------------------------------------------------------------------------------------------
+// Merging
+
+/// One option list from two, in a room. Each side is a single DefinitionList in house shape and nothing
+/// else, its terms strictly ascending by the bytes of their text, joined over records. The result has
+/// every term of either side once, ascending, each item's records unchanged; where both have a term,
+/// the first side's item stands. Refusals 1 to 8 of the first side, then of the second, each with
+/// places in that side ([`check`] tells which it was); 22 of the first, then of the second; 23
+/// likewise; 13 last, also for a list over 32,768 bytes.
+///
+/// Every byte of the room is written: the list, then zeros; only zeros where the call is refused.
+pub fn merge<'r>(first: &[u8], second: &[u8], room: &'r mut [u8]) -> Result<&'r [u8], Refusal> {
+    let answer = linked::merge(first, second, room);
+    made(room, answer)
+}
+
+/// [`merge`] as a `Vec`.
+pub fn merged(first: &[u8], second: &[u8]) -> Result<Vec<u8>, Refusal> {
+    in_room_of(MOST_BYTES, |room| merge(first, second, room).map(<[u8]>::len))
+}
+
+// ---------------------------------------------------------------------------------------------
 // Notes
 
 /// The document of a writer's notes, in a room. A line starting `# ` becomes a Header, one starting
@@ -791,7 +820,7 @@ mod tests {
     #[test]
     fn numbers_are_those_of_the_header() {
         let numbers: Vec<u32> = Number::ALL.map(Number::get).to_vec();
-        assert_eq!(numbers, (1..=21).filter(|&number| number != 12).collect::<Vec<u32>>());
+        assert_eq!(numbers, (1..=23).filter(|&number| number != 12).collect::<Vec<u32>>());
         for number in Number::ALL {
             assert_eq!(accepted(number.get(), 7), Err(Refusal { number, place: 7 }));
         }

@@ -182,6 +182,14 @@ pub fn figures(bundle: &[u8]) -> (u32, Figures, usize) {
     (number, found, place)
 }
 
+pub fn merge(first: &[u8], second: &[u8], room: &mut [u8]) -> (u32, usize) {
+    let (f, n, r, len, mut at) = parts(first, room);
+    let (s, m) = (second.as_ptr(), second.len());
+    // SAFETY: see above; both sides are only read, so that they may be the same.
+    let number = unsafe { c::sefgrunn_merge(f, n, s, m, r, len, &mut at) };
+    (number, at)
+}
+
 pub fn notes(notes: &[u8], room: &mut [u8]) -> (u32, usize) {
     let (d, n, r, len, mut at) = parts(notes, room);
     // SAFETY: see above.

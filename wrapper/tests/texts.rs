@@ -221,6 +221,43 @@ fn notes_as_a_document() {
     assert_eq!(sefgrunn::notes_document("").unwrap(), b"");
 }
 
+/// A list of terms, each with a body.
+fn list(items: &[(&str, &str)]) -> Vec<u8> {
+    made(|b| {
+        b.open(Block::DefinitionList)?;
+        for (term, body) in items {
+            b.open(Block::ItemTerm)?.write(Style::Literal, term)?.close(Block::ItemTerm)?;
+            b.open(Block::ItemBody)?.write(Style::Text, body)?.close(Block::ItemBody)?;
+        }
+        b.close(Block::DefinitionList)
+    })
+}
+
+#[test]
+fn lists_merged() {
+    let first = list(&[("-a", "1"), ("-c", "1"), ("é", "1")]);
+    let second = list(&[("", "2"), ("-b", "2"), ("-c", "2"), ("z", "2")]);
+    let both = [("", "2"), ("-a", "1"), ("-b", "2"), ("-c", "1"), ("z", "2"), ("é", "1")];
+    assert_eq!(sefgrunn::merged(&first, &second).unwrap(), list(&both));
+    assert_eq!(sefgrunn::merged(&first, &first).unwrap(), first);
+    assert_eq!(sefgrunn::merged(&list(&[]), &second).unwrap(), second);
+    let need = list(&both).len();
+    let mut room = vec![0xEE; need + 1];
+    assert_eq!(sefgrunn::merge(&first, &second, &mut room).unwrap(), list(&both));
+    assert_eq!(room[need..], [0]);
+    let at = |number, place| Refusal { number, place };
+    let mut room = vec![0xEE; need - 1];
+    assert_eq!(sefgrunn::merge(&first, &second, &mut room), Err(at(Number::NoRoom, 0)));
+    assert!(room.iter().all(|&byte| byte == 0));
+    let refused = |first: &[u8], second: &[u8]| sefgrunn::merged(first, second).unwrap_err();
+    let unsorted = list(&[("-b", ""), ("-a", "")]);
+    assert_eq!(refused(&first, &[&second[..], &[1]].concat()), at(Number::CutShort, second.len()));
+    assert_eq!(refused(&unsorted, &text("x")), at(Number::NotAList, 0));
+    assert_eq!(refused(b"", &first), at(Number::NotAList, 0));
+    assert_eq!(refused(&first, &unsorted), at(Number::NotAscending, 0));
+    assert_eq!(refused(&list(&[("a", ""), ("a", "")]), &first), at(Number::NotAscending, 0));
+}
+
 /// Pages joined are the text, whichever way they are asked for.
 #[test]
 fn pages_of_a_text() {

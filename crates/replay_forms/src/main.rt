@@ -1,5 +1,5 @@
 // Reads a list of calls with the oracle's answers from standard input, makes each call and compares, and prints one line with the counts:
-// the joined form of a document, moved, checked and rendered.
+// the joined form of a document, moved, checked and rendered, and one option list from two.
 ghost use Prim.Native.Nat.{_<_, _≤_};
 use console_rules::Measure;
 use console_rules::Settings;
@@ -7,8 +7,8 @@ use recorded::Call;
 use recorded::input::Next;
 use renderer::Rendered;
 
-// The calls that are counted here have numbers from 14 to 21.
-const CALLS: usize = 22;
+// The calls that are counted here have numbers from 14 to 22.
+const CALLS: usize = 23;
 
 // Whether the check of a joined form answers as a case says.
 fn checks(joined: &[u8], answer: &[u8]) -> bool {
@@ -61,6 +61,14 @@ fn make(call: Call, given: &[u8], room: &mut [u8]) -> Rendered {
     if call.number == 15 {
         return joined::unjoin(given, room);
     }
+    if call.number == 22 {
+        let first = call.setting;
+        return merge::merge(
+            base::get(given, 0, first),
+            base::get_from(given, first),
+            room,
+        );
+    }
     render(call, given, room)
 }
 
@@ -93,7 +101,7 @@ fn agrees(case: &[u8]) -> bool {
     if call.number < 14 {
         return false;
     }
-    if 21 < call.number {
+    if 22 < call.number {
         return false;
     }
     if call.number == 16 {
@@ -156,6 +164,7 @@ fn print_counts(counts: &[u64; CALLS]) {
     recorded::output::print_count(b", html_strict ", counts[19]);
     recorded::output::print_count(b", markdown ", counts[20]);
     recorded::output::print_count(b", roff ", counts[21]);
+    recorded::output::print_count(b", merge ", counts[22]);
 }
 
 fn main() {

@@ -3,3 +3,4 @@ pub mod Pages
 pub mod HouseShape
 pub mod RoomBound
 pub mod Figures
+pub mod Merge

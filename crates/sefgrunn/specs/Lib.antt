@@ -1,3 +1,4 @@
 pub mod Numbers
 pub mod HouseShape
 pub mod Figures
+pub mod Merge

@@ -24,6 +24,7 @@ ghost use Rattle.joined_render_rules.specs.Render.{joinedConsole, joinedHtml, j
 ghost use Rattle.figures.specs.Bundle.{figures};
 ghost use Rattle.sefgrunn.specs.Figures.{orNone};
 ghost use Rattle.sefgrunn.specs.HouseShape.{ShapeTold};
+ghost use Rattle.sefgrunn.specs.Merge.{MergeTold};
 ghost use Rattle.sefgrunn.specs.Numbers.{numberOf, placeOf, lengthOrPlace, orZero, lengthAfter, told, measureAsked, settings, writesIn, opensIn, closesIn};
 use buffer::Built;
 use console_bound::Lend;
@@ -616,4 +617,18 @@ pub extern "C" fn sefgrunn_em_doc(
 {
     let built = buffer_doc::em_doc(room, *len, added);
     stored(built, len, place)
+}
+
+// 02: one option list from two products.
+#[no_mangle]
+pub extern "C" fn sefgrunn_merge(
+    first: &[u8],
+    second: &[u8],
+    room: &mut [u8],
+    at: &mut usize,
+) -> u32
+    ensures { λ r. ⌜ MergeTold (now (room .entry)) (now (first .entry)) (now (second .entry)) r (now (at .exit)) (now (room .exit)) ⌝ }
+{
+    let answer = merge::merge(first, second, room);
+    told(answer, at)
 }
