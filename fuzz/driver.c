@@ -984,6 +984,31 @@ static void try_builder(uint64_t *state, const uint8_t *data, size_t n, size_t c
     }
 }
 
+/* A text written at once and in two pieces, cut where it may be cut, to the same document. */
+static void try_small_writes(uint64_t *state, const uint8_t *data, size_t n, size_t cut)
+{
+    static uint8_t once[MOST_ROOM];
+    size_t from = below(state, n + 1), size = below(state, (n - from < 200 ? n - from : 200) + 1), at = below(state, size + 1);
+    size_t room_len = cut + size + 6;
+    struct build whole = {WRITE, 1 + (uint32_t)below(state, 5), data + from, size}, first = whole, second = whole;
+
+    if (!is_utf8(data + from, at) || !is_utf8(data + from + at, size - at)) {
+        return;
+    }
+    first.n = at;
+    second.added += at, second.n -= at;
+    memset(before, BEFORE, room_len);
+    memcpy(before, data, cut);
+    size_t length = run_build(whole, room_len, cut);
+    if (length > 0) {
+        memcpy(once, before, room_len);
+        memset(before, BEFORE, room_len);
+        memcpy(before, data, cut);
+        must(run_build(second, room_len, run_build(first, room_len, cut)) == length, "small writes: another length");
+        must(memcmp(once, before, room_len) == 0, "small writes: another document");
+    }
+}
+
 /* ---- one input --------------------------------------------------------------------------------------------------------------- */
 
 /* The start of a record chosen among the first 64, so that a document so far ends between records, some blocks open. */
@@ -1024,6 +1049,7 @@ int LLVMFuzzerTestOneInput(const uint8_t *data, size_t n)
     try_figures(&state, data, n, checked);
     try_merge(&state, data, n, checked);
     try_builder(&state, data, n, below(&state, 4) == 0 ? n : record_start(&state, data, n));
+    try_small_writes(&state, data, n, record_start(&state, data, n));
     return 0;
 }
 

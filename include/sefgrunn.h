@@ -228,7 +228,8 @@ uint32_t sefgrunn_page(const uint8_t *text, size_t n, size_t height, size_t page
  * would stand), 13 when the result exceeds the room or 32,768 bytes. */
 
 /* Text in a style, one of enum sefgrunn_style; any other number is refused as 3 with place 0, first of all. The last
- * record is lengthened if it is text of that style; else a record is added, even for empty text. */
+ * record is lengthened if it is text of that style; else a record is added, even for empty text. So a text written in pieces, each of them
+ * UTF-8, leaves the same document as the text written at once. */
 uint32_t sefgrunn_write(uint8_t *room, size_t room_len, size_t *length, uint32_t style, const uint8_t *text, size_t n, size_t *place);
 
 /* The start, and the end, of a block, one of enum sefgrunn_block; any other number is refused as 3 with place 0, first of all. */

@@ -8,6 +8,7 @@ use crate::notes;
 use crate::pages;
 use crate::rules::{self, Chunk, Operation, PlainCursor, Refusal, Renderer};
 use crate::shape;
+use crate::writes;
 
 #[derive(Debug, Clone, Copy, Eq, PartialEq)]
 pub enum Call {
@@ -39,6 +40,11 @@ pub enum Call {
     /// the case's document is the first side, so many bytes, and then the second
     Merge {
         first: u64,
+    },
+    /// a text written piece by piece, up to one that is refused; `cuts` settles the pieces
+    Writes {
+        style: u32,
+        cuts: u64,
     },
 }
 
@@ -172,6 +178,10 @@ pub fn answer(case: &Case) -> Answer {
             let merged = merge::merge(first, second, case.room.len());
             fill(&mut answer.room, merged)
         }
+        Call::Writes { style, cuts } => {
+            let pieces = writes::pieces(&case.document, cuts);
+            writes::write_all(style, &mut answer.room, &mut answer.length, &pieces).map(|()| 0)
+        }
     };
     match outcome {
         Ok(at) => answer.at = at,
@@ -223,7 +233,7 @@ fn header(call: Call) -> Option<(u8, u64, bool, bool)> {
         }
         Call::Merge { first } => (22, first, false, false),
         Call::PageCount { .. } | Call::Page { .. } | Call::Shape => return None,
-        Call::Notes | Call::Figures | Call::RoomBound => return None,
+        Call::Notes | Call::Figures | Call::RoomBound | Call::Writes { .. } => return None,
     })
 }
 

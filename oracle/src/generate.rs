@@ -31,10 +31,11 @@ pub enum Subject {
     Figures,
     RoomBound,
     Merge,
+    Writes,
 }
 
 impl Subject {
-    pub const ALL: [(Subject, &'static str); 19] = [
+    pub const ALL: [(Subject, &'static str); 20] = [
         (Subject::Check, "check"),
         (Subject::Console, "console"),
         (Subject::Html, "html"),
@@ -54,12 +55,13 @@ impl Subject {
         (Subject::Figures, "figures"),
         (Subject::RoomBound, "room_bound"),
         (Subject::Merge, "merge"),
+        (Subject::Writes, "writes"),
     ];
 
     /// Whether lists have its calls.
     pub fn is_listed(self) -> bool {
         use Subject::*;
-        !matches!(self, Pages | Shape | Notes | Figures | RoomBound)
+        !matches!(self, Pages | Shape | Notes | Figures | RoomBound | Writes)
     }
 
     pub fn named(name: &str) -> Option<Subject> {
@@ -1417,6 +1419,14 @@ pub fn case(subject: Subject, seed: u64, index: u64, limits: Limits) -> Case {
         Subject::Joined => joining(rng, limits),
         Subject::Figures => bundling(rng, limits),
         Subject::Merge => merging(rng, limits),
+        // a case of the builder that writes, its text cut
+        Subject::Writes => loop {
+            let case = building(rng, limits);
+            if let Call::Build(Operation::Write { style }) = case.call {
+                let call = Call::Writes { style, cuts: rng.next() };
+                break Case { call, ..case };
+            }
+        },
         Subject::Split => splitting(rng, limits),
         Subject::NextChunk => stepping(rng, limits),
         _ => rendering(rng, subject, limits),
@@ -1469,6 +1479,7 @@ pub fn owed(subject: Subject) -> &'static [u32] {
         Subject::Roff => &[0, 1, 2, 3, 4, 5, 6, 7, 8, 11, 13],
         Subject::Headings => &[0, 13],
         Subject::Builder => &[0, 1, 2, 3, 4, 5, 6, 7, 8, 13],
+        Subject::Writes => &[0, 2, 3, 4, 5, 6, 7, 13],
         Subject::Split => &[0],
         // which chunk it is
         Subject::NextChunk => &[0, 1, 2, 3, 4],

@@ -18,6 +18,7 @@ use crate::pages;
 use crate::rules::{self, Chunk, Kind, Operation, Record, Refusal, Renderer};
 use crate::shape;
 use crate::stored::{decode, put_record, Block, Ending, Style, MOST_BYTES};
+use crate::writes;
 use crate::Doc;
 
 thread_local!(static QUIET: Cell<bool> = const { Cell::new(false) });
@@ -534,6 +535,9 @@ pub fn confirm(case: &Case, answer: &Answer) -> Result<(), String> {
         Call::Notes => notes::confirm(&case.document),
         Call::Figures => figures::confirm(&case.document),
         Call::RoomBound => confirm_bound(case, answer),
+        Call::Writes { style, cuts } => {
+            writes::confirm(style, &case.room, case.length, &case.document, cuts)
+        }
         Call::Merge { first } => {
             let (first, second) = case.document.split_at(first as usize);
             merge::confirm(first, second)

@@ -9,6 +9,7 @@
 //! - [`joined`]: 02's joined form of a document.
 //! - [`figures`]: 02's figures of a bundle of documents.
 //! - [`merge`]: 02's option list from two.
+//! - [`writes`]: 02's law of small writes.
 //! - [`kept`]: the kept Rust run beside `rules`; every disagreement is reported.
 //! - [`cases`]: one type for a call of any public function, one for its answer, and their list form.
 //! - [`generate`]: seeded documents, settings, rooms and builder calls.
@@ -41,3 +42,4 @@ pub mod rules;
 pub mod shape;
 pub mod stored;
 pub mod worthless;
+pub mod writes;

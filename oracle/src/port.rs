@@ -1,9 +1,10 @@
 //! The C interface of the port, where the feature `linked` links it.
 
 use crate::cases::{Answer, Call, Case};
-use crate::rules::Chunk;
 #[cfg(feature = "linked")]
-use crate::rules::{Operation, Renderer};
+use crate::rules::Renderer;
+use crate::rules::{Chunk, Operation};
+use crate::writes::pieces;
 
 #[cfg(feature = "linked")]
 #[path = "../../wrapper/src/c.rs"]
@@ -70,11 +71,22 @@ pub fn call(case: &Case) -> Result<Answer, String> {
     let mut room = Guarded::new(&case.room);
     let mut stored = Stored::new(case.length as usize);
     let (mut number_given, mut chunks_given) = (0, Vec::new());
-    if case.call == Call::Split {
-        chunks_given = chunks(document.inner())?;
-        stored.at = chunks_given.len();
-    } else {
-        number_given = number(case.call, document.inner(), room.inner(), &mut stored);
+    match case.call {
+        Call::Split => {
+            chunks_given = chunks(document.inner())?;
+            stored.at = chunks_given.len();
+        }
+        // the port's own writes, one after the other
+        Call::Writes { style, cuts } => {
+            let write = Call::Build(Operation::Write { style });
+            for piece in pieces(document.inner(), cuts) {
+                number_given = number(write, piece, room.inner(), &mut stored);
+                if number_given != 0 {
+                    break;
+                }
+            }
+        }
+        call => number_given = number(call, document.inner(), room.inner(), &mut stored),
     }
 
     let answer = Answer {
@@ -118,7 +130,7 @@ fn chunks(body: &[u8]) -> Result<Vec<Chunk>, String> {
     }
 }
 
-/// One call of the C interface, which has no split: the number that it returns.
+/// One call of the C interface: the number that it returns.
 #[cfg(feature = "linked")]
 pub(crate) fn number(call: Call, document: &[u8], room: &mut [u8], stored: &mut Stored) -> u32 {
     let (d, n) = (document.as_ptr(), document.len());
@@ -149,7 +161,7 @@ pub(crate) fn number(call: Call, document: &[u8], room: &mut [u8], stored: &mut 
                 Operation::Doc => c::sefgrunn_doc(r, r_len, length, d, n, at),
                 Operation::EmDoc => c::sefgrunn_em_doc(r, r_len, length, d, n, at),
             },
-            Call::Split => unreachable!("the C interface has no split"),
+            Call::Split | Call::Writes { .. } => unreachable!("made of several calls"),
             Call::NextChunk { at: from, mut ticks } => {
                 *at = from as usize;
                 let number = c::sefgrunn_next_chunk(d, n, at, &mut ticks, second, third, fourth);

@@ -755,6 +755,10 @@ impl Builder {
     }
 
     /// Text in a style. Refused: 5 for bytes that are not UTF-8, 13 over 32,768 bytes.
+    ///
+    /// A text written in pieces, each of them UTF-8, leaves the same document as the text written at
+    /// once. An empty text adds an empty record, or changes nothing where the last record is text of
+    /// that style.
     pub fn write(&mut self, style: Style, text: impl AsRef<[u8]>) -> Result<&mut Self, Refusal> {
         let answer = linked::write(&mut self.room, &mut self.length, style as u32, text.as_ref());
         self.built(answer)

@@ -132,6 +132,23 @@ fn of_the_builder() {
     unchanged(&mut builder, |b| b.doc(b""), at(Number::TooDeep, 192));
 }
 
+/// Word by word, or all at once.
+#[test]
+fn small_writes() {
+    let written = |texts: &[&str]| {
+        let mut builder = Builder::new();
+        builder.write(Style::Text, "x").unwrap();
+        for text in texts {
+            builder.write(Style::Literal, text).unwrap();
+        }
+        builder.finish().unwrap()
+    };
+    assert_eq!(written(&["é", " ", "", "b"]), written(&["é b"]));
+    assert_eq!(written(&["", "", ""]), written(&[""]));
+    assert_eq!(written(&["a", ""]), written(&["a"]));
+    assert_ne!(written(&[""]), written(&[]));
+}
+
 #[test]
 fn a_document_up_to_the_last_byte() {
     let mut builder = Builder::new();

@@ -1,0 +1,5 @@
+pub mod Twice
+pub mod Laws
+pub mod Empty
+pub mod Ends
+pub mod Two
