@@ -17,7 +17,7 @@ use Rattle.roff_read.specs.Claims.{Places}
 
 -- Inside
 
-pub since-append : {A : Type 0} (change : Kind → A → A) (ts us : List Token) (a : A) → since change (ts ++ us) a ≡ since change us (since change ts a)
+since-append : {A : Type 0} (change : Kind → A → A) (ts us : List Token) (a : A) → since change (ts ++ us) a ≡ since change us (since change ts a)
 unfolding since
 since-append change [] us a = refl
 since-append change (t ∷ ts) us a = since-append change ts us (change (t .kind) a)

@@ -66,12 +66,13 @@ module _ (p q : ℕ) (st : Style) (onward : List Token) where
     same-written start strip s =
         rw s (ap (λ (z : List ℕ). lead st start ++ fontEscape (fontOf st) ++ z ++ bytes "\\fP") (same-stripped false x y e))
 
+    -- after some records, from what is kept before them, both texts give the same bytes and leave the same
     abbrev Same : List Token → Locals → Bool → Type 0
     Same before l start =
         (escapeAll start (collected (before ++ here x) l) ≡ escapeAll start (collected (before ++ here y) l))
         × (passed (before ++ here x) l ≡ passed (before ++ here y) l)
 
-    -- where a place is inside and not captured, by what is kept before some records
+    -- this, wherever text after these records is not captured and has its line ends stripped
     abbrev At : List Token → Type 0
     At before = (l : Locals) (start : Bool) → since captures before (l .capture) ≡ false → since strips before (l .strip) ≡ true → Same before l start
 
