@@ -1,4 +1,5 @@
--- What a whole page tells: the texts outside headings in order, those inside an ItemTerm with each line end as a space. 02 asks for one record alone.
+-- What a whole page tells: the texts that are no part of a heading, in order, with line ends as spaces where they are stripped. 02 asks for one record
+-- alone.
 use Prim.Native.Nat.{ℕ}
 use mathlib.Core.Bool.{Bool, false}
 use mathlib.Core.List.{List, [], _∷_, _++_}
