@@ -15,6 +15,7 @@ use crate::joined;
 use crate::merge;
 use crate::notes;
 use crate::pages;
+use crate::readback;
 use crate::rules::{self, Chunk, Kind, Operation, Record, Refusal, Renderer};
 use crate::shape;
 use crate::stored::{decode, put_record, Block, Ending, Style, MOST_BYTES};
@@ -78,6 +79,11 @@ pub(crate) fn unjoined(text: &[u8], records: &[Record]) -> Vec<u8> {
         .collect();
     let payload = std::str::from_utf8(text).expect("accepted bodies, joined").to_string();
     Doc::from_parts(tokens, payload).stored()
+}
+
+/// The man page of records, whose blocks may be open, by the kept Rust.
+pub(crate) fn kept_roff(records: &[Record]) -> String {
+    rebuilt(records, |_, body| body.to_string()).roff()
 }
 
 /// Strict HTML has no counterpart in the Rust. Here it is the Rust's HTML of a document whose
@@ -251,6 +257,7 @@ fn confirm_rendering(renderer: Renderer, case: &Case, answer: &Answer) -> Result
         // no other renderer trims, so its text only grows
         _ if free.most != text.len() => Err("longer than its text at some moment".into()),
         Renderer::Html { full: true, css: false, strict: true } => confirm_strict(&records, text),
+        Renderer::Roff => readback::confirm(&records),
         _ => Ok(()),
     }
 }

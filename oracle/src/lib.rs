@@ -10,6 +10,7 @@
 //! - [`figures`]: 02's figures of a bundle of documents.
 //! - [`merge`]: 02's option list from two.
 //! - [`writes`]: 02's law of small writes.
+//! - [`readback`]: 02's reading back of a man page's text.
 //! - [`kept`]: the kept Rust run beside `rules`; every disagreement is reported.
 //! - [`cases`]: one type for a call of any public function, one for its answer, and their list form.
 //! - [`generate`]: seeded documents, settings, rooms and builder calls.
@@ -38,6 +39,7 @@ pub mod merge;
 pub mod notes;
 pub mod pages;
 pub mod port;
+pub mod readback;
 pub mod rules;
 pub mod shape;
 pub mod stored;
