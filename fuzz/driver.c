@@ -171,7 +171,7 @@ static const char *const names[FUNCTIONS] = {"check", "console", "html", "html_s
     "j_markdown", "j_roff", "figures", "room_bound", "merge"};
 static unsigned long calls[FUNCTIONS], accepts[FUNCTIONS], numbers[MOST_NUMBER + 1], inputs;
 
-enum { MOST_BLOCKS = 8192, OUTCOMES = 16384 };
+enum { MOST_BLOCKS = 16384, OUTCOMES = 16384 };
 /* libFuzzer keeps an input that sets one of these for the first time. */
 #ifndef ALONE
 __attribute__((section("__libfuzzer_extra_counters")))

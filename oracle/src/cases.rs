@@ -66,9 +66,9 @@ pub struct Case {
 pub struct Answer {
     /// 0 where the call is accepted, else the refusal's number; or which chunk there is
     pub number: u32,
-    /// the refusal's place, or the length of an accepted text or of what was made; the cursor after a chunk; what settles
-    /// the tabstop; the first record that is not in house shape; the room that is enough; 0 for other
-    /// accepted calls
+    /// the refusal's place; or the length of an accepted text or of what was made, the cursor after a
+    /// chunk, what settles the tabstop, the first record that is not in house shape, the room that is
+    /// enough; 0 for other accepted calls
     pub at: u64,
     /// every byte of the room after the call
     pub room: Vec<u8>,

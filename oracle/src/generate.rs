@@ -1332,7 +1332,8 @@ const TERMS: &[&str] =
 /// document.
 fn side(rng: &mut Rng, limits: Limits) -> Vec<u8> {
     let palette = Palette { ascii: false, term_refs: true, metas: true };
-    let often = rng.pick(&[1, 2, 4, 8]);
+    // few terms in lists, which are to stay small
+    let often = if limits.recorded { 5 } else { rng.pick(&[1, 2, 4, 8]) };
     let mut terms: Vec<&str> = TERMS.iter().copied().filter(|_| rng.once_in(often)).collect();
     if rng.once_in(12) && terms.len() > 1 {
         let at = rng.below(terms.len() - 1);
@@ -1341,7 +1342,7 @@ fn side(rng: &mut Rng, limits: Limits) -> Vec<u8> {
             false => terms[at + 1] = terms[at],
         }
     }
-    let most = 300 * (terms.len() + 1);
+    let most = if limits.recorded { 120 } else { 300 } * (terms.len() + 1);
     let mut maker = Maker { rng, palette, bytes: Vec::new(), open: Vec::new(), most };
     maker.start(LIST);
     terms.iter().for_each(|term| maker.item(term));
