@@ -10,7 +10,7 @@ use native.Mathlib.Omega.{arith}
 use borrow.Author.Tests.{le-leb, lt-leb, leb-true, ltb-false, le-ltb, lt-ltb}
 use Rattle.base.specs.Choice.{if_then_else_}
 use Rattle.base.specs.Result.{Result, gives, refused, _>>=_, measured}
-use Rattle.base.proofs.Choice.{if-true, if-false, and-left, same-test}
+use Rattle.base.proofs.Choice.{if-true, if-false, and-left, and-right, same-test}
 use Rattle.base.proofs.Results.{bind-gives, if-gives, else-gives, gives-same}
 use Rattle.records.specs.Records.{number}
 use Rattle.document.specs.Document.{openBlocks, short}
@@ -86,7 +86,8 @@ so-far-given room n stack e =
       opened = ap openBlocks (sym (g .2)) ∙ f .2;
     }
 
-stops : {m p : ℕ} (rule : List ℕ → List ℕ → Result (List ℕ)) (r : Result (List ℕ)) → (r >>= openBlocks) ≡ refused m p
+-- the document so far is refused: what follows is not reached
+pub stops : {m p : ℕ} (rule : List ℕ → List ℕ → Result (List ℕ)) (r : Result (List ℕ)) → (r >>= openBlocks) ≡ refused m p
     → (r >>= λ doc. openBlocks doc >>= rule doc) ≡ refused m p
 unfolding _>>=_
 stops rule (gives doc) f = rw f
@@ -96,7 +97,6 @@ module _ (room : List ℕ) (n : ℕ) (o : Opened) (e : openedAs o ≡ (soFar roo
   pub so-far-accepted : o .verdict ≡ checked.Accepted → So-far room n (take (o .depth) (o .stack))
   so-far-accepted v = so-far-given room n _ (verdict-gives _ e v)
 
-  -- what follows is not reached
   pub so-far-refused : {a : Refusal} (rule : List ℕ → List ℕ → Result (List ℕ)) → o .verdict ≡ checked.Refused a
       → (soFar room n >>= λ doc. openBlocks doc >>= rule doc) ≡ refused (refusalNumber a) (refusalPlace a)
   so-far-refused rule v = stops rule (soFar room n) (verdict-refused _ e v)
@@ -137,6 +137,9 @@ module _ (room x : List ℕ) (at n : ℕ) (h : at ≤ length room) (e : n ≡ at
 
 pub room-there : (room : List ℕ) (n : ℕ) {r : Bool} → r ≡ (leb n (length room) && leb n 32768) → r ≡ true → n ≤ length room
 room-there room n e f = leb-true n (length room) (and-left (leb n (length room)) (leb n 32768) (sym e ∙ f))
+
+pub room-small : (room : List ℕ) (n : ℕ) {r : Bool} → r ≡ (leb n (length room) && leb n 32768) → r ≡ true → n ≤ 32768
+room-small room n e f = leb-true n 32768 (and-right (leb n (length room)) (leb n 32768) (sym e ∙ f))
 
 -- Writing
 

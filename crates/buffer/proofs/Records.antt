@@ -44,7 +44,7 @@ module _ (p k : ℕ) (body rest : List ℕ) (hk : Holds 2 k) (hn : Holds 4 (leng
   unfolding size stored littleBytes
   stored-size = little-bytes 4 (length body) hn
 
-  stored-kind : (tokenAt p (stored k body ++ rest)) .kind ≡ kindOf k
+  pub stored-kind : (tokenAt p (stored k body ++ rest)) .kind ≡ kindOf k
   unfolding tokenAt stored littleBytes
   stored-kind = ap kindOf (little-bytes 2 k hk)
 

@@ -49,7 +49,7 @@ module _ (st : Style) (x : List ℕ) where
   written-pass (b ∷ s) (suc pass) h = ap (λ (l : List ℕ). b ∷ l) (written-pass s pass (omega arith))
 
   -- a record that the text does not go into
-  written-next : (l : List ℕ) → 1 ≤ length l → 6 + size l ≤ length l → oneText st l ≡ false
+  pub written-next : (l : List ℕ) → 1 ≤ length l → 6 + size l ≤ length l → oneText st l ≡ false
       → written st x 0 l ≡ take (6 + size l) l ++ written st x 0 (drop (6 + size l) l)
   unfolding written
   written-next [] h k e = let z : ⊥ = omega arith in absurd z
@@ -60,18 +60,18 @@ module _ (st : Style) (x : List ℕ) where
       ∙ ap (λ (k : ℕ). take k (b ∷ s) ++ written st x 0 (drop k (b ∷ s))) (sym n)
 
   -- the record that it goes into
-  written-last : (l : List ℕ) → 1 ≤ length l → length l ≡ 6 + size l → oneText st l ≡ true → written st x 0 l ≡ text st (drop 6 l ++ x)
+  pub written-last : (l : List ℕ) → 1 ≤ length l → length l ≡ 6 + size l → oneText st l ≡ true → written st x 0 l ≡ text st (drop 6 l ++ x)
   unfolding written tokenAt
   written-last [] h k e = let z : ⊥ = omega arith in absurd z
   written-last (b ∷ s) h k e =
       if-true _ _ e
       ∙ ap (λ (l : List ℕ). text st (l ++ x)) (take-all (size (b ∷ s)) (drop 6 (b ∷ s)) (omega (arith, length-drop 6 (b ∷ s))))
 
-one-text : (st : Style) (l : List ℕ) → length l ≡ 6 + size l → isText st ((tokenAt 0 l) .kind) ≡ true → oneText st l ≡ true
+pub one-text : (st : Style) (l : List ℕ) → length l ≡ 6 + size l → isText st ((tokenAt 0 l) .kind) ≡ true → oneText st l ≡ true
 unfolding oneText
 one-text st l e f = and-both (eq-eqb (length l) (6 + size l) e) f
 
-not-one-text : (st : Style) (l : List ℕ) → ((length l ≡ 6 + size l → ⊥) ⊎ (isText st ((tokenAt 0 l) .kind) ≡ false)) → oneText st l ≡ false
+pub not-one-text : (st : Style) (l : List ℕ) → ((length l ≡ 6 + size l → ⊥) ⊎ (isText st ((tokenAt 0 l) .kind) ≡ false)) → oneText st l ≡ false
 unfolding oneText
 not-one-text st l (inl n) = rw (ne-eqb (length l) (6 + size l) n)
 not-one-text st l (inr e) = rw e (false-right (eqb (length l) (6 + size l)))

@@ -99,12 +99,14 @@ fn last_text(document: &[u8], style: Style) -> usize
     at
 }
 
-// Text in the record that starts at `last`, which is lengthened, or new where `last` is the document's length.
-fn put_text(room: &mut [u8], len: usize, last: usize, kind: usize, text: &[u8]) -> Built
-    requires { ⌜ (last ≤ len) × (len ≤ length (now room)) × (len ≤ 32768) ⌝ }
-    ensures answer { λ r. ⌜ builtAs r ≡ measured (fit (now (room .entry)) (longer (take len (now (room .entry))) last kind (now (text .entry)))) ⌝ }
-    ensures room { λ r. ⌜ now (room .exit) ≡ kept (now (room .entry)) (fit (now (room .entry)) (longer (take len (now (room .entry))) last kind (now (text .entry)))) ⌝ }
+// Text in the record that starts at `last`, which is lengthened, or new where `last` is the document's length. Free are the answer and the
+// room where `last` passes the length, or that the room or 32,768 bytes.
+pub fn put_text(room: &mut [u8], len: usize, last: usize, kind: usize, text: &[u8]) -> Built
+    ensures { λ r. ⌜ ((last ≤ len) × (len ≤ length (now (room .entry))) × (len ≤ 32768) → (builtAs r ≡ measured (fit (now (room .entry)) (longer (take len (now (room .entry))) last kind (now (text .entry))))) × (now (room .exit) ≡ kept (now (room .entry)) (fit (now (room .entry)) (longer (take len (now (room .entry))) last kind (now (text .entry)))))) ⌝ }
 {
+    if 32768 < last {
+        return Built::Refused(Refusal::NoRoom);
+    }
     let body = last + 6;
     let to = base::max(len, body);
     if !has_room(room, to, text.len()) {
@@ -134,11 +136,9 @@ pub fn write_str(room: &mut [u8], len: usize, style: Style, text: &[u8]) -> Buil
     }
 }
 
-// A block's record after the document.
-fn put_block(room: &mut [u8], len: usize, kind: usize) -> Built
-    requires { ⌜ (len ≤ length (now room)) × (len ≤ 32768) ⌝ }
-    ensures answer { λ r. ⌜ builtAs r ≡ measured (fit (now (room .entry)) (take len (now (room .entry)) ++ stored kind [])) ⌝ }
-    ensures room { λ r. ⌜ now (room .exit) ≡ kept (now (room .entry)) (fit (now (room .entry)) (take len (now (room .entry)) ++ stored kind [])) ⌝ }
+// A block's record after the document. Free are the answer and the room where the length passes the room.
+pub fn put_block(room: &mut [u8], len: usize, kind: usize) -> Built
+    ensures { λ r. ⌜ (len ≤ length (now (room .entry)) → (builtAs r ≡ measured (fit (now (room .entry)) (take len (now (room .entry)) ++ stored kind []))) × (now (room .exit) ≡ kept (now (room .entry)) (fit (now (room .entry)) (take len (now (room .entry)) ++ stored kind [])))) ⌝ }
 {
     if !has_room(room, len, 6) {
         return Built::Refused(Refusal::NoRoom);

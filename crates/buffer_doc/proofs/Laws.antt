@@ -115,11 +115,14 @@ made room n rule new e =
       inside = g .0;
     }
 
-fit-gives : (room x new : List ℕ) → fit room x ≡ gives new → (new ≡ x) × (length x ≤ 32768)
+pub fit-gives : (room x new : List ℕ) → fit room x ≡ gives new → (new ≡ x) × (length x ≤ 32768) × (length x ≤ length room)
 unfolding fit
 fit-gives room x new e =
-    let f = if-gives _ (gives x) _ _ new e in
-    (sym (gives-same (f .1)), leb-true (length x) 32768 (and-right (leb (length x) (length room)) _ (f .0)))
+    let f = if-gives _ (gives x) _ _ new e in (
+      sym (gives-same (f .1)),
+      leb-true (length x) 32768 (and-right (leb (length x) (length room)) _ (f .0)),
+      leb-true (length x) (length room) (and-left (leb (length x) (length room)) (leb (length x) 32768) (f .0)),
+    )
 
 -- records were added
 pub record Added (doc stack y new : List ℕ) : Type 0 where

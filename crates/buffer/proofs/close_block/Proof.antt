@@ -39,14 +39,6 @@ add-put-block c =
     let args = c .before .before .before .before .before .before .before .before .before .before .args in
     omega (arith, index-of .ensures, index-small (args .b))
 
-put-block-requires : tie.Need-put-block-requires
-put-block-requires c κs =
-    let args = c .before .before .before .before .before .before .before .before .before .before .args in
-    let so-far = c .before .before .before .before .before .before .before .so-far in
-    let enum-told = c .before .before .before .before .enum-told in
-    let s = so-far-accepted (now (args .room)) (args .len) (so-far .result) (so-far .ensures .0) (enum-told .given .1) in
-    (s .inside, s .small)
-
 returns-3 : tie.Need-returns-3
 unfolding closesBlock
 returns-3 c =
@@ -63,9 +55,9 @@ returns-4 c =
     let if2 = c .before .before .before .before .if2 in
     let index-of = c .before .before .before .before .before .before .index-of in
     let o = so-far .result in
-    says-same (now (a .room)) _ (closes-in (o .stack) (o .depth)
-    (so-far-accepted (now (a .room)) (a .len) o (so-far .ensures .0) (enum-told .given .1)) (so-far .ensures .1) (a .b) (omega arith)
-    (if2 .left ∙ index-of .ensures) _ (ap (λ (i : ℕ). 0x0200 + i) (index-of .ensures))) (c .before .before .put-block .ensures)
+    let s = so-far-accepted (now (a .room)) (a .len) o (so-far .ensures .0) (enum-told .given .1) in
+    says-same (now (a .room)) _ (closes-in (o .stack) (o .depth) s (so-far .ensures .1) (a .b) (omega arith)
+    (if2 .left ∙ index-of .ensures) _ (ap (λ (i : ℕ). 0x0200 + i) (index-of .ensures))) (c .before .before .put-block .ensures (s .inside))
 
 pub close-block-spec : {M : Type 1} → statement M
 close-block-spec =
@@ -82,7 +74,7 @@ close-block-spec =
     (λ c. search needs)
     returns-2
     add-put-block
-    put-block-requires
+    (λ c κs. search needs)
     (λ c. search needs)
     returns-3
     (λ c. search needs)

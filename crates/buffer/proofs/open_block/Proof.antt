@@ -22,14 +22,6 @@ returns c =
 add-put-block : tie.Need-add-put-block
 add-put-block c = omega (arith, c .index-of .ensures, index-small (c .before .before .before .before .before .before .before .before .args .b))
 
-put-block-requires : tie.Need-put-block-requires
-put-block-requires c κs =
-    let args = c .before .before .before .before .before .before .before .before .args in
-    let so-far = c .before .before .before .before .before .so-far in
-    let enum-told = c .before .before .before .enum-told in
-    let s = so-far-accepted (now (args .room)) (args .len) (so-far .result) (so-far .ensures .0) (enum-told .given .1) in
-    (s .inside, s .small)
-
 returns-2 : tie.Need-returns-2
 unfolding opensBlock
 returns-2 c =
@@ -46,9 +38,9 @@ returns-3 c =
     let if1 = c .before .before .before .before .before .if1 in
     let index-of = c .before .before .before .index-of in
     let o = so-far .result in
-    says-same (now (a .room)) _ (opens-in (o .stack) (o .depth)
-    (so-far-accepted (now (a .room)) (a .len) o (so-far .ensures .0) (enum-told .given .1)) (so-far .ensures .1) (a .b) (if1 .left) _
-    (ap (λ (i : ℕ). 0x0100 + i) (index-of .ensures))) (c .before .before .put-block .ensures)
+    let s = so-far-accepted (now (a .room)) (a .len) o (so-far .ensures .0) (enum-told .given .1) in
+    says-same (now (a .room)) _ (opens-in (o .stack) (o .depth) s (so-far .ensures .1) (a .b) (if1 .left) _
+    (ap (λ (i : ℕ). 0x0100 + i) (index-of .ensures))) (c .before .before .put-block .ensures (s .inside))
 
 pub open-block-spec : {M : Type 1} → statement M
 open-block-spec =
@@ -61,7 +53,7 @@ open-block-spec =
     returns
     (λ c κs. search needs)
     add-put-block
-    put-block-requires
+    (λ c κs. search needs)
     (λ c. search needs)
     returns-2
     (λ c. search needs)

@@ -1,38 +1,42 @@
-use mathlib.Core.Path.{_≡_, sym, ap, _∙_}
-use mathlib.Core.List.{[]}
-use Prim.Native.Nat.{_+_}
+use mathlib.Core.Path.{_≡_, refl, sym, ap, _∙_, subst}
+use mathlib.Core.List.{List, [], _∷_, _++_}
+use mathlib.Core.Bool.{Bool, true, false, not, _&&_, _||_}
+use mathlib.Core.Logic.{⊎-elim}
+use Prim.Native.Nat.{ℕ, suc, _+_, _-_, _*_, _≤_, _<_, max}
 use native.Mathlib.Omega.{arith}
+use native.Mathlib.Numerals.{add-one}
 use borrow.Author.Needs.{needs}
-use borrow.Author.Tests.{not-true, not-false}
+use borrow.Author.Tests.{ltb-true, ltb-false, leb-true, leb-false, eqb-true, not-true, not-false, lt-ltb, le-ltb, le-leb, lt-leb, eq-eqb, ne-eqb}
 use denote.Ref.{now}
-use lib.ListN.{length}
+use lib.Dec.{leb, ltb, eqb}
+use lib.ListN.{length, take, drop, getD, set, replicate, length-set}
 use Rattle.buffer.proofs.put_block.Statement.{statement}
 use Rattle.buffer.proofs.put_block.Tie as tie
 use Rattle.records.specs.Stored.{stored}
 use Rattle.refusal.specs.declared.Refusal.the-variants as refusal
 use Rattle.base.specs.Bytes.{pasted}
 use Rattle.buffer.proofs.Pasting.{length-stored, stored-none, set-fits}
-use Rattle.buffer.proofs.Answering.{says-refused, says-length, fit-in, fit-out, room-there}
+use Rattle.buffer.proofs.Answering.{says-refused, says-length, fit-in, fit-out, room-there, room-small}
 
 returns : tie.Need-returns
 returns c =
     let a = c .before .before .before .before .args in
-    let h = c .before .before .before .before .pre .0 in
+    λ h.
     says-refused (now (a .room)) refusal.NoRoom
     (fit-out (now (a .room)) (stored (a .kind) []) (a .len) (a .len + 6) h (omega (arith, length-stored (a .kind) []))
     (sym (c .before .has-room .ensures) ∙ not-true _ (c .if1 .taken)))
 
+add-t12 : tie.Need-add-t12
+add-t12 c = omega (arith, room-small (now (c .before .before .before .before .before .before .before .before .args .room)) (c .before .before .before .before .before .before .before .before .args .len + 6) (c .before .before .before .before .before .has-room .ensures) (not-false _ (c .before .before .before .before .if1 .left)))
+
 returns-2 : tie.Need-returns-2
 returns-2 c =
     let a = c .before .before .before .before .before .before .before .before .args in
-    let pre = c .before .before .before .before .before .before .before .before .pre in
-    let has-room = c .before .before .before .before .before .has-room in
-    let if1 = c .before .before .before .before .if1 in
     let room = now (a .room) in
-    let h = pre .0 in
-    let e = has-room .ensures in
+    let e = c .before .before .before .before .before .has-room .ensures in
     let n : a .len + 6 ≡ a .len + length (stored (a .kind) []) = omega (arith, length-stored (a .kind) []) in
-    let t = not-false _ (if1 .left) in
+    let t = not-false _ (c .before .before .before .before .if1 .left) in
+    λ h.
     says-length room _ (stored (a .kind) []) (a .len) (a .len + 6) h (fit-in room (stored (a .kind) []) (a .len) (a .len + 6) h n (sym e ∙ t)) n
     (set-fits room (a .len) 0 (a .kind) (c .before .before .set-head .ensures) (room-there room (a .len + 6) e t)
     ∙ ap (pasted room (a .len)) (sym (stored-none (a .kind))))
@@ -45,6 +49,6 @@ put-block-spec =
     (λ c. search needs)
     returns
     (λ c κs. search needs)
-    (λ c. search needs)
+    add-t12
     (λ c. search needs)
     returns-2)

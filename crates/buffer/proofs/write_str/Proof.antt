@@ -39,14 +39,6 @@ last-text-requires c κs =
     let enum-told = c .before .before .before .enum-told in
     so-far-document (so-far-accepted (now (args .room)) (args .len) (so-far .result) (so-far .ensures .0) (enum-told .given .1))
 
-put-text-requires : tie.Need-put-text-requires
-put-text-requires c κs =
-    let args = c .before .before .before .before .before .before .before .before .before .before .before .before .args in
-    let so-far = c .before .before .before .before .before .before .before .before .so-far in
-    let enum-told = c .before .before .before .before .before .before .enum-told in
-    let s = so-far-accepted (now (args .room)) (args .len) (so-far .result) (so-far .ensures .0) (enum-told .given .1) in
-    (omega (arith, c .before .before .last-text .ensures .inside, length-take-le (args .len) (now (args .room)) (s .inside)), s .inside, s .small)
-
 returns-2 : tie.Need-returns-2
 unfolding writes
 returns-2 c =
@@ -66,7 +58,8 @@ returns-3 c =
     let number-of = c .before .before .before .number-of in
     let s = so-far-accepted (now (a .room)) (a .len) (so-far .result) (so-far .ensures .0) (enum-told .given .1) in
     says-same (now (a .room)) _ (writes-in s (a .style) (now (a .text)) (sym (valid .ensures) ∙ not-false _ (if1 .left)) (last-text .ensures)
-    (number-of .ensures)) (c .before .before .put-text .ensures)
+    (number-of .ensures)) (c .before .before .put-text .ensures
+    (omega (arith, last-text .ensures .inside, length-take-le (a .len) (now (a .room)) (s .inside)), s .inside, s .small))
 
 pub write-str-spec : {M : Type 1} → statement M
 write-str-spec =
@@ -82,7 +75,7 @@ write-str-spec =
     slice-aggregate-last-text
     last-text-requires
     (λ c κs. search needs)
-    put-text-requires
+    (λ c κs. search needs)
     (λ c. search needs)
     returns-2
     (λ c. search needs)

@@ -1,0 +1,4 @@
+pub mod Packing
+pub mod Places
+pub mod Holding
+pub mod Calls
