@@ -5,7 +5,7 @@ use mathlib.Core.Path.{_≡_}
 use mathlib.Core.Bool.{Bool, true, _&&_}
 use mathlib.Core.List.{List, []}
 use lib.Dec.{leb, eqb}
-use lib.ListN.{length, take, drop}
+use lib.ListN.{length, take, drop, getD}
 use Rattle.base.specs.Choice.{if_then_else_}
 use Rattle.base.specs.Result.{Result, gives, refused, _>>=_, measured}
 use Rattle.base.specs.Stack.{pushed}
@@ -19,6 +19,17 @@ use Rattle.buffer.specs.Answers.{kept}
 use Rattle.draft.specs.declared.Draft.{Draft}
 use Rattle.draft.specs.declared.Drafted.{Drafted}
 use Rattle.draft.specs.declared.Drafted.the-variants as drafted
+
+-- the draft in eight words, of which the last two say nothing: '`uint64_t draft[8]`'
+abbrev pub draftIn : List ℕ → Draft
+draftIn words = record {
+  length = getD words 0 0;
+  last = getD words 1 0;
+  style = getD words 2 0;
+  depth = getD words 3 0;
+  inner = getD words 4 0;
+  outer = getD words 5 0;
+}
 
 -- the blocks that so many hexadecimal digits of a number name by their indices, the innermost its lowest
 unfoldable pub openIn : ℕ → ℕ → List ℕ

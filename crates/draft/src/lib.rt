@@ -8,7 +8,7 @@ ghost use Rattle.base.specs.Stack.{pushed, popped};
 ghost use Rattle.records.specs.Records.{number, index};
 ghost use Rattle.buffer.specs.Builder.{writes, opensBlock, closesBlock};
 ghost use Rattle.buffer.specs.Parts.{Accepted};
-ghost use Rattle.draft.specs.Draft.{Opens, Of, Holds, plausible, Sound, Resumed, Does};
+ghost use Rattle.draft.specs.Draft.{draftIn, Opens, Of, Holds, plausible, Sound, Resumed, Does};
 ghost use Rattle.draft.specs.Parts.{Turned, textAt};
 use buffer::Built;
 use document::Checked;
@@ -311,4 +311,34 @@ pub fn close_block(room: &mut [u8], d: Draft, b: Block) -> Drafted
         Drafted::Refused(a) => Drafted::Refused(a),
         Drafted::Next(e) => add_end(room, e, b),
     }
+}
+
+// A draft in the eight words of the C interface; the last two are not used.
+pub fn draft_of(words: &[u64; 8]) -> Draft
+    ensures { λ r. ⌜ r ≡ draftIn (now (words .entry)) ⌝ }
+{
+    Draft {
+        length: words[0] as usize,
+        last: words[1] as usize,
+        style: words[2] as usize,
+        depth: words[3] as usize,
+        inner: words[4] as usize,
+        outer: words[5] as usize,
+    }
+}
+
+// The eight words of a draft.
+pub fn words_of(d: Draft) -> [u64; 8]
+    ensures { λ r. ⌜ draftIn r ≡ d ⌝ }
+{
+    [
+        d.length as u64,
+        d.last as u64,
+        d.style as u64,
+        d.depth as u64,
+        d.inner as u64,
+        d.outer as u64,
+        0,
+        0,
+    ]
 }
