@@ -4,3 +4,4 @@ pub mod HouseShape
 pub mod RoomBound
 pub mod Figures
 pub mod Merge
+pub mod Drafts

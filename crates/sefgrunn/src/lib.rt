@@ -23,6 +23,8 @@ ghost use Rattle.joined_rules.specs.Joined.{checkJoined, joinsInto, unjoinsInto
 ghost use Rattle.joined_render_rules.specs.Render.{joinedConsole, joinedHtml, joinedMarkdown, joinedRoff};
 ghost use Rattle.figures.specs.Bundle.{figures};
 ghost use Rattle.sefgrunn.specs.Figures.{orNone};
+ghost use Rattle.draft.specs.Draft.{draftIn, Sound};
+ghost use Rattle.sefgrunn.specs.Drafts.{WordsAfter, Drafts, resumes, DraftTold};
 ghost use Rattle.sefgrunn.specs.HouseShape.{ShapeTold};
 ghost use Rattle.sefgrunn.specs.Merge.{MergeTold};
 ghost use Rattle.sefgrunn.specs.Numbers.{numberOf, placeOf, lengthOrPlace, orZero, lengthAfter, told, measureAsked, settings, writesIn, opensIn, closesIn};
@@ -33,6 +35,7 @@ use console_rules::Settings;
 use console_tabstop::Searched;
 use document::Checked;
 use figures::Shelf;
+use draft::Drafted;
 use pages::Counted;
 use pages::Paged;
 use records::Kind;
@@ -631,4 +634,103 @@ pub extern "C" fn sefgrunn_merge(
 {
     let answer = merge::merge(first, second, room);
     told(answer, at)
+}
+
+// The number of what a call by a draft answers, and the new draft's words, which change only where it accepts.
+fn drafted(answer: Drafted, draft: &mut [u64; 8], place: &mut usize) -> u32
+    ensures { λ r. ⌜ DraftTold answer (now (draft .entry)) (now (draft .exit)) r (now (place .exit)) ⌝ }
+{
+    match answer {
+        Drafted::Next(d) => {
+            *draft = draft::words_of(d);
+            accepted(place)
+        }
+        Drafted::Refused(a) => refused(a, place),
+    }
+}
+
+// The draft of the document in the first `length` bytes of the room, by one check.
+#[no_mangle]
+pub extern "C" fn sefgrunn_draft_resume(
+    room: &[u8],
+    length: usize,
+    draft: &mut [u64; 8],
+    place: &mut usize,
+) -> u32
+    ensures number { λ r. ⌜ r ≡ numberOf (resumes (now (room .entry)) length) ⌝ }
+    ensures place { λ _. ⌜ now (place .exit) ≡ placeOf (resumes (now (room .entry)) length) ⌝ }
+    ensures draft { λ _. ⌜ WordsAfter (resumes (now (room .entry)) length) (now (room .entry)) (now (draft .entry)) (now (draft .exit)) ⌝ }
+{
+    let answer = draft::resume(room, length);
+    drafted(answer, draft, place)
+}
+
+// `sefgrunn_write` by a draft.
+#[no_mangle]
+pub extern "C" fn sefgrunn_draft_write(
+    room: &mut [u8],
+    draft: &mut [u64; 8],
+    style: u32,
+    text: &[u8],
+    place: &mut usize,
+) -> u32
+    ensures { λ r. ⌜ (Sound (now (room .entry)) (draftIn (now (draft .entry))) → Drafts (writesIn (now (room .entry)) ((draftIn (now (draft .entry))) .length) style (now (text .entry))) (now (room .entry)) (now (room .exit)) (now (draft .entry)) (now (draft .exit)) r (now (place .exit))) ⌝ }
+{
+    let kind = records::kind_of(style as usize);
+    match kind {
+        Kind::Text(s) => {
+            let d = draft::draft_of(draft);
+            let answer = draft::write_str(room, d, s, text);
+            drafted(answer, draft, place)
+        }
+        Kind::Start(_) => out_of_range(place),
+        Kind::End(_) => out_of_range(place),
+        Kind::Unknown => out_of_range(place),
+    }
+}
+
+// `sefgrunn_open` by a draft.
+#[no_mangle]
+pub extern "C" fn sefgrunn_draft_open(
+    room: &mut [u8],
+    draft: &mut [u64; 8],
+    block: u32,
+    place: &mut usize,
+) -> u32
+    ensures { λ r. ⌜ (Sound (now (room .entry)) (draftIn (now (draft .entry))) → Drafts (opensIn (now (room .entry)) ((draftIn (now (draft .entry))) .length) block) (now (room .entry)) (now (room .exit)) (now (draft .entry)) (now (draft .exit)) r (now (place .exit))) ⌝ }
+{
+    let kind = records::kind_of(0x0100 + block as usize);
+    match kind {
+        Kind::Text(_) => out_of_range(place),
+        Kind::Start(b) => {
+            let d = draft::draft_of(draft);
+            let answer = draft::open_block(room, d, b);
+            drafted(answer, draft, place)
+        }
+        Kind::End(_) => out_of_range(place),
+        Kind::Unknown => out_of_range(place),
+    }
+}
+
+// `sefgrunn_close` by a draft.
+#[no_mangle]
+pub extern "C" fn sefgrunn_draft_close(
+    room: &mut [u8],
+    draft: &mut [u64; 8],
+    block: u32,
+    place: &mut usize,
+) -> u32
+    ensures { λ r. ⌜ (Sound (now (room .entry)) (draftIn (now (draft .entry))) → Drafts (closesIn (now (room .entry)) ((draftIn (now (draft .entry))) .length) block) (now (room .entry)) (now (room .exit)) (now (draft .entry)) (now (draft .exit)) r (now (place .exit))) ⌝ }
+{
+    let kind = records::kind_of(0x0100 + block as usize);
+    match kind {
+        Kind::Text(_) => out_of_range(place),
+        Kind::Start(b) => {
+            let d = draft::draft_of(draft);
+            let answer = draft::close_block(room, d, b);
+            drafted(answer, draft, place)
+        }
+        Kind::End(_) => out_of_range(place),
+        Kind::Unknown => out_of_range(place),
+    }
 }
