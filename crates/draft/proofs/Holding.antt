@@ -132,7 +132,8 @@ pub record Found (document : List ℕ) (at : ℕ) (d : Draft) : Type 0 where
   pub accepted : openBlocks (take at document) ≡ gives stack
   pub runs : reads at 0 stack (drop at document) ≡ gives left
 
-abbrev Nothing : Draft
+-- zeros
+abbrev pub Nothing : Draft
 Nothing = record { length = 0; last = 0; style = 0; depth = 0; inner = 0; outer = 0 }
 
 -- zeros are the draft of a document with no record

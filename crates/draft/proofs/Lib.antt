@@ -2,3 +2,4 @@ pub mod Packing
 pub mod Places
 pub mod Holding
 pub mod Calls
+pub mod Sequence
