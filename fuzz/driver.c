@@ -165,10 +165,11 @@ static struct fenced documents, seconds, rooms, places, lengths, more[3];
 /* ---- what was reached -------------------------------------------------------------------------------------------------------- */
 
 enum function { CHECK, CONSOLE, HTML, HTML_STRICT, MARKDOWN, ROFF, WRITE, OPEN, CLOSE, DOC, EM_DOC, NEXT_CHUNK, TABSTOP, PAGE_COUNT, PAGE, HOUSE_SHAPE, NOTES, JOIN, UNJOIN,
-    JOINED_CHECK, JOINED_CONSOLE, JOINED_HTML, JOINED_HTML_STRICT, JOINED_MARKDOWN, JOINED_ROFF, FIGURES, ROOM_BOUND, MERGE, FUNCTIONS };
+    JOINED_CHECK, JOINED_CONSOLE, JOINED_HTML, JOINED_HTML_STRICT, JOINED_MARKDOWN, JOINED_ROFF, FIGURES, ROOM_BOUND, MERGE,
+    DRAFT_RESUME, DRAFT_WRITE, DRAFT_OPEN, DRAFT_CLOSE, FUNCTIONS };
 static const char *const names[FUNCTIONS] = {"check", "console", "html", "html_strict", "markdown", "roff", "write", "open", "close",
     "doc", "em_doc", "next_chunk", "tabstop", "page_count", "page", "house_shape", "notes", "join", "unjoin", "joined_check", "j_console", "j_html", "j_html_s",
-    "j_markdown", "j_roff", "figures", "room_bound", "merge"};
+    "j_markdown", "j_roff", "figures", "room_bound", "merge", "d_resume", "d_write", "d_open", "d_close"};
 static unsigned long calls[FUNCTIONS], accepts[FUNCTIONS], numbers[MOST_NUMBER + 1], inputs;
 
 enum { MOST_BLOCKS = 16384, OUTCOMES = 16384 };
@@ -1009,6 +1010,103 @@ static void try_small_writes(uint64_t *state, const uint8_t *data, size_t n, siz
     }
 }
 
+/* ---- the builder by a draft -------------------------------------------------------------------------------------------------- */
+
+enum { WORDS = 8 };
+
+static uint64_t *lend_draft(const uint64_t *words, enum placement placement)
+{
+    uint64_t *draft = (uint64_t *)(void *)lend_room(&lengths, WORDS * sizeof *words, placement);
+    memcpy(draft, words, WORDS * sizeof *words);
+    return draft;
+}
+
+/* The draft of the first bytes of the room that `before` holds; the check's own refusals, and then the words stay. */
+static uint32_t resume_draft(size_t room_len, size_t length, uint64_t *words)
+{
+    uint32_t number = 0;
+    uint64_t old[WORDS];
+    memcpy(old, words, sizeof old);
+    for (int p = ENDS_AT_FENCE; p <= STARTS_AT_FENCE; p++) {
+        const uint8_t *room = lend(&documents, before, room_len, p);
+        size_t *place = lend_number(&places, UNWRITTEN, p);
+        uint64_t *draft = lend_draft(old, p);
+        uint32_t got = sefgrunn_draft_resume(room, room_len, length, draft, place);
+        outcome(DRAFT_RESUME, got, *place);
+        must(got <= 7 || got == 13, "draft: no number of a check");
+        must(got == 0 ? draft[0] == length && *place == 0 : memcmp(draft, old, sizeof old) == 0, "draft: words after a check");
+        must(p == ENDS_AT_FENCE || (got == number && memcmp(draft, words, sizeof old) == 0), "draft: two answers");
+        number = got;
+        memcpy(words, draft, sizeof old);
+    }
+    return number;
+}
+
+/* One call by a draft on the room that `before` holds; the room after it is in `text`. */
+static struct answer by_draft(struct build b, size_t room_len, uint64_t *words, enum placement p)
+{
+    const uint8_t *added = lend(&documents, b.added, b.n, p);
+    uint8_t *room = lend_room(&rooms, room_len, p);
+    size_t *place = lend_number(&places, UNWRITTEN, p);
+    uint64_t *draft = lend_draft(words, p);
+    if (room_len > 0) {
+        memcpy(room, before, room_len);
+    }
+    uint32_t number = b.function == WRITE ? sefgrunn_draft_write(room, room_len, draft, b.kind, added, b.n, place)
+        : b.function == OPEN              ? sefgrunn_draft_open(room, room_len, draft, b.kind, place)
+                                          : sefgrunn_draft_close(room, room_len, draft, b.kind, place);
+    outcome(DRAFT_WRITE + (b.function - WRITE), number, *place);
+    must(number <= 8 || number == 13, "draft: no number of the builder");
+    memcpy(words, draft, WORDS * sizeof *words);
+    if (room_len > 0) {
+        memcpy(text, room, room_len);
+    }
+    return (struct answer){number, *place};
+}
+
+/* Calls by a draft beside the same calls without; then by drafts of random numbers, of which only the number and the fences are looked at. */
+static void try_draft(uint64_t *state, const uint8_t *data, size_t n, size_t cut)
+{
+    static uint8_t plain[MOST_ROOM];
+    uint64_t words[WORDS] = {0};
+    size_t room_len = cut + below(state, 300), length = cut;
+
+    memset(before, BEFORE, room_len);
+    memcpy(before, data, cut);
+    if (resume_draft(room_len, cut, words) != 0) {
+        return;
+    }
+    for (int turn = 0; turn < 4; turn++) {
+        struct build b = {WRITE + (enum function)below(state, 3), (uint32_t)below(state, 13), data, 0};
+        if (b.function == WRITE) {
+            size_t from = below(state, n + 1);
+            b.added = data + from;
+            b.n = below(state, (n - from < 80 ? n - from : 80) + 1);
+        }
+        size_t new = length, place = UNWRITTEN;
+        memcpy(plain, before, room_len);
+        uint32_t number = build(b, b.added, plain, room_len, &new, &place);
+        for (int p = ENDS_AT_FENCE; p <= STARTS_AT_FENCE; p++) {
+            uint64_t made_up[WORDS], given[WORDS];
+            for (int i = 0; i < WORDS; i++) {
+                made_up[i] = below(state, 2) == 0 ? words[i] : below(state, 2) == 0 ? below(state, room_len + 9) : next(state);
+            }
+            by_draft(b, room_len, made_up, p);
+            memcpy(given, words, sizeof given);
+            struct answer answer = by_draft(b, room_len, given, p);
+            must(answer.number == number && answer.at == place, "draft: another answer than without");
+            must(given[0] == new, "draft: another length than without");
+            must(room_len == 0 || memcmp(text, plain, room_len) == 0, "draft: another room than without");
+            must(number == 0 || memcmp(given, words, sizeof given) == 0, "draft: a refused call changed the draft");
+            if (p == STARTS_AT_FENCE) {
+                memcpy(words, given, sizeof given);
+            }
+        }
+        memcpy(before, plain, room_len);
+        length = new;
+    }
+}
+
 /* ---- one input --------------------------------------------------------------------------------------------------------------- */
 
 /* The start of a record chosen among the first 64, so that a document so far ends between records, some blocks open. */
@@ -1050,6 +1148,7 @@ int LLVMFuzzerTestOneInput(const uint8_t *data, size_t n)
     try_merge(&state, data, n, checked);
     try_builder(&state, data, n, below(&state, 4) == 0 ? n : record_start(&state, data, n));
     try_small_writes(&state, data, n, record_start(&state, data, n));
+    try_draft(&state, data, n, record_start(&state, data, n));
     return 0;
 }
 

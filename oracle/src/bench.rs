@@ -10,7 +10,7 @@ use std::panic::{catch_unwind, AssertUnwindSafe};
 
 use crate::buffer::{Color, Token};
 use crate::cases::Call;
-use crate::port::{number, Stored};
+use crate::port::{number, number_by_draft, Stored};
 use crate::rules::{self, Kind, Operation, Record, Renderer};
 use crate::stored::{decode, put_record, Block, Draft, Ending, Style, MOST_BYTES};
 use crate::Doc;
@@ -258,8 +258,8 @@ fn write_times(document: &[u8], doc: &Doc) -> Option<Times> {
     })
 }
 
-/// A whole document from nothing, record by record.
-fn building_times(document: &[u8], records: &[Record]) -> Option<Times> {
+/// A whole document from nothing, record by record, by a draft or without one.
+fn building_times(document: &[u8], records: &[Record], drafted: bool) -> Option<Times> {
     let bodies: Vec<&str> =
         records.iter().map(|r| std::str::from_utf8(r.body)).collect::<Result<_, _>>().ok()?;
     let mut room = vec![0; MOST_BYTES];
@@ -267,12 +267,22 @@ fn building_times(document: &[u8], records: &[Record]) -> Option<Times> {
         40,
         || {
             let start = thread_time();
-            let mut stored = Stored::new(0);
-            for record in records {
-                let call = Call::Build(operation(record));
-                assert_eq!(number(call, record.body, &mut room, &mut stored), 0);
-            }
-            assert_eq!(stored.length, document.len());
+            let length = if drafted {
+                let mut draft = [0; 8];
+                for record in records {
+                    let call = operation(record);
+                    assert_eq!(number_by_draft(call, record.body, &mut room, &mut draft), 0);
+                }
+                draft[0] as usize
+            } else {
+                let mut stored = Stored::new(0);
+                for record in records {
+                    let call = Call::Build(operation(record));
+                    assert_eq!(number(call, record.body, &mut room, &mut stored), 0);
+                }
+                stored.length
+            };
+            assert_eq!(length, document.len());
             thread_time() - start
         },
         || {
@@ -484,7 +494,7 @@ pub fn building_head() {
     println!();
     println!("the builder. write: one write_str of 8 bytes at the page's end; the port checks the whole document so far, then writes,");
     println!("the Rust appends to a String and a Vec. whole page: all of it from nothing, one call for each record, so that what the");
-    println!("port checks grows with the square of the page's size.");
+    println!("port checks grows with the square of the page's size. by a draft: the same calls, which carry what a check would find.");
     println!(
         "{:<24} {:<20} {:>6} {:>9} {:>9} {:>6}",
         "call", "page", "bytes", "port", "rust", "ratio"
@@ -496,7 +506,8 @@ pub fn building(name: &str, document: &[u8]) -> Option<()> {
     let (doc, records) = read(document)?;
     row("write", name, document.len(), write_times(document, &doc));
     let what = format!("whole page, {} calls", records.len());
-    row(&what, name, document.len(), building_times(document, &records));
+    row(&what, name, document.len(), building_times(document, &records, false));
+    row("whole page by a draft", name, document.len(), building_times(document, &records, true));
     Some(())
 }
 
@@ -558,12 +569,23 @@ pub fn growth(document: &[u8]) -> Option<()> {
                 Some(renderer) => render_times(renderer, page, &doc, None),
             };
             let Some(t) = times else { continue };
-            let (bytes, ratio) = (page.len(), t.ratio());
-            let each = t.port as f64 / bytes as f64;
-            println!("{what:<24} {bytes:>6} {:>9} {:>9} {ratio:>6.2} {each:>13.2}", t.port, t.rust);
+            grown(what, page, t);
+        }
+    }
+    for page in &pages {
+        let (_, records) = read(page).expect("records of a document, all blocks closed");
+        if let Some(t) = building_times(page, &records, true) {
+            grown("whole page by a draft", page, t);
         }
     }
     Some(())
+}
+
+/// A row of `growth`.
+fn grown(what: &str, page: &[u8], t: Times) {
+    let (bytes, ratio) = (page.len(), t.ratio());
+    let each = t.port as f64 / bytes as f64;
+    println!("{what:<24} {bytes:>6} {:>9} {:>9} {ratio:>6.2} {each:>13.2}", t.port, t.rust);
 }
 
 #[cfg(test)]

@@ -31,6 +31,8 @@ use bpaf::buffer::Doc;
 
 pub mod bench;
 pub mod cases;
+#[cfg(feature = "linked")]
+pub mod drafts;
 pub mod figures;
 pub mod generate;
 pub mod joined;

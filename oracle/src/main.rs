@@ -26,6 +26,7 @@ usage: oracle answer console|html|html_strict|markdown|roff
        oracle reach --seed S --cases N
        oracle bench DOCUMENT..
        oracle growth DOCUMENT
+       oracle drafts --seed S --cases N
        oracle notes < notes > document
        oracle bundle DOCUMENT.. > bundle
        oracle figures < bundle
@@ -107,7 +108,7 @@ fn main() -> ExitCode {
     let command = arguments.next().unwrap_or_default();
     let outcome =
         match command.as_str() {
-            "compare" | "bench" | "growth" if !port::LINKED => {
+            "compare" | "bench" | "growth" | "drafts" if !port::LINKED => {
                 println!("{NOT_LINKED}");
                 return ExitCode::from(2);
             }
@@ -122,6 +123,7 @@ fn main() -> ExitCode {
                 .and_then(|a| run_selfcheck(&a)),
             "bench" => Ok(run_bench(arguments)),
             "growth" => Arguments::read(arguments, &[]).and_then(|a| run_growth(&a)),
+            "drafts" => Arguments::read(arguments, &["seed", "cases"]).and_then(|a| run_drafts(&a)),
             "bundle" => Ok(run_bundle(arguments)),
             "figures" => Arguments::read(arguments, &[]).and_then(|a| run_figures(&a)),
             "notes" => Arguments::read(arguments, &[]).and_then(|a| run_notes(&a)),
@@ -234,6 +236,20 @@ fn run_growth(arguments: &Arguments) -> Parsed<ExitCode> {
 }
 
 /// The text of one document, or the refusal line of 01's program.
+/// Random sequences of builder calls, by a draft and without one.
+fn run_drafts(arguments: &Arguments) -> Parsed<ExitCode> {
+    arguments.no_operand()?;
+    let (seed, cases) = (arguments.number("seed", None)?, arguments.number("cases", None)?);
+    #[cfg(feature = "linked")]
+    {
+        let (calls, mismatches) = oracle::drafts::compare(seed, cases);
+        println!("{cases} sequences, {calls} calls by a draft and without, {mismatches} mismatches");
+        Ok(status(mismatches == 0))
+    }
+    #[cfg(not(feature = "linked"))]
+    unreachable!("{seed} {cases}")
+}
+
 fn run_answer(arguments: &Arguments) -> Parsed<ExitCode> {
     let width = arguments.number("width", Some(PROGRAM_WIDTH))?;
     let full = arguments.flag("full", true)?;

@@ -8,7 +8,7 @@ use crate::writes::pieces;
 
 #[cfg(feature = "linked")]
 #[path = "../../wrapper/src/c.rs"]
-mod c;
+pub(crate) mod c;
 
 /// Whether the C interface is linked.
 pub const LINKED: bool = cfg!(feature = "linked");
@@ -209,6 +209,33 @@ pub(crate) fn number(call: Call, document: &[u8], room: &mut [u8], stored: &mut 
             }
         }
     }
+}
+
+/// A call of the builder by a draft; the number that it returns.
+#[cfg(feature = "linked")]
+pub(crate) fn number_by_draft(
+    operation: Operation,
+    text: &[u8],
+    room: &mut [u8],
+    draft: &mut [u64; 8],
+) -> u32 {
+    let mut place = UNWRITTEN;
+    let (r, r_len, d) = (room.as_mut_ptr(), room.len(), draft.as_mut_ptr());
+    let (t, n, at) = (text.as_ptr(), text.len(), &mut place);
+    // SAFETY: each pointer is of a live slice or number, none overlap, and the draft has eight words.
+    unsafe {
+        match operation {
+            Operation::Write { style } => c::sefgrunn_draft_write(r, r_len, d, style, t, n, at),
+            Operation::Open { block } => c::sefgrunn_draft_open(r, r_len, d, block, at),
+            Operation::Close { block } => c::sefgrunn_draft_close(r, r_len, d, block, at),
+            Operation::Doc | Operation::EmDoc => unreachable!("not by a draft"),
+        }
+    }
+}
+
+#[cfg(not(feature = "linked"))]
+pub(crate) fn number_by_draft(_: Operation, _: &[u8], _: &mut [u8], _: &mut [u64; 8]) -> u32 {
+    unreachable!("asked only where the C interface is linked")
 }
 
 #[cfg(not(feature = "linked"))]

@@ -198,4 +198,34 @@ extern "C" {
         n: usize,
         place: *mut usize,
     ) -> u32;
+    pub fn sefgrunn_draft_resume(
+        room: *const u8,
+        room_len: usize,
+        length: usize,
+        draft: *mut u64,
+        place: *mut usize,
+    ) -> u32;
+    pub fn sefgrunn_draft_write(
+        room: *mut u8,
+        room_len: usize,
+        draft: *mut u64,
+        style: u32,
+        text: *const u8,
+        n: usize,
+        place: *mut usize,
+    ) -> u32;
+    pub fn sefgrunn_draft_open(
+        room: *mut u8,
+        room_len: usize,
+        draft: *mut u64,
+        block: u32,
+        place: *mut usize,
+    ) -> u32;
+    pub fn sefgrunn_draft_close(
+        room: *mut u8,
+        room_len: usize,
+        draft: *mut u64,
+        block: u32,
+        place: *mut usize,
+    ) -> u32;
 }

@@ -736,22 +736,24 @@ pub enum Block {
 
 /// A document under construction, in a room of [`MOST_BYTES`]. A refused call changes nothing.
 ///
-/// Each call checks the document so far, so building is for pages, not for inner loops.
+/// A draft of the document is carried from call to call, so that a call takes time by what it adds.
+/// Only [`Builder::doc`] and [`Builder::em_doc`] check the document so far.
 #[derive(Clone)]
 pub struct Builder {
     room: Vec<u8>,
-    length: usize,
+    /// Holds of the room at every call: nobody else can change either.
+    draft: linked::Draft,
 }
 
 impl Builder {
     /// An empty document.
     pub fn new() -> Self {
-        Builder { room: vec![0; MOST_BYTES], length: 0 }
+        Builder { room: vec![0; MOST_BYTES], draft: [0; 8] }
     }
 
     /// The document so far; its blocks may be open.
     pub fn document(&self) -> &[u8] {
-        &self.room[..self.length]
+        &self.room[..self.length()]
     }
 
     /// Text in a style. Refused: 5 for bytes that are not UTF-8, 13 over 32,768 bytes.
@@ -760,41 +762,43 @@ impl Builder {
     /// once. An empty text adds an empty record, or changes nothing where the last record is text of
     /// that style.
     pub fn write(&mut self, style: Style, text: impl AsRef<[u8]>) -> Result<&mut Self, Refusal> {
-        let answer = linked::write(&mut self.room, &mut self.length, style as u32, text.as_ref());
+        let answer = linked::draft_write(&mut self.room, &mut self.draft, style as u32, text.as_ref());
         self.built(answer)
     }
 
     /// The start of a block. Refused: 7 where 32 are open, 13 over 32,768 bytes.
     pub fn open(&mut self, block: Block) -> Result<&mut Self, Refusal> {
-        let answer = linked::open(&mut self.room, &mut self.length, block as u32);
+        let answer = linked::draft_open(&mut self.room, &mut self.draft, block as u32);
         self.built(answer)
     }
 
     /// The end of a block. Refused: 6 where it is not the innermost open one, 13 over 32,768 bytes.
     pub fn close(&mut self, block: Block) -> Result<&mut Self, Refusal> {
-        let answer = linked::close(&mut self.room, &mut self.length, block as u32);
+        let answer = linked::draft_close(&mut self.room, &mut self.draft, block as u32);
         self.built(answer)
     }
 
     /// A document inside an InlineBlock. Refused: 1 to 8 of the document added, with places from its
     /// own start; 7 where more than 32 blocks would be open; 13 over 32,768 bytes.
     pub fn doc(&mut self, added: &[u8]) -> Result<&mut Self, Refusal> {
-        let answer = linked::doc(&mut self.room, &mut self.length, added);
-        self.built(answer)
+        let mut length = self.length();
+        let answer = linked::doc(&mut self.room, &mut length, added);
+        self.built(answer)?.resumed(length)
     }
 
     /// As [`Builder::doc`], where the first record is not plain text. Where it is, its first line
     /// becomes Emphasis and the rest of it text in a Section3, followed by the other records; if it
     /// has one line only, the other records are left out.
     pub fn em_doc(&mut self, added: &[u8]) -> Result<&mut Self, Refusal> {
-        let answer = linked::em_doc(&mut self.room, &mut self.length, added);
-        self.built(answer)
+        let mut length = self.length();
+        let answer = linked::em_doc(&mut self.room, &mut length, added);
+        self.built(answer)?.resumed(length)
     }
 
     /// The finished document. Refused: 8 where a block is open.
     pub fn finish(mut self) -> Result<Vec<u8>, Refusal> {
         check(self.document())?;
-        self.room.truncate(self.length);
+        self.room.truncate(self.length());
         self.room.shrink_to_fit();
         Ok(self.room)
     }
@@ -802,6 +806,17 @@ impl Builder {
     fn built(&mut self, (number, place): (u32, usize)) -> Result<&mut Self, Refusal> {
         accepted(number, place)?;
         Ok(self)
+    }
+
+    /// The length so far, the draft's first word.
+    fn length(&self) -> usize {
+        self.draft[0] as usize
+    }
+
+    /// A draft of the new document, after a call that has none.
+    fn resumed(&mut self, length: usize) -> Result<&mut Self, Refusal> {
+        let answer = linked::draft_resume(&self.room, length, &mut self.draft);
+        self.built(answer)
     }
 }
 

@@ -51,24 +51,39 @@ pub fn roff(document: &[u8], room: &mut [u8]) -> (u32, usize) {
     (number, at)
 }
 
-pub fn write(room: &mut [u8], length: &mut usize, style: u32, text: &[u8]) -> (u32, usize) {
+/// A draft of the document in a room; see `include/sefgrunn.h`.
+pub type Draft = [u64; 8];
+
+pub fn draft_resume(room: &[u8], length: usize, draft: &mut Draft) -> (u32, usize) {
+    let mut place = 0;
+    let (r, len) = (room.as_ptr(), room.len());
+    // SAFETY: see above; the draft has eight words.
+    let number =
+        unsafe { c::sefgrunn_draft_resume(r, len, length, draft.as_mut_ptr(), &mut place) };
+    (number, place)
+}
+
+pub fn draft_write(room: &mut [u8], draft: &mut Draft, style: u32, text: &[u8]) -> (u32, usize) {
     let (t, n, r, len, mut place) = parts(text, room);
-    // SAFETY: see above.
-    let number = unsafe { c::sefgrunn_write(r, len, length, style, t, n, &mut place) };
+    let draft = draft.as_mut_ptr();
+    // SAFETY: see above; the draft has eight words.
+    let number = unsafe { c::sefgrunn_draft_write(r, len, draft, style, t, n, &mut place) };
     (number, place)
 }
 
-pub fn open(room: &mut [u8], length: &mut usize, block: u32) -> (u32, usize) {
+pub fn draft_open(room: &mut [u8], draft: &mut Draft, block: u32) -> (u32, usize) {
     let (_, _, r, len, mut place) = parts(&[], room);
-    // SAFETY: see above.
-    let number = unsafe { c::sefgrunn_open(r, len, length, block, &mut place) };
+    // SAFETY: see above; the draft has eight words.
+    let number =
+        unsafe { c::sefgrunn_draft_open(r, len, draft.as_mut_ptr(), block, &mut place) };
     (number, place)
 }
 
-pub fn close(room: &mut [u8], length: &mut usize, block: u32) -> (u32, usize) {
+pub fn draft_close(room: &mut [u8], draft: &mut Draft, block: u32) -> (u32, usize) {
     let (_, _, r, len, mut place) = parts(&[], room);
-    // SAFETY: see above.
-    let number = unsafe { c::sefgrunn_close(r, len, length, block, &mut place) };
+    // SAFETY: see above; the draft has eight words.
+    let number =
+        unsafe { c::sefgrunn_draft_close(r, len, draft.as_mut_ptr(), block, &mut place) };
     (number, place)
 }
 

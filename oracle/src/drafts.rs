@@ -1,0 +1,189 @@
+//! The builder's calls by a draft beside its calls without one: random sequences, each byte compared, and drafts of random numbers, after which
+//! only the bytes around the room are looked at.
+
+use crate::port::c;
+
+/// Bytes before and after the room that no call may change.
+const GUARD: usize = 64;
+/// Mismatches that are printed in full.
+const PRINTED: u64 = 20;
+
+struct Random(u64);
+
+impl Random {
+    fn next(&mut self) -> u64 {
+        self.0 = self.0.wrapping_add(0x9E37_79B9_7F4A_7C15);
+        let mut z = self.0;
+        z = (z ^ (z >> 30)).wrapping_mul(0xBF58_476D_1CE4_E5B9);
+        z = (z ^ (z >> 27)).wrapping_mul(0x94D0_49BB_1331_11EB);
+        z ^ (z >> 31)
+    }
+
+    fn below(&mut self, n: u64) -> u64 {
+        self.next() % n
+    }
+}
+
+/// A call; numbers may be out of range.
+#[derive(Debug, Clone)]
+enum Step {
+    Write(u32, Vec<u8>),
+    Open(u32),
+    Close(u32),
+}
+
+/// Room, draft, number and place after a call.
+#[derive(Debug, Clone, PartialEq)]
+struct After {
+    room: Vec<u8>,
+    length: u64,
+    number: u32,
+    place: usize,
+}
+
+fn plain(room: &[u8], length: u64, step: &Step) -> After {
+    let mut room = room.to_vec();
+    let (mut len, mut place) = (length as usize, usize::MAX);
+    let (r, n) = (room.as_mut_ptr(), room.len());
+    // SAFETY: each pointer is of a live slice or number, none overlap.
+    let number = unsafe {
+        match step {
+            Step::Write(style, text) => {
+                c::sefgrunn_write(r, n, &mut len, *style, text.as_ptr(), text.len(), &mut place)
+            }
+            Step::Open(block) => c::sefgrunn_open(r, n, &mut len, *block, &mut place),
+            Step::Close(block) => c::sefgrunn_close(r, n, &mut len, *block, &mut place),
+        }
+    };
+    After { room, length: len as u64, number, place }
+}
+
+/// The same by a draft, in a room between guards; `None` where a guard was changed.
+fn drafted(room: &[u8], draft: &mut [u64; 8], step: &Step) -> Option<After> {
+    let mut all = vec![0xA7; room.len() + 2 * GUARD];
+    all[GUARD..GUARD + room.len()].copy_from_slice(room);
+    let mut place = usize::MAX;
+    let n = room.len();
+    let inner = &mut all[GUARD..GUARD + n];
+    let (r, d) = (inner.as_mut_ptr(), draft.as_mut_ptr());
+    // SAFETY: as above; the draft has eight words.
+    let number = unsafe {
+        match step {
+            Step::Write(style, text) => {
+                c::sefgrunn_draft_write(r, n, d, *style, text.as_ptr(), text.len(), &mut place)
+            }
+            Step::Open(block) => c::sefgrunn_draft_open(r, n, d, *block, &mut place),
+            Step::Close(block) => c::sefgrunn_draft_close(r, n, d, *block, &mut place),
+        }
+    };
+    let (before, rest) = all.split_at(GUARD);
+    let (room, after) = rest.split_at(n);
+    let whole = before.iter().chain(after).all(|&b| b == 0xA7);
+    whole.then(|| After { room: room.to_vec(), length: draft[0], number, place })
+}
+
+fn resumed(room: &[u8], length: u64) -> (u32, usize, [u64; 8]) {
+    let (mut draft, mut place) = ([0; 8], usize::MAX);
+    // SAFETY: as above.
+    let number = unsafe {
+        c::sefgrunn_draft_resume(room.as_ptr(), room.len(), length as usize, draft.as_mut_ptr(), &mut place)
+    };
+    (number, place, draft)
+}
+
+fn step(random: &mut Random) -> Step {
+    const TEXTS: [&[u8]; 9] =
+        [b"", b"a", b"port", "\u{e9}".as_bytes(), b"one two\nthree", &[0xFF], &[0xC3], "\u{1F600}x".as_bytes(), b"--verbose, and more of it"];
+    let block = if random.below(40) == 0 { random.below(300) as u32 } else { random.below(4) as u32 };
+    match random.below(10) {
+        0..=4 => {
+            let style = if random.below(40) == 0 { random.below(300) as u32 } else { 1 + random.below(3) as u32 };
+            Step::Write(style, TEXTS[random.below(TEXTS.len() as u64) as usize].to_vec())
+        }
+        5..=7 => Step::Open(block),
+        _ => Step::Close(block),
+    }
+}
+
+/// A draft of random numbers, small ones often.
+fn made_up(random: &mut Random, draft: [u64; 8]) -> [u64; 8] {
+    let mut made = draft;
+    for word in &mut made {
+        match random.below(6) {
+            0 => *word = random.below(8),
+            1 => *word = random.below(700),
+            2 => *word = random.next(),
+            3 => *word = u64::MAX - random.below(8),
+            _ => {}
+        }
+    }
+    made
+}
+
+/// Runs so many sequences; how many calls were compared, and how many differ.
+pub fn compare(seed: u64, cases: u64) -> (u64, u64) {
+    let mut random = Random(seed);
+    let (mut calls, mut mismatches) = (0, 0);
+    let say = |mismatches: &mut u64, what: &str, of: &dyn std::fmt::Debug| {
+        *mismatches += 1;
+        if *mismatches <= PRINTED {
+            println!("{what}: {of:?}");
+        }
+    };
+    for _ in 0..cases {
+        let size = match random.below(4) {
+            0 => random.below(40),
+            1 => random.below(300),
+            _ => 300 + random.below(900),
+        };
+        let mut room: Vec<u8> = (0..size).map(|_| random.next() as u8).collect();
+        let mut draft = [0; 8];
+        for _ in 0..random.below(60) {
+            let step = step(&mut random);
+            let wanted = plain(&room, draft[0], &step);
+            // a draft that the quick test refutes is as good as one that holds
+            if random.below(16) == 0 {
+                let length = draft[0];
+                let kept = draft;
+                let at = if random.below(2) == 0 { 1 } else { 3 };
+                draft[at] = 33 + random.below(1 << 40) + length;
+                if length == 0 && at == 1 {
+                    draft = kept;
+                }
+            }
+            let before = draft;
+            let Some(given) = drafted(&room, &mut draft, &step) else {
+                say(&mut mismatches, "outside the room", &(&step, before));
+                continue;
+            };
+            calls += 1;
+            if given != wanted {
+                say(&mut mismatches, "differs", &(&step, before, given.number, given.place, wanted.number, wanted.place));
+            }
+            if given.number != 0 && draft != before {
+                say(&mut mismatches, "refused, and another draft", &(&step, before, draft));
+            }
+            let (number, place, found) = resumed(&wanted.room, wanted.length);
+            if number != 0 || place != 0 || (given.number == 0 && found[..6] != draft[..6]) {
+                say(&mut mismatches, "not the draft of a check", &(&step, number, found, draft));
+            }
+            room = wanted.room;
+            draft = found;
+            // drafts of any numbers: the bytes around the room stay, and the answer is one of 01's
+            let mut wild = made_up(&mut random, draft);
+            let numbers = wild;
+            match drafted(&room, &mut wild, &step) {
+                Some(after) if after.number <= 13 => calls += 1,
+                _ => say(&mut mismatches, "a draft of random numbers", &(&step, numbers)),
+            }
+        }
+        // and of any bytes: the check's refusals
+        let length = random.below(size + 20);
+        let (number, place, _) = resumed(&room, length);
+        let probe = plain(&room, length, &Step::Write(1, Vec::new()));
+        if probe.number != 13 && (number, place) != (probe.number, if probe.number == 0 { 0 } else { probe.place }) {
+            say(&mut mismatches, "resume refuses otherwise", &(length, number, place, probe.number, probe.place));
+        }
+    }
+    (calls, mismatches)
+}
