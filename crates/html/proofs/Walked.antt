@@ -23,7 +23,7 @@ use Rattle.records.specs.declared.Kind.the-variants as kind
 use Rattle.records.specs.declared.Head.{Head}
 use Rattle.document.proofs.Walks.{Accepted-at, accepted-at-0, check-gives, open-known, text-next, array-start, array-end}
 use Rattle.splitter.specs.Split.{split}
-use Rattle.splitter.specs.Answers.{chunkOf, placedFrom, start}
+use Rattle.splitter.specs.Answers.{chunkOf, placedFrom, cursor, start}
 use Rattle.splitter.specs.declared.Cursor.{Cursor}
 use Rattle.splitter.specs.declared.Piece.{Piece}
 use Rattle.splitter.proofs.Answers.{Took}
@@ -33,12 +33,14 @@ use Rattle.skip.specs.Answers.{held}
 use Rattle.skip.proofs.Counter.{held-fits, skip-start-most, skip-end-most}
 use Rattle.renderer.proofs.Shown.{shown-in, shown-then, shown-write, shown-changed}
 use Rattle.renderer.proofs.Leads.{Leads, leads-start, chunksThen}
-use Rattle.html_rules.specs.Html.{State, plain, initial, styled, skip, inList, opening, closing, startTag, endTag, change, chunk, turn, finish}
+use Rattle.html_rules.specs.Html.{State, plain, initial, styled, skip, inList, opening, closing, startTag, endTag, escaped, change, chunk, turn, finish}
 use Rattle.html_rules.specs.declared.Html.{Html}
 use Rattle.html_marks.specs.Parts.{isMeta}
 use Rattle.html_rules.proofs.Rest as walking
 use Rattle.html_rules.proofs.Rest.{chunks-on, chunks-stop, chunks-done}
 use Rattle.html_tags.specs.Parts.{tags as allTags, chunkText, closed, blockText}
+use Rattle.html_lines.specs.Lines.{plainLine}
+use Rattle.html_lines.proofs.Chunks.{line-leads}
 use Rattle.html.proofs.Turns.{start-is, end-is, start-meta, end-meta, hidden-is, text-is, finish-is, chunk-on, chunk-last}
 
 module _ (limit : ℕ) (strict full : Bool) (sheet tags document : List ℕ) where
@@ -76,6 +78,15 @@ module _ (limit : ℕ) (strict full : Bool) (sheet tags document : List ℕ) whe
   pub record InBody (room : List ℕ) (at len : ℕ) (lay : Html) (kept y : List ℕ) (c : Cursor) : Type 0 where
     pub few : lay .skip ≤ at
     pub leads : Leads whole (chunksThen full (anywhere (chunk limit strict full)) (rest at) (placedFrom y c)) (shown room len kept lay)
+
+  -- what was left of a line is written
+  pub body-line : {room : List ℕ} {at len : ℕ} {lay : Html} {kept y : List ℕ} {c : Cursor} → InBody room at len lay kept y c
+      → (new : List ℕ) (n k : ℕ) → length room ≡ limit → k ≡ c .at + length (plainLine y c)
+      → seen new n ≡ (seen room len >>= extended (length room) (escaped strict (plainLine y c))) → InBody new at n lay kept y (cursor k (c .code))
+  body-line {room} {at} {len} {lay} {kept} {y} {c} i new n k s e w = record {
+    few = i .few;
+    leads = rw e (line-leads limit strict full y (rest at) whole room new len n kept lay c s (i .leads) w);
+  }
 
   -- a chunk that goes on
   pub body-on : {room : List ℕ} {at len : ℕ} {lay : Html} {kept y : List ℕ} {c : Cursor} → InBody room at len lay kept y c

@@ -115,6 +115,9 @@ fn walk(
                     code: Code::No,
                 };
                 'chunks: loop {
+                    let line = html_lines::put_line(room, len, body, cursor, strict);
+                    len = line.len;
+                    cursor.at = line.at;
                     let Step::Take(piece, after) = splitter::step_at(body, cursor) else {
                         break 'chunks;
                     };

@@ -163,7 +163,7 @@ pub fn meet_meta(room: &mut [u8], len: usize, tags: &[u8], lay: Html, at: usize)
 }
 
 // A chunk's bytes.
-fn put_text(room: &mut [u8], len: usize, text: &[u8], strict: bool) -> usize
+pub fn put_text(room: &mut [u8], len: usize, text: &[u8], strict: bool) -> usize
     ensures { λ r. ⌜ seen (now (room .exit)) r ≡ bind (seen (now (room .entry)) len) (extended (length (now (room .entry))) (escaped strict (now (text .entry)))) ⌝ }
 {
     if strict {

@@ -9,7 +9,7 @@ use Rattle.html.proofs.walk.Tie as tie
 use Rattle.splitter.specs.Answers.{start}
 use Rattle.splitter.proofs.Answers.{took, ended}
 use Rattle.renderer.specs.Rendered.{Inside}
-use Rattle.html.proofs.Walked.{On, InBody, on-start, on-out, on-end, on-unknown, on-start-low, on-entered, on-end-low, on-left, on-meta, on-hidden, on-body, on-done, on-stopped, body-on, body-at}
+use Rattle.html.proofs.Walked.{On, InBody, on-start, on-out, on-end, on-unknown, on-start-low, on-entered, on-end-low, on-left, on-meta, on-hidden, on-body, on-done, on-stopped, body-line, body-on, body-at}
 
 -- The chunks of a body: the room keeps its length, the style and the skip counter stay, and what is shown and the chunks from the cursor
 -- on, with the records after the body, give the whole. What is left of the body falls.
@@ -112,28 +112,31 @@ records-again-4 c =
 
 records-less-5 : tie.Need-records-less-5 Inv-chunks μ-chunks Inv-records μ-records
 records-less-5 c =
-    let r = read (c .before .before .before) in
+    let r = read (c .before .before .before .before .before .before .before) in
     let k = r .record-at .ensures .low (r .before .before .records-test .taken) in
     omega (arith, r .record-at .ensures .order, r .record-at .ensures .high)
 
 records-less-6 : tie.Need-records-less-6 Inv-chunks μ-chunks Inv-records μ-records
 records-less-6 c =
-    let r = read (c .before .before .before .before .before .before .before) in
+    let r = read (c .before .before .before .before .before .before .before .before .before .before .before) in
     let k = r .record-at .ensures .low (r .before .before .records-test .taken) in
     omega (arith, r .record-at .ensures .order, r .record-at .ensures .high)
 
 chunks-less : tie.Need-chunks-less Inv-chunks μ-chunks Inv-records μ-records
 chunks-less c =
-    let t = took _ _ _ _ _ (c .before .before .before .before .before .before .before .piece .given .1)
-    (c .before .before .before .before .before .before .before .before .before .step-at .ensures) in omega (arith, t .further, t .short)
+    let g = c .before .before .before .before .before .before .before .before .before .before .before .before .put-line in
+    let t = took _ _ _ _ _ (c .before .before .before .before .before .before .before .piece .given .1) (c .before .before .before .before .before .before .before .before .before .step-at .ensures) in
+    omega (arith, g .ensures .1, t .further, t .short)
 
 chunks-again : tie.Need-chunks-again Inv-chunks μ-chunks Inv-records μ-records
 chunks-again c =
-    let i = c .before .before .before .before .before .before .before .before .before .before .chunks .inv in (
-      c .before .before .put-chunk .kept .0 ∙ i .0,
+    let i = c .before .before .before .before .before .before .before .before .before .before .before .before .before .before .chunks .inv in
+    let g = c .before .before .before .before .before .before .before .before .before .before .before .before .put-line in
+    let j = body-line _ _ _ _ _ _ (i .2) (g .last .0) (g .result .len) (g .result .at) (i .0) (g .ensures .1) (g .ensures .0) in (
+      c .before .before .put-chunk .kept .0 ∙ g .kept .0 ∙ i .0,
       i .1,
-      body-on _ _ _ _ _ _ (i .2) (took _ _ _ _ _ (c .before .before .before .before .before .before .before .piece .given .1)
-          (c .before .before .before .before .before .before .before .before .before .step-at .ensures)) _ _ (i .0)
+      body-on _ _ _ _ _ _ j (took _ _ _ _ _ (c .before .before .before .before .before .before .before .piece .given .1)
+          (c .before .before .before .before .before .before .before .before .before .step-at .ensures)) _ _ (g .kept .0 ∙ i .0)
           (sym (c .before .before .before .before .before .ends-body .ensures _) ∙ c .before .before .before .before .if4 .left)
           (c .before .before .put-chunk .ensures),
     )
@@ -202,24 +205,29 @@ chunks-holds c =
 
 records-again-5 : tie.Need-records-again-5 Inv-chunks μ-chunks Inv-records μ-records
 records-again-5 c =
-    let b = c .before .before .before in
-    let r = read b in
-    let o = r .before .before .before .records .inv in
-    let i = b .chunks .inv in
-    let e = changed b .change-style .kept .0 ∙ o .same in
-    rw (i .1)
-    (on-done _ _ _ _ _ _ o (r .record-at .ensures) (r .before .before .records-test .taken) (told b .kind3 .given .1) (i .0 ∙ e) (body-at (sym e) (i .2))
-    (ended _ _ _ (c .enum-told2 .given .1) (c .before .before .step-at .ensures)))
-
-records-again-6 : tie.Need-records-again-6 Inv-chunks μ-chunks Inv-records μ-records
-records-again-6 c =
     let b = c .before .before .before .before .before .before .before in
     let r = read b in
     let o = r .before .before .before .records .inv in
     let i = b .chunks .inv in
+    let g = c .before .before .before .before .before .put-line in
+    let j = body-line _ _ _ _ _ _ (i .2) (g .last .0) (g .result .len) (g .result .at) (i .0) (g .ensures .1) (g .ensures .0) in
     let e = changed b .change-style .kept .0 ∙ o .same in
     rw (i .1)
-    (on-stopped _ _ _ _ _ _ o (r .record-at .ensures) (r .before .before .records-test .taken) (told b .kind3 .given .1) (i .0 ∙ e) (body-at (sym e) (i .2))
+    (on-done _ _ _ _ _ _ o (r .record-at .ensures) (r .before .before .records-test .taken) (told b .kind3 .given .1) (g .kept .0 ∙ i .0 ∙ e)
+    (body-at (sym e) j) (ended _ _ _ (c .enum-told2 .given .1) (c .before .before .step-at .ensures)))
+
+records-again-6 : tie.Need-records-again-6 Inv-chunks μ-chunks Inv-records μ-records
+records-again-6 c =
+    let b = c .before .before .before .before .before .before .before .before .before .before .before in
+    let r = read b in
+    let o = r .before .before .before .records .inv in
+    let i = b .chunks .inv in
+    let g = c .before .before .before .before .before .before .before .before .before .put-line in
+    let j = body-line _ _ _ _ _ _ (i .2) (g .last .0) (g .result .len) (g .result .at) (i .0) (g .ensures .1) (g .ensures .0) in
+    let e = changed b .change-style .kept .0 ∙ o .same in
+    rw (i .1)
+    (on-stopped _ _ _ _ _ _ o (r .record-at .ensures) (r .before .before .records-test .taken) (told b .kind3 .given .1) (g .kept .0 ∙ i .0 ∙ e)
+    (body-at (sym e) j)
     (took _ _ _ _ _ (c .before .before .before .before .piece .given .1) (c .before .before .before .before .before .before .step-at .ensures))
     (sym (c .before .before .ends-body .ensures _) ∙ c .before .if4 .taken) _ (c .enable-number .ensures))
 
@@ -266,6 +274,7 @@ walk-spec =
     (λ c κs. search needs)
     (λ c κs. search needs)
     chunks-holds
+    (λ c κs. search needs)
     (λ c κs. search needs)
     (λ c. search needs)
     (λ c. search needs)
