@@ -43,7 +43,8 @@ use Rattle.buffer.proofs.Blocks.{add-refused, add-given}
 closes-pushed : (p i : ℕ) (stack : List ℕ) → closes p i (pushed i stack) ≡ gives stack
 unfolding closes pushed popped top
 closes-pushed p i stack =
-    if-true _ _ (and-both (le-leb 1 (length (stack ++ i ∷ [])) (omega (arith, length-append stack (i ∷ [])))) (eq-eqb (top (stack ++ i ∷ [])) i (top-over stack (i ∷ []) (omega arith))))
+    if-true _ _ (and-both (le-leb 1 (length (stack ++ i ∷ [])) (omega (arith, length-append stack (i ∷ []))))
+    (eq-eqb (top (stack ++ i ∷ [])) i (top-over stack (i ∷ []) (omega arith))))
     ∙ ap gives (popped-over stack (i ∷ []) (omega arith) ∙ append-nil stack)
 
 module _ (p : ℕ) (b : Block) (x stack : List ℕ) where
@@ -143,8 +144,10 @@ module _ {room : List ℕ} {len depth : ℕ} (ready : Ready room len depth) (x :
           ∙ around-deep len block.InlineBlock x stack (omega arith) q (f (pushed 8 stack) (length-pushed 8 stack ∙ ap (λ (k : ℕ). k + 1) e))));
     }
 
-    module _ (f : (stack : List ℕ) → length stack ≡ depth + 1 → reads (len + 6) 0 stack x ≡ gives stack) (n : ℕ) (c : n ≡ len + length (around block.InlineBlock x)) where
-      added : (stack : List ℕ) → length stack ≡ depth → add room (take len room) stack (around block.InlineBlock x) ≡ fit room (take len room ++ around block.InlineBlock x)
+    module _ (f : (stack : List ℕ) → length stack ≡ depth + 1 → reads (len + 6) 0 stack x ≡ gives stack) (n : ℕ)
+        (c : n ≡ len + length (around block.InlineBlock x)) where
+      added : (stack : List ℕ) → length stack ≡ depth
+          → add room (take len room) stack (around block.InlineBlock x) ≡ fit room (take len room ++ around block.InlineBlock x)
       added stack e =
           add-given room (take len room) stack (around block.InlineBlock x) stack
           (ap (λ (p : ℕ). reads p 0 stack (around block.InlineBlock x)) place
@@ -158,7 +161,8 @@ module _ {room : List ℕ} {len depth : ℕ} (ready : Ready room len depth) (x :
       pub adds-written : (new : List ℕ) → (leb n (length room) && leb n 32768) ≡ true → new ≡ pasted room len (around block.InlineBlock x)
           → Adds x len depth room new (built.Length n)
       adds-written new t w = record {
-        does = λ stack e. says-length room new (around block.InlineBlock x) len n (ready .inside) (added stack e ∙ fit-in room (around block.InlineBlock x) len n (ready .inside) c t) c w;
+        does = λ stack e. says-length room new (around block.InlineBlock x) len n (ready .inside)
+            (added stack e ∙ fit-in room (around block.InlineBlock x) len n (ready .inside) c t) c w;
       }
 
 pub adds-same : {x y : List ℕ} {len depth : ℕ} {room new : List ℕ} {r : Built} → x ≡ y → Adds x len depth room new r → Adds y len depth room new r
@@ -172,7 +176,8 @@ verdict-over checked.Accepted stack e = ap (λ (r : Result (List ℕ)). r >>= λ
 verdict-over (checked.Refused a) stack e = ap (λ (r : Result (List ℕ)). r >>= λ _. gives stack) e
 
 module _ (o : Opened) {r : Result (List ℕ)} (e : openedAs o ≡ r) where
-  pub admitted-refused : {a : Refusal} (rule : List ℕ → Result (List ℕ)) → o .verdict ≡ checked.Refused a → refused (refusalNumber a) (refusalPlace a) ≡ (r >>= rule)
+  pub admitted-refused : {a : Refusal} (rule : List ℕ → Result (List ℕ)) → o .verdict ≡ checked.Refused a
+      → refused (refusalNumber a) (refusalPlace a) ≡ (r >>= rule)
   unfolding _>>=_
   admitted-refused rule v = sym (ap (λ (x : Result (List ℕ)). x >>= rule) (verdict-refused _ e v))
 
@@ -193,7 +198,8 @@ unfolding _>>=_
 through-open (gives stack) added rule e = through-added added stack (rule stack) e
 through-open (refused m q) added rule e = e
 
-through : (r added : Result (List ℕ)) (rule : List ℕ → List ℕ → Result (List ℕ)) {n p : ℕ} → (r >>= openBlocks >>= λ stack. added >>= λ _. gives stack) ≡ refused n p
+through : (r added : Result (List ℕ)) (rule : List ℕ → List ℕ → Result (List ℕ)) {n p : ℕ}
+    → (r >>= openBlocks >>= λ stack. added >>= λ _. gives stack) ≡ refused n p
     → (r >>= λ doc. openBlocks doc >>= λ stack. added >>= λ _. rule doc stack) ≡ refused n p
 unfolding _>>=_
 through (gives doc) added rule e = through-open (openBlocks doc) added (rule doc) e
@@ -221,6 +227,7 @@ module _ (room : List ℕ) (n : ℕ) (x : List ℕ) (o : Opened) (e : openedAs o
   pub admits-ready : o .depth ≤ 32 → Admitted → Ready room n (o .depth)
   admits-ready h a = record { inside = a .so .inside; small = a .so .small; shallow = h }
 
-  pub adds-on : (a : Admitted) (records : List ℕ) → add room (take n room) (take (o .depth) (o .stack)) (around block.InlineBlock records) ≡ addsAs room n x records
+  pub adds-on : (a : Admitted) (records : List ℕ)
+      → add room (take n room) (take (o .depth) (o .stack)) (around block.InlineBlock records) ≡ addsAs room n x records
   unfolding addsAs _>>=_
   adds-on a records = sym (rw (a .so .is, a .so .opened, a .checks))

@@ -38,7 +38,8 @@ use Rattle.records.proofs.Tables.{index-small}
 use Rattle.document.proofs.Walks.{openAfter, accept-gives, first-gives, check-gives}
 use Rattle.buffer.specs.Builder.{isText, oneText, written, writes, soFar, fit, add, emphasised, opensBlock, closesBlock, addsAs, addsDoc, addsEmDoc}
 use Rattle.buffer.proofs.Pasting.{length-stored}
-use Rattle.buffer.proofs.Records.{Holds, Holds-kind, Holds-size, number-small, reads-text, same-size, same-token, same-first, size-before, token-before, stored-body, stored-after, reads-before, reads-start, reads-finish}
+use Rattle.buffer.proofs.Records.{Holds, Holds-kind, Holds-size, number-small, reads-text, same-size, same-token, same-first, size-before}
+use Rattle.buffer.proofs.Records.{token-before, stored-body, stored-after, reads-before, reads-start, reads-finish}
 use Rattle.buffer.proofs.Answering.{soFar-gives}
 use Rattle.buffer_doc.proofs.Nesting.{accept-over, accept-deep}
 use Rattle.buffer_doc.proofs.Adding.{around-shut, around-deep, around-given}
@@ -103,7 +104,8 @@ pub record Made (room : List ℕ) (n : ℕ) (rule : List ℕ → List ℕ → Re
   pub result : rule (take n room) stack ≡ gives new
   pub inside : n ≤ length room
 
-pub made : (room : List ℕ) (n : ℕ) (rule : List ℕ → List ℕ → Result (List ℕ)) (new : List ℕ) → (soFar room n >>= λ doc. openBlocks doc >>= rule doc) ≡ gives new → Made room n rule new
+pub made : (room : List ℕ) (n : ℕ) (rule : List ℕ → List ℕ → Result (List ℕ)) (new : List ℕ)
+    → (soFar room n >>= λ doc. openBlocks doc >>= rule doc) ≡ gives new → Made room n rule new
 made room n rule new e =
     let f = bind-gives (soFar room n) _ new e in
     let g = soFar-gives room n (f .0) (f .1) in
@@ -160,7 +162,8 @@ over (b ∷ s) base p q zero inner left h e =
     ⊎-elim
     (λ (m : length base + length (openAfter k inner) ≤ 32).
     let g : first q (base ++ inner) (b ∷ s) ≡ gives (base ++ openAfter k inner) = if-true _ _ (w .0) ∙ accept-over q base inner k y (a .0) (a .1) m in
-    subst (λ (r : Result (List ℕ)). ((r >>= λ after. reads (q + 1) n after s) ≡ gives (base ++ left)) ⊎ ((i : ℕ) × ((r >>= λ after. reads (q + 1) n after s) ≡ refused 7 i))) (sym g)
+    subst (λ (r : Result (List ℕ)).
+    ((r >>= λ after. reads (q + 1) n after s) ≡ gives (base ++ left)) ⊎ ((i : ℕ) × ((r >>= λ after. reads (q + 1) n after s) ≡ refused 7 i))) (sym g)
     (over s base (p + 1) (q + 1) n (openAfter k inner) left m (ap (λ (l : List ℕ). reads (p + 1) n l s) (sym (a .2)) ∙ f .2)))
     (λ (m : 32 < length base + length (openAfter k inner)).
     inr (q, ap (λ (r : Result (List ℕ)). r >>= λ after. reads (q + 1) n after s) (if-true _ _ (w .0) ∙ accept-deep q base inner k y (a .0) (a .1) h m)))
@@ -174,7 +177,8 @@ nested-doc : (x : List ℕ) (p : ℕ) → reads p 0 [] x ≡ gives [] → Nested
 nested-doc x p o q stack h =
     subst (λ (l : List ℕ). (reads q 0 l x ≡ gives l) ⊎ ((i : ℕ) × (reads q 0 l x ≡ refused 7 i))) (append-nil stack) (over x stack p q 0 [] [] (omega arith) o)
 
-around-either : (b : Block) (x : List ℕ) → Nested x → (p : ℕ) (stack : List ℕ) → (reads p 0 stack (around b x) ≡ gives stack) ⊎ ((i : ℕ) × (reads p 0 stack (around b x) ≡ refused 7 i))
+around-either : (b : Block) (x : List ℕ) → Nested x → (p : ℕ) (stack : List ℕ)
+    → (reads p 0 stack (around b x) ≡ gives stack) ⊎ ((i : ℕ) × (reads p 0 stack (around b x) ≡ refused 7 i))
 around-either b x n p stack =
     ⊎-elim
     (λ (h : 32 ≤ length stack). inr (p, around-shut p b x stack h))
@@ -200,7 +204,8 @@ module _ (p : ℕ) (b : Block) (x stack after : List ℕ) (n : Nested x) (e : re
       (λ (h : 32 ≤ length stack). absurd (refused-gives (sym (around-shut p b x stack h) ∙ e)))
       (λ (h : length stack < 32).
       ⊎-elim
-      (λ (g : reads (p + 6) 0 (pushed (index b) stack) x ≡ gives (pushed (index b) stack)). text-around b x (p + 6) (pushed (index b) stack) (pushed (index b) stack) g)
+      (λ (g : reads (p + 6) 0 (pushed (index b) stack) x ≡ gives (pushed (index b) stack)).
+      text-around b x (p + 6) (pushed (index b) stack) (pushed (index b) stack) g)
       (λ (g : (i : ℕ) × (reads (p + 6) 0 (pushed (index b) stack) x ≡ refused 7 i)). absurd (refused-gives (sym (around-deep p b x stack h (g .0) (g .1)) ∙ e)))
       (n (p + 6) (pushed (index b) stack) (omega (arith, length-pushed (index b) stack))))
       (le-or-lt 32 (length stack))
@@ -282,7 +287,8 @@ nested-em x h r c = go (isText style.Text (h .kind)) refl
     go true e =
         let n = length (line (part x 6 (h .next))) in
         ⊎-elim
-        (λ (f : n ≡ h .next - 6). subst Nested (em-line x c r e n refl f) (λ q stack k. inl (text-alone q style.Emphasis (part x 6 (h .next)) stack (em-valid x c r e) (em-short x c r e))))
+        (λ (f : n ≡ h .next - 6). subst Nested (em-line x c r e n refl f)
+        (λ q stack k. inl (text-alone q style.Emphasis (part x 6 (h .next)) stack (em-valid x c r e) (em-short x c r e))))
         (λ (f : n ≡ h .next - 6 → ⊥). subst Nested (em-lines x c r e n refl f) (nested-titled (em-parts x c r e n refl f)))
         (eq-or-not n (h .next - 6))
 
@@ -321,8 +327,9 @@ module _ (st : Style) (x : List ℕ) (v : utf8 x ≡ true) where
   text-says : (y : List ℕ) (p : ℕ) → length y ≤ 32768 → joined (tokens p 0 (text st y)) ≡ y
   unfolding text textOf joined tokens
   text-says y p h =
-      joined-anywhere (text st y) p 0 0
-      ∙ ap textOf (sym (append-nil (text st y))) ∙ text-stored (number st) y [] (Holds-kind (number st) (omega (arith, number-small st))) (Holds-size (length y) h) ∙ append-nil y
+      joined-anywhere (text st y) p 0 0 ∙ ap textOf (sym (append-nil (text st y)))
+      ∙ text-stored (number st) y [] (Holds-kind (number st) (omega (arith, number-small st))) (Holds-size (length y) h)
+      ∙ append-nil y
 
   -- the last record is lengthened
   last-keeps : (b : ℕ) (s : List ℕ) (p : ℕ) (stack left : List ℕ) → oneText st (b ∷ s) ≡ true → reads p 0 stack (b ∷ s) ≡ gives left
@@ -337,10 +344,12 @@ module _ (st : Style) (x : List ℕ) (v : utf8 x ≡ true) where
       let i = and-right (eqb (length (b ∷ s)) (6 + size (b ∷ s))) (isText st k) t in
       let n = eqb-true (length (b ∷ s)) (6 + size (b ∷ s)) (and-left (eqb (length (b ∷ s)) (6 + size (b ∷ s))) (isText st k) t) in
       let short : length (y ++ x) ≤ 32768 = omega (arith, length-text st (y ++ x)) in
-      let same : left ≡ stack = gives-same (sym (f .2) ∙ reads-past s (p + 1) (5 + size (b ∷ s)) (f .0) (omega arith)) ∙ a .2 ∙ text-after st k stack i in (
+      let same : left ≡ stack =
+      gives-same (sym (f .2) ∙ reads-past s (p + 1) (5 + size (b ∷ s)) (f .0) (omega arith)) ∙ a .2 ∙ text-after st k stack i in (
         text-alone p st (y ++ x) stack (valid-both y x (text-sane st k y i (a .0)) v) short ∙ ap gives (sym same),
         text-says (y ++ x) p short
-            ∙ ap (λ (l : List ℕ). l ++ x) (sym (ap (λ (ts : List Token). y ++ joined ts) (tokens-past s (p + 1) (5 + size (b ∷ s)) (omega arith)) ∙ append-nil y)),
+            ∙ ap (λ (l : List ℕ). l ++ x)
+            (sym (ap (λ (ts : List Token). y ++ joined ts) (tokens-past s (p + 1) (5 + size (b ∷ s)) (omega arith)) ∙ append-nil y)),
       )
 
   -- a record that stays
@@ -368,16 +377,16 @@ module _ (st : Style) (x : List ℕ) (v : utf8 x ≡ true) where
   written-keeps [] p (suc pass) stack left h e k = let z : ⊥ = omega arith in absurd z
   written-keeps (b ∷ s) p (suc pass) stack left h e k = written-keeps s (p + 1) pass stack left (omega arith) e (omega arith)
   written-keeps (b ∷ s) p zero stack left h e k =
-      pick (λ (w : List ℕ). length w ≤ 32768 → Keeps (b ∷ s) w p 0 stack left) (oneText st (b ∷ s))
-      (λ t k. last-keeps b s p stack left t e k)
+      pick (λ (w : List ℕ). length w ≤ 32768 → Keeps (b ∷ s) w p 0 stack left) (oneText st (b ∷ s)) (λ t k. last-keeps b s p stack left t e k)
       (λ t k.
       let n = 5 + size (b ∷ s) in
-      let room : n ≤ length s = let f = bind-gives (first p stack (b ∷ s)) _ left e in omega (arith, fits-room (b ∷ s) (first-gives p stack (b ∷ s) (f .0) (f .1) .0)) in
+      let room : n ≤ length s =
+      let f = bind-gives (first p stack (b ∷ s)) _ left e in
+      omega (arith, fits-room (b ∷ s) (first-gives p stack (b ∷ s) (f .0) (f .1) .0)) in
       let i = written-pass st x s n room in
       subst (λ (w : List ℕ). Keeps (b ∷ s) (b ∷ w) p 0 stack left) (sym i)
       (next-keeps b s (written st x 0 (drop n s)) p stack left e
-      (λ after f j. subst (λ (w : List ℕ). Keeps s w (p + 1) n after left) i (written-keeps s (p + 1) n after left j f (omega arith)))))
-      k
+      (λ after f j. subst (λ (w : List ℕ). Keeps s w (p + 1) n after left) i (written-keeps s (p + 1) n after left j f (omega arith))))) k
 
   pub after-write : (room : List ℕ) (n : ℕ) (new : List ℕ) → writes room n st x ≡ gives new → After (take n room) new (λ stack. stack) x
   unfolding writes openBlocks textOf

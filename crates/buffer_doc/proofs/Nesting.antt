@@ -53,8 +53,8 @@ module _ (p : ℕ) (stack inner : List ℕ) where
       (if-false _ _ (lt-leb 32 (length (stack ++ inner)) (omega (arith, length-append stack inner, length-pushed (index b) inner)))
       ∙ ap gives (pushed-over (index b) stack inner))
   accept-over (kind.End b) y v a h =
-      rw v
-      (if-true _ _ (and-both (le-leb 1 (length (stack ++ inner)) (omega (arith, length-append stack inner, a .0))) (eq-eqb (top (stack ++ inner)) (index b) (top-over stack inner (a .0) ∙ a .1)))
+      rw v (if-true _ _ (and-both (le-leb 1 (length (stack ++ inner)) (omega (arith, length-append stack inner, a .0)))
+      (eq-eqb (top (stack ++ inner)) (index b) (top-over stack inner (a .0) ∙ a .1)))
       ∙ ap gives (popped-over stack inner (a .0)))
   accept-over kind.Unknown y v a h = absurd v
 
@@ -62,7 +62,8 @@ module _ (p : ℕ) (stack inner : List ℕ) where
       → accept p k y (stack ++ inner) ≡ refused 7 p
   unfolding accept bodiless opens
   accept-deep (kind.Text st) y v a g h = let z : ⊥ = omega arith in absurd z
-  accept-deep (kind.Start b) y v a g h = rw v (if-true _ _ (le-leb 32 (length (stack ++ inner)) (omega (arith, length-append stack inner, length-pushed (index b) inner))))
+  accept-deep (kind.Start b) y v a g h =
+      rw v (if-true _ _ (le-leb 32 (length (stack ++ inner)) (omega (arith, length-append stack inner, length-pushed (index b) inner))))
   accept-deep (kind.End b) y v a g h = let z : ⊥ = omega (arith, length-popped inner) in absurd z
   accept-deep kind.Unknown y v a g h = absurd v
 
@@ -102,9 +103,11 @@ reached-end {s} {from} {depth} {count} {at} r h = record {
       ∙ sym (if-false _ _ (le-ltb at (length s) h));
 }
 
-module _ {s : List ℕ} {from depth count at next : ℕ} {h : Head} (c : Reached s from depth count at) (r : Read s at h) (l : at < length s) (n : next ≡ countAfter (h .kind) count) where
+module _ {s : List ℕ} {from depth count at next : ℕ} {h : Head} (c : Reached s from depth count at) (r : Read s at h) (l : at < length s)
+    (n : next ≡ countAfter (h .kind) count) where
   read-here : (q : ℕ) (stack : List ℕ)
-      → reads (q + at) 0 stack (drop at s) ≡ (accept (q + at) (h .kind) (part s (h .start) (h .stop)) stack >>= λ after. reads (q + h .next) 0 after (drop (h .next) s))
+      → reads (q + at) 0 stack (drop at s)
+      ≡ (accept (q + at) (h .kind) (part s (h .start) (h .stop)) stack >>= λ after. reads (q + h .next) 0 after (drop (h .next) s))
   unfolding first tokenAt
   read-here q stack =
       let e : h .next ≡ nextAt s at = open-whole (c .here) r l .1 in
@@ -127,7 +130,9 @@ module _ {s : List ℕ} {from depth count at next : ℕ} {h : Head} (c : Reached
     inside = r .high;
     runs = λ q stack f.
         c .runs q stack f ∙ read-here q (stack ++ c .inner)
-        ∙ rw (accept-over (q + at) stack (c .inner) (h .kind) (part s (h .start) (h .stop)) (open-sane-here (c .here) r l) (open-allowed (c .here) r l) (omega (arith, counts-next)));
+        ∙ rw
+        (accept-over (q + at) stack (c .inner) (h .kind) (part s (h .start) (h .stop)) (open-sane-here (c .here) r l) (open-allowed (c .here) r l)
+        (omega (arith, counts-next)));
   }
 
   pub reached-deep : count ≤ 32 → 32 < next → Nests s from depth at
@@ -136,6 +141,8 @@ module _ {s : List ℕ} {from depth count at next : ℕ} {h : Head} (c : Reached
     inside = c .inside;
     reading = λ q stack f.
         c .runs q stack f ∙ read-here q (stack ++ c .inner)
-        ∙ rw (accept-deep (q + at) stack (c .inner) (h .kind) (part s (h .start) (h .stop)) (open-sane-here (c .here) r l) (open-allowed (c .here) r l) (omega (arith, c .counts)) (omega (arith, counts-next)))
+        ∙ rw
+        (accept-deep (q + at) stack (c .inner) (h .kind) (part s (h .start) (h .stop)) (open-sane-here (c .here) r l) (open-allowed (c .here) r l)
+        (omega (arith, c .counts)) (omega (arith, counts-next)))
         (sym (if-true _ _ (lt-ltb at (length s) l)));
   }

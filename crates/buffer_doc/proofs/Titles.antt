@@ -33,7 +33,8 @@ use Rattle.buffer_doc.specs.Parts.{section, Nests, Lines, titled}
 use Rattle.buffer.proofs.Pasting.{length-head, length-stored}
 use Rattle.buffer.proofs.Records.{reads-text}
 use Rattle.buffer.proofs.Written.{text-sane, text-after}
-use Rattle.buffer_doc.proofs.Adding.{around-shut, around-deep, around-given, nests-deep, nests-given, copied-then, set-block, set-block-fits, length-start, length-end, length-around}
+use Rattle.buffer_doc.proofs.Adding.{around-shut, around-deep, around-given, nests-deep, nests-given, copied-then, set-block, set-block-fits}
+use Rattle.buffer_doc.proofs.Adding.{length-start, length-end, length-around}
 
 pub length-text : (st : style.the-data) (x : List ℕ) → length (text st x) ≡ 6 + length x
 unfolding text
@@ -114,18 +115,21 @@ module _ {s : List ℕ} {line next : ℕ} (l : Lines s line next) where
       )
 
   module _ (q : ℕ) (stack : List ℕ) where
-    titled-read : reads q 0 stack (titled s line next) ≡ reads (q + line) 0 stack (around block.Section3 (text style.Text (part s (line + 1) next) ++ drop next s))
+    titled-read : reads q 0 stack (titled s line next)
+        ≡ reads (q + line) 0 stack (around block.Section3 (text style.Text (part s (line + 1) next) ++ drop next s))
     unfolding titled
     titled-read =
         let e : q + (6 + length (part s 6 line)) ≡ q + line = omega (arith, length-title, l .from) in
-        reads-text q style.Emphasis (part s 6 line) (around block.Section3 (text style.Text (part s (line + 1) next) ++ drop next s)) stack (l .title) (omega (arith, length-title, l .short, l .inside, l .before))
+        reads-text q style.Emphasis (part s 6 line) (around block.Section3 (text style.Text (part s (line + 1) next) ++ drop next s)) stack (l .title)
+        (omega (arith, length-title, l .short, l .inside, l .before))
         ∙ ap (λ (p : ℕ). reads p 0 stack (around block.Section3 (text style.Text (part s (line + 1) next) ++ drop next s))) e
 
     -- Section3 can't start
     pub titled-shut : 32 ≤ length stack → reads q 0 stack (titled s line next) ≡ refused 7 (q + line)
     titled-shut h = titled-read ∙ around-shut (q + line) block.Section3 _ stack h
 
-    more-read : (inside : List ℕ) → reads (q + line + 6) 0 inside (text style.Text (part s (line + 1) next) ++ drop next s) ≡ reads (q + 11 + next) 0 inside (drop next s)
+    more-read : (inside : List ℕ)
+        → reads (q + line + 6) 0 inside (text style.Text (part s (line + 1) next) ++ drop next s) ≡ reads (q + 11 + next) 0 inside (drop next s)
     more-read inside =
         let e : q + line + 6 + (6 + length (part s (line + 1) next)) ≡ q + 11 + next = omega (arith, length-more, l .before) in
         reads-text (q + line + 6) style.Text (part s (line + 1) next) (drop next s) inside (l .more) (omega (arith, length-more, l .short, l .inside))
@@ -142,10 +146,12 @@ module _ {s : List ℕ} {line next : ℕ} (l : Lines s line next) where
       pub titled-given : length s ≤ r → reads q 0 stack (titled s line next) ≡ gives stack
       titled-given k =
           titled-read
-          ∙ around-given (q + line) block.Section3 _ stack h (more-read (pushed 2 stack) ∙ nests-given n (q + 11) (pushed 2 stack) (length-pushed 2 stack ∙ d) k)
+          ∙ around-given (q + line) block.Section3 _ stack h
+          (more-read (pushed 2 stack) ∙ nests-given n (q + 11) (pushed 2 stack) (length-pushed 2 stack ∙ d) k)
 
   -- its bytes in InlineBlock
-  pub titled-whole : start block.InlineBlock ++ text style.Emphasis (part s 6 line) ++ section (next - line - 1) (part s (line + 1) (length s)) ≡ around block.InlineBlock (titled s line next)
+  pub titled-whole : start block.InlineBlock ++ text style.Emphasis (part s 6 line) ++ section (next - line - 1) (part s (line + 1) (length s))
+      ≡ around block.InlineBlock (titled s line next)
   unfolding around titled section text stored head
   titled-whole =
       let e : next - line - 1 ≡ length (part s (line + 1) next) = omega (arith, length-more) in
@@ -204,13 +210,17 @@ module _ (s : List ℕ) {h : Head} (c : check s ≡ gives []) (r : Read s 0 h) (
       (ap (λ (x : Token). x .body) (read-token r (some s r t)) ∙ ap₂ (λ (i j : ℕ). part s i j) start-at (r .ends)) (sym (em-next .0))
 
   pub em-valid : Valid (part s 6 (h .next))
-  em-valid = ap₂ (λ (i j : ℕ). utf8 (part s i j)) (sym start-at) (sym (r .ends)) ∙ text-sane style.Text (h .kind) (part s (h .start) (h .stop)) t (open-sane-here accepted r (some s r t))
+  em-valid =
+      ap₂ (λ (i j : ℕ). utf8 (part s i j)) (sym start-at) (sym (r .ends))
+      ∙ text-sane style.Text (h .kind) (part s (h .start) (h .stop)) t (open-sane-here accepted r (some s r t))
 
   pub em-short : length (part s 6 (h .next)) ≤ 32768
   em-short = omega (arith, length-body, check-gives s [] c .0, r .high)
 
   others-close : reads (h .next) 0 [] (drop (h .next) s) ≡ gives []
-  others-close = ap (λ (x : List ℕ). reads (h .next) 0 x (drop (h .next) s)) (sym (text-after style.Text (h .kind) [] t)) ∙ open-next accepted r (some s r t) .runs
+  others-close =
+      ap (λ (x : List ℕ). reads (h .next) 0 x (drop (h .next) s)) (sym (text-after style.Text (h .kind) [] t))
+      ∙ open-next accepted r (some s r t) .runs
 
   module _ (n : ℕ) (e : n ≡ length (line (part s 6 (h .next)))) where
     pub em-line : n ≡ h .next - 6 → text style.Emphasis (part s 6 (h .next)) ≡ emphasised s

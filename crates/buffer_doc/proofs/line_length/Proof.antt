@@ -1,3 +1,5 @@
+-- Invariant: no line end stands before i, so the first line of the body is i bytes and the first line of what is after them.
+-- What falls: the bytes of the body after i.
 use mathlib.Core.Path.{_≡_, ap}
 use Prim.Native.Nat.{_+_, _-_}
 use native.Mathlib.Omega.{arith}
@@ -20,13 +22,23 @@ loop-holds : tie.Need-loop-holds Inv-loop μ-loop
 loop-holds c = omega arith
 
 returns : tie.Need-returns Inv-loop μ-loop
-returns c = let e = ap length (before-stop isLineEnd (now (c .before .before .before .before .args .body)) (c .before .before .before .loop .i) (c .before .before .loop-test .taken) (eq-eqb _ _ (c .if1 .taken))) in omega (arith, c .before .before .before .loop .inv)
+returns c =
+    let loop = c .before .before .before .loop in
+    let args = c .before .before .before .before .args in
+    let e = ap length (before-stop isLineEnd (now (args .body)) (loop .i) (c .before .before .loop-test .taken) (eq-eqb _ _ (c .if1 .taken))) in
+    omega (arith, loop .inv)
 
 loop-again : tie.Need-loop-again Inv-loop μ-loop
-loop-again c = let e = ap length (before-go isLineEnd (now (c .before .before .before .before .args .body)) (c .before .before .before .loop .i) (c .before .before .loop-test .taken) (ne-eqb _ _ (c .if1 .left))) in omega (arith, c .before .before .before .loop .inv)
+loop-again c =
+    let loop = c .before .before .before .loop in
+    let args = c .before .before .before .before .args in
+    let e = ap length (before-go isLineEnd (now (args .body)) (loop .i) (c .before .before .loop-test .taken) (ne-eqb _ _ (c .if1 .left))) in
+    omega (arith, loop .inv)
 
 returns-2 : tie.Need-returns-2 Inv-loop μ-loop
-returns-2 c = let e = ap length (before-none isLineEnd (now (c .before .before .args .body)) (c .before .loop .i) (c .loop-test .left)) in omega (arith, c .before .loop .inv)
+returns-2 c =
+    let e = ap length (before-none isLineEnd (now (c .before .before .args .body)) (c .before .loop .i) (c .loop-test .left)) in
+    omega (arith, c .before .loop .inv)
 
 pub line-length-spec : {M : Type 1} → statement M
 line-length-spec =

@@ -20,33 +20,48 @@ returns c = adds-shut (c .before .before .before .pre .0) (text style.Emphasis (
 
 returns-2 : tie.Need-returns-2
 returns-2 c =
-    let a = c .before .before .before .before .before .before .args in
+    let if1 = c .before .before .before .if1 in
+    let start = c .before .before .before .before .before .before in
+    let a = start .args in
+    let pre = start .pre in
     let x = text style.Emphasis (now (a .body)) in
-    adds-full (c .before .before .before .before .before .before .pre .0) x (c .before .before .before .if1 .left) (λ stack e. text-alone (a .len + 6) style.Emphasis (now (a .body)) stack (c .before .before .before .before .before .before .pre .2) (c .before .before .before .before .before .before .pre .1))
-    (a .len + 18 + length (now (a .body))) (omega (arith, length-around block.InlineBlock x, length-text style.Emphasis (now (a .body)))) (sym (c .before .has-room .ensures) ∙ not-true _ (c .if2 .taken))
+    adds-full (pre .0) x (if1 .left) (λ stack e. text-alone (a .len + 6) style.Emphasis (now (a .body)) stack (pre .2) (pre .1))
+    (a .len + 18 + length (now (a .body))) (omega (arith, length-around block.InlineBlock x, length-text style.Emphasis (now (a .body))))
+    (sym (c .before .has-room .ensures) ∙ not-true _ (c .if2 .taken))
 
 put-title-requires : tie.Need-put-title-requires
-put-title-requires c κs = let h = room-there (now (c .before .before .before .before .before .before .before .args .room)) (c .before .before .before .before .before .before .before .args .len + 18 + length (now (c .before .before .before .before .before .before .before .args .body))) (c .before .before .has-room .ensures) (not-false _ (c .before .if2 .left)) in omega arith
+put-title-requires c κs =
+    let args = c .before .before .before .before .before .before .before .args in
+    let h =
+    room-there (now (args .room)) (args .len + 18 + length (now (args .body))) (c .before .before .has-room .ensures)
+    (not-false _ (c .before .if2 .left)) in
+    omega arith
 
 returns-3 : tie.Need-returns-3
 unfolding end around
 returns-3 c =
-    let a = c .before .before .before .before .before .before .before .before .before .before .before .before .before .before .args in
-    let p = c .before .before .before .before .before .before .before .before .before .before .before .before .before .before .pre in
+    let after-put-title = c .before .before .before .before .before .before in
+    let put-title = after-put-title .put-title in
+    let if2 = after-put-title .before .before .if2 in
+    let has-room = after-put-title .before .before .before .has-room in
+    let after-if1 = after-put-title .before .before .before .before .before in
+    let if1 = after-if1 .if1 in
+    let entry = after-if1 .before .before .before in
+    let a = entry .args in
+    let p = entry .pre in
     let room = now (a .room) in
     let t = now (a .body) in
     let x = text style.Emphasis t in
     let b = start block.InlineBlock in
     let l : length (b ++ x) ≡ 12 + length t = omega (arith, length-append b x, length-start block.InlineBlock, length-text style.Emphasis t) in
-    let e = c .before .before .before .before .before .before .before .before .before .has-room .ensures in
-    let y = not-false _ (c .before .before .before .before .before .before .before .before .if2 .left) in
+    let e = has-room .ensures in
+    let y = not-false _ (if2 .left) in
     let h = room-there room (a .len + 18 + length t) e y in
-    adds-written (p .0) x (c .before .before .before .before .before .before .before .before .before .before .before .if1 .left)
-    (λ stack e. text-alone (a .len + 6) style.Emphasis t stack (p .2) (p .1))
-    (a .len + 18 + length t) (omega (arith, length-around block.InlineBlock x, length-text style.Emphasis t)) _ (sym e ∙ y)
-    (copied-then room (c .before .before .before .before .before .before .put-title .last .0) _ (a .len) (a .len + 12 + length t) (b ++ x) (end block.InlineBlock)
-    (omega (arith, h, l, length-end block.InlineBlock)) (c .before .before .before .before .before .before .put-title .ensures) (omega (arith, l))
-    (set-block (c .before .before .before .before .before .before .put-title .last .0) _ (a .len + 12 + length t) 0x0208 (c .before .before .set-head .ensures)))
+    adds-written (p .0) x (if1 .left) (λ stack e. text-alone (a .len + 6) style.Emphasis t stack (p .2) (p .1)) (a .len + 18 + length t)
+    (omega (arith, length-around block.InlineBlock x, length-text style.Emphasis t)) _ (sym e ∙ y)
+    (copied-then room (put-title .last .0) _ (a .len) (a .len + 12 + length t) (b ++ x) (end block.InlineBlock)
+    (omega (arith, h, l, length-end block.InlineBlock)) (put-title .ensures) (omega (arith, l))
+    (set-block (put-title .last .0) _ (a .len + 12 + length t) 0x0208 (c .before .before .set-head .ensures)))
 
 pub put-line-spec : {M : Type 1} → statement M
 put-line-spec =

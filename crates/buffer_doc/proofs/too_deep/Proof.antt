@@ -1,3 +1,5 @@
+-- Invariant: the records from `from` up to `at` are whole and nest, and leave `count` blocks open, at most 32, over any `depth` open before.
+-- What falls: the bytes of the document after `at`.
 use Prim.Native.Nat.{_-_, _≤_}
 use native.Mathlib.Omega.{arith}
 use borrow.Author.Needs.{needs}
@@ -20,13 +22,20 @@ counted-requires : tie.Need-counted-requires Inv-loop μ-loop
 counted-requires c κs = c .before .before .loop .inv .0
 
 returns : tie.Need-returns Inv-loop μ-loop
-returns c = reached-deep (c .before .before .before .before .loop .inv .1) (c .before .before .record-at .ensures) (c .before .before .before .loop-test .taken) (c .before .counted .ensures) (c .before .before .before .before .loop .inv .0) (c .if1 .taken)
+returns c =
+    let loop-test = c .before .before .before .loop-test in
+    let loop = c .before .before .before .before .loop in
+    reached-deep (loop .inv .1) (c .before .before .record-at .ensures) (loop-test .taken) (c .before .counted .ensures) (loop .inv .0)
+    (c .if1 .taken)
 
 loop-less : tie.Need-loop-less Inv-loop μ-loop
 loop-less c = let r = c .before .before .record-at .ensures in omega (arith, r .low (c .before .before .before .loop-test .taken), r .order, r .high)
 
 loop-again : tie.Need-loop-again Inv-loop μ-loop
-loop-again c = (c .if1 .left, reached-next (c .before .before .before .before .loop .inv .1) (c .before .before .record-at .ensures) (c .before .before .before .loop-test .taken) (c .before .counted .ensures) (c .if1 .left))
+loop-again c =
+    let loop-test = c .before .before .before .loop-test in
+    let loop = c .before .before .before .before .loop in
+    (c .if1 .left, reached-next (loop .inv .1) (c .before .before .record-at .ensures) (loop-test .taken) (c .before .counted .ensures) (c .if1 .left))
 
 returns-2 : tie.Need-returns-2 Inv-loop μ-loop
 returns-2 c = reached-end (c .before .loop .inv .1) (c .loop-test .left)
