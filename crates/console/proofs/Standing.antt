@@ -33,7 +33,8 @@ use Rattle.renderer.specs.Walk.{page, last, body}
 use Rattle.renderer.specs.declared.Rendered.{Rendered}
 use Rattle.renderer.specs.declared.Rendered.the-variants as rendered
 use Rattle.renderer.proofs.Shown.{shown-in, shown-out}
-use Rattle.renderer.proofs.Leads.{Leads, leads-start, leads-on, leads-out, leads-refused, leads-shown, records, turned, walk-record, walk-end, chunksThen, body-chunk, body-last, body-end}
+use Rattle.renderer.proofs.Leads.{Leads, leads-start, leads-on, leads-out, leads-refused, leads-shown, records, turned, walk-record, walk-end}
+use Rattle.renderer.proofs.Leads.{chunksThen, body-chunk, body-last, body-end}
 use Rattle.console_rules.specs.Console.{State, initial, blankLay, gapAhead, started, ended, measureOf, bodyChunk, turn, finish, textBy}
 use Rattle.console_rules.specs.declared.Settings.{Settings}
 use Rattle.console_rules.specs.declared.Lay.{Lay}
@@ -61,9 +62,11 @@ module _ (document : List ℕ) (set : Settings) (tab limit : ℕ) where
   abbrev pub chunksRest : ℕ → ℕ → ℕ → List split.Placed → State → Result (List ℕ)
   chunksRest margin start next = chunksThen (set .full) (bodyChunk (measureOf set) set limit margin start) (rest next)
 
-  rest-record : (at : ℕ) (h : Head) → Read document at h → at < length document → (s : State) → rest at s ≡ (turned (turn (measureOf set) set limit tab) document at h s >>= rest (h .next))
+  rest-record : (at : ℕ) (h : Head) → Read document at h → at < length document → (s : State)
+      → rest at s ≡ (turned (turn (measureOf set) set limit tab) document at h s >>= rest (h .next))
   rest-record at h r l s =
-      ap (λ (x : Result State). x >>= ending) (walk-record (turn (measureOf set) set limit tab) document at h r l s) ∙ sym (bind-assoc _ (records (turn (measureOf set) set limit tab) document (h .next)) ending)
+      ap (λ (x : Result State). x >>= ending) (walk-record (turn (measureOf set) set limit tab) document at h r l s)
+      ∙ sym (bind-assoc _ (records (turn (measureOf set) set limit tab) document (h .next)) ending)
 
   -- Before a record: the margins are the first `count` of an array of 32, at least as many blocks are open, and the numbers are small.
   pub record Standing (room margins : List ℕ) (count : ℕ) (m : Mark) (at : ℕ) : Type 0 where
@@ -86,7 +89,8 @@ module _ (document : List ℕ) (set : Settings) (tab limit : ℕ) where
     unfolding _>>=_
     stand-done l =
         leads-on whole (rest at) (held room (take count margins) m) (w .leads) gives ending (held room (take count margins) m)
-        (λ s. ap (λ (x : Result State). x >>= ending) (walk-end (turn (measureOf set) set limit tab) document at l s)) (sym (bind-end (held room (take count margins) m)))
+        (λ s. ap (λ (x : Result State). x >>= ending) (walk-end (turn (measureOf set) set limit tab) document at l s))
+        (sym (bind-end (held room (take count margins) m)))
 
     -- there are no more margins than slots, and the numbers are far below what a number holds
     pub stand-count : count ≤ length margins
@@ -115,15 +119,18 @@ module _ (document : List ℕ) (set : Settings) (tab limit : ℕ) where
       stand-known e = open-known (w .deep .here) r l e
 
       -- the start and the end of a block
-      pub stand-started : (b : Block) (room′ margins′ : List ℕ) (count′ : ℕ) (m′ : Mark) → h .kind ≡ kind.Start b → length room′ ≡ length room → length margins′ ≡ length margins
-          → held room′ (take count′ margins′) m′ ≡ (held room (take count margins) m >>= started (length room) tab b (gapAhead (tokensFrom document (h .next))))
-          → count′ ≤ count + 1 → Moved (m .lay) (m′ .lay) → ((n : ℕ) → Shallow n margins → Shallow (n + (tab + 4)) margins′) → tab ≤ 28
+      pub stand-started : (b : Block) (room′ margins′ : List ℕ) (count′ : ℕ) (m′ : Mark) → h .kind ≡ kind.Start b → length room′ ≡ length room
+          → length margins′ ≡ length margins
+          → held room′ (take count′ margins′) m′
+          ≡ (held room (take count margins) m >>= started (length room) tab b (gapAhead (tokensFrom document (h .next)))) → count′ ≤ count + 1
+          → Moved (m .lay) (m′ .lay) → ((n : ℕ) → Shallow n margins → Shallow (n + (tab + 4)) margins′) → tab ≤ 28
           → Standing room′ margins′ count′ m′ (h .next)
       unfolding turn
       stand-started b room′ margins′ count′ m′ e f g q c d deeper low = record {
         size = f ∙ w .size;
         slots = g ∙ w .slots;
-        leads = leads-on whole (rest at) (held room (take count margins) m) (w .leads) (turned (turn (measureOf set) set limit tab) document at h) (rest (h .next)) (held room′ (take count′ margins′) m′) (rest-record at h r l)
+        leads = leads-on whole (rest at) (held room (take count margins) m) (w .leads) (turned (turn (measureOf set) set limit tab) document at h)
+            (rest (h .next)) (held room′ (take count′ margins′) m′) (rest-record at h r l)
             (rw e (q ∙ ap (λ (n : ℕ). held room (take count margins) m >>= started n tab b (gapAhead (tokensFrom document (h .next)))) (w .size)));
         deep = deep-less count′ c (deep-start (w .deep) r l e .1);
         near = r .high;
@@ -139,7 +146,8 @@ module _ (document : List ℕ) (set : Settings) (tab limit : ℕ) where
       stand-ended b room′ count′ m′ e f q c d = record {
         size = f ∙ w .size;
         slots = w .slots;
-        leads = leads-on whole (rest at) (held room (take count margins) m) (w .leads) (turned (turn (measureOf set) set limit tab) document at h) (rest (h .next)) (held room′ (take count′ margins) m′) (rest-record at h r l)
+        leads = leads-on whole (rest at) (held room (take count margins) m) (w .leads) (turned (turn (measureOf set) set limit tab) document at h)
+            (rest (h .next)) (held room′ (take count′ margins) m′) (rest-record at h r l)
             (rw e (q ∙ ap (λ (n : ℕ). held room (take count margins) m >>= ended n b) (w .size)));
         deep = deep-less count′ (omega arith) (deep-end (w .deep) r l e);
         near = r .high;
@@ -155,7 +163,8 @@ module _ (document : List ℕ) (set : Settings) (tab limit : ℕ) where
         size = w .size;
         slots = w .slots;
         leads = leads-shown room (m .len .0) (take count margins) (m .lay) whole (rest at) (rest (h .next))
-            (λ x. rest-record at h r l (page (take count margins) (m .lay) x) ∙ rw e (ap (λ (z : Result State). z >>= rest (h .next)) (if-true _ _ (lt-ltb 0 (m .lay .skip) k)))) (w .leads);
+            (λ x. rest-record at h r l (page (take count margins) (m .lay) x)
+            ∙ rw e (ap (λ (z : Result State). z >>= rest (h .next)) (if-true _ _ (lt-ltb 0 (m .lay .skip) k)))) (w .leads);
         deep = deep-text (w .deep) r l e;
         near = r .high;
         column = omega (arith, w .column, next-far);
@@ -168,10 +177,14 @@ module _ (document : List ℕ) (set : Settings) (tab limit : ℕ) where
           → Leads whole (chunksRest margin (h .start) (h .next) (placedFrom (part document (h .start) (h .stop)) first)) (held room (take count margins) m)
       unfolding turn
       stand-text st margin e k g =
-          leads-shown room (m .len .0) (take count margins) (m .lay) whole (rest at) (chunksRest margin (h .start) (h .next) (placedFrom (part document (h .start) (h .stop)) first))
-          (λ x. rest-record at h r l (page (take count margins) (m .lay) x)
-          ∙ rw (e, g) (ap (λ (z : Result State). z >>= rest (h .next)) (if-false _ _ (le-ltb 0 (m .lay .skip) k)
-          ∙ ap (λ (cs : List split.Placed). body (set .full) (bodyChunk (measureOf set) set limit (top (take count margins)) (h .start)) cs (page (take count margins) (m .lay) x)) (split-start (part document (h .start) (h .stop)))))) (w .leads)
+          leads-shown room (m .len .0) (take count margins) (m .lay) whole (rest at)
+          (chunksRest margin (h .start) (h .next) (placedFrom (part document (h .start) (h .stop)) first))
+          (λ x.
+          rest-record at h r l (page (take count margins) (m .lay) x)
+          ∙ rw (e, g) (ap (λ (z : Result State). z >>= rest (h .next))
+          (if-false _ _ (le-ltb 0 (m .lay .skip) k)
+          ∙ ap (λ (cs : List split.Placed). body (set .full) (bodyChunk (measureOf set) set limit (top (take count margins)) (h .start)) cs
+          (page (take count margins) (m .lay) x)) (split-start (part document (h .start) (h .stop)))))) (w .leads)
 
   -- Before a chunk of a body that starts at `start` and ends at `next`. The six bytes before a body pay for the column of its last step.
   pub record Writing (x : List ℕ) (margin start next : ℕ) (kept room : List ℕ) (m : Mark) (c : Cursor) : Type 0 where
@@ -195,7 +208,9 @@ module _ (document : List ℕ) (set : Settings) (tab limit : ℕ) where
     write-words room′ m′ at′ f v =
         let some = body (set .full) (bodyChunk (measureOf set) set limit margin start) in
         let same : (held room′ kept m′ >>= some (placedFrom x (cursor at′ (c .code)))) ≡ (held room kept m >>= some (placedFrom x c)) =
-        subst (λ (n : ℕ). (held room′ kept m′ >>= onward set n margin start x at′ (c .code)) ≡ (held room kept m >>= onward set n margin start x (c .at) (c .code))) (w .size) (v .same start kept) in
+        subst (λ (n : ℕ).
+        (held room′ kept m′ >>= onward set n margin start x at′ (c .code)) ≡ (held room kept m >>= onward set n margin start x (c .at) (c .code)))
+        (w .size) (v .same start kept) in
         record {
           size = f ∙ w .size;
           leads = bind-assoc (held room′ kept m′) (some (placedFrom x (cursor at′ (c .code)))) (rest next)
@@ -209,28 +224,38 @@ module _ (document : List ℕ) (set : Settings) (tab limit : ℕ) where
 
     module _ (p : Piece) (d : Cursor) (t : Took x c p d) where
       -- a chunk was refused by 10
-      pub write-deep : (q : ℕ) → refused 10 q ≡ (held room kept m >>= bodyChunk (measureOf set) set limit margin start (placedOf x p)) → (b : Bool) → b ≡ last (set .full) (chunkOf x p) → whole ≡ refused 10 q
+      pub write-deep : (q : ℕ) → refused 10 q ≡ (held room kept m >>= bodyChunk (measureOf set) set limit margin start (placedOf x p))
+          → (b : Bool) → b ≡ last (set .full) (chunkOf x p) → whole ≡ refused 10 q
       write-deep q e true f =
-          leads-refused whole (chunksRest margin start next (placedFrom x c)) (held room kept m) (w .leads) (bodyChunk (measureOf set) set limit margin start (placedOf x p)) (rest next) 10 q
-          (body-last (set .full) (bodyChunk (measureOf set) set limit margin start) (rest next) (placedOf x p) (placedFrom x c) (placedFrom x d) (t .chunks) (sym f)) (sym e)
+          leads-refused whole (chunksRest margin start next (placedFrom x c)) (held room kept m) (w .leads)
+          (bodyChunk (measureOf set) set limit margin start (placedOf x p)) (rest next) 10 q
+          (body-last (set .full) (bodyChunk (measureOf set) set limit margin start) (rest next) (placedOf x p) (placedFrom x c) (placedFrom x d)
+          (t .chunks) (sym f)) (sym e)
       write-deep q e false f =
-          leads-refused whole (chunksRest margin start next (placedFrom x c)) (held room kept m) (w .leads) (bodyChunk (measureOf set) set limit margin start (placedOf x p)) (chunksRest margin start next (placedFrom x d)) 10 q
-          (body-chunk (set .full) (bodyChunk (measureOf set) set limit margin start) (rest next) (placedOf x p) (placedFrom x c) (placedFrom x d) (t .chunks) (sym f)) (sym e)
+          leads-refused whole (chunksRest margin start next (placedFrom x c)) (held room kept m) (w .leads)
+          (bodyChunk (measureOf set) set limit margin start (placedOf x p)) (chunksRest margin start next (placedFrom x d)) 10 q
+          (body-chunk (set .full) (bodyChunk (measureOf set) set limit margin start) (rest next) (placedOf x p) (placedFrom x c) (placedFrom x d)
+          (t .chunks) (sym f)) (sym e)
 
-      module _ (room′ : List ℕ) (m′ : Mark) (f : length room′ ≡ length room) (e : held room′ kept m′ ≡ (held room kept m >>= bodyChunk (measureOf set) set limit margin start (placedOf x p)))
+      module _ (room′ : List ℕ) (m′ : Mark) (f : length room′ ≡ length room)
+          (e : held room′ kept m′ ≡ (held room kept m >>= bodyChunk (measureOf set) set limit margin start (placedOf x p)))
           (near : Near (margin + 1_032_771) (m .lay) (m′ .lay)) where
         -- a chunk that ends the walk of its body
         pub write-last : last (set .full) (chunkOf x p) ≡ true → Leads whole (rest next) (held room′ kept m′)
         write-last g =
-            leads-on whole (chunksRest margin start next (placedFrom x c)) (held room kept m) (w .leads) (bodyChunk (measureOf set) set limit margin start (placedOf x p)) (rest next) (held room′ kept m′)
-            (body-last (set .full) (bodyChunk (measureOf set) set limit margin start) (rest next) (placedOf x p) (placedFrom x c) (placedFrom x d) (t .chunks) g) e
+            leads-on whole (chunksRest margin start next (placedFrom x c)) (held room kept m) (w .leads)
+            (bodyChunk (measureOf set) set limit margin start (placedOf x p)) (rest next) (held room′ kept m′)
+            (body-last (set .full) (bodyChunk (measureOf set) set limit margin start) (rest next) (placedOf x p) (placedFrom x c) (placedFrom x d)
+            (t .chunks) g) e
 
         -- a chunk after which others may follow
         pub write-on : last (set .full) (chunkOf x p) ≡ false → margin ≤ 1_000_000 → Writing x margin start next kept room′ m′ d
         write-on g low = record {
           size = f ∙ w .size;
-          leads = leads-on whole (chunksRest margin start next (placedFrom x c)) (held room kept m) (w .leads) (bodyChunk (measureOf set) set limit margin start (placedOf x p)) (chunksRest margin start next (placedFrom x d)) (held room′ kept m′)
-              (body-chunk (set .full) (bodyChunk (measureOf set) set limit margin start) (rest next) (placedOf x p) (placedFrom x c) (placedFrom x d) (t .chunks) g) e;
+          leads = leads-on whole (chunksRest margin start next (placedFrom x c)) (held room kept m) (w .leads)
+              (bodyChunk (measureOf set) set limit margin start (placedOf x p)) (chunksRest margin start next (placedFrom x d)) (held room′ kept m′)
+              (body-chunk (set .full) (bodyChunk (measureOf set) set limit margin start) (rest next) (placedOf x p) (placedFrom x c) (placedFrom x d)
+              (t .chunks) g) e;
           column = omega (arith, near .0, w .column, t .further);
           skip = omega (arith, near .1, w .skip);
           short = t .short;
@@ -242,7 +267,15 @@ part-short : (s : List ℕ) (a e : ℕ) → length (part s a e) ≤ e - a
 part-short s a e = omega (arith, length-take (e - a) (drop a s))
 
 pub zeros-shallow : (n : ℕ) → Shallow 0 (replicate n 0)
-zeros-shallow n = record { each = λ i. omega (arith, ⊎-elim (λ (h : n ≤ i). List·getD-eq-default {A = ℕ} (replicate n 0) 0 {n = i} (omega (arith, length-replicate {A = ℕ} n 0))) (λ (h : i < n). getD-replicate {A = ℕ} n i 0 0 h) (le-or-lt n i)) }
+zeros-shallow n =
+    record {
+      each =
+          λ i. omega (
+            arith,
+            ⊎-elim (λ (h : n ≤ i). List·getD-eq-default {A = ℕ} (replicate n 0) 0 {n = i} (omega (arith, length-replicate {A = ℕ} n 0)))
+                (λ (h : i < n). getD-replicate {A = ℕ} n i 0 0 h) (le-or-lt n i),
+          );
+    }
 
 -- nothing has been written
 pub stand-first : (document : List ℕ) (set : Settings) (tab : ℕ) (room margins : List ℕ) (m : Mark) → check document ≡ gives [] → length margins ≡ 32
@@ -268,16 +301,20 @@ module _ (document : List ℕ) (set : Settings) (tab limit : ℕ) where
   stands-refused room a e = record { same = sym (sym text-whole ∙ e); fits = tt }
 
   -- what is due at the end has been written
-  pub stands-done : (room room′ margins : List ℕ) (count : ℕ) (m : Mark) (at : ℕ) (r : Rendered) → Standing document set tab limit room margins count m at
-      → length document ≤ at → Stands room′ r (textAfter room (take count margins) m) → Stands room′ r (textBy (measureOf set) set limit tab (tokens 0 0 document))
+  pub stands-done : (room room′ margins : List ℕ) (count : ℕ) (m : Mark) (at : ℕ) (r : Rendered)
+      → Standing document set tab limit room margins count m at → length document ≤ at → Stands room′ r (textAfter room (take count margins) m)
+      → Stands room′ r (textBy (measureOf set) set limit tab (tokens 0 0 document))
   stands-done room room′ margins count m at r w l s = record {
-    same = s .same ∙ ap (λ (n : ℕ). held room (take count margins) m >>= ending document set tab n) (w .size) ∙ stand-done document set tab limit room margins count m at w l ∙ text-whole;
+    same = s .same ∙ ap (λ (n : ℕ). held room (take count margins) m >>= ending document set tab n) (w .size)
+        ∙ stand-done document set tab limit room margins count m at w l
+        ∙ text-whole;
     fits = s .fits;
   }
 
 -- The chunks of the body of the text record at `at`; the margin is small, as every margin is.
 module _ (document : List ℕ) (set : Settings) (tab limit : ℕ) (room margins : List ℕ) (count : ℕ) (m : Mark) (at : ℕ)
-    (w : Standing document set tab limit room margins count m at) (h : Head) (r : Read document at h) (l : at < length document) (few : length document ≤ 32_768)
+    (w : Standing document set tab limit room margins count m at) (h : Head) (r : Read document at h) (l : at < length document)
+    (few : length document ≤ 32_768)
     (st : Style) (e : h .kind ≡ kind.Text st) (margin : ℕ) (g : margin ≡ top (take count margins)) where
   pub margin-low : margin ≤ 1_000_000
   margin-low = omega (arith, g, top-shallow margins count (30 * at) (w .shallow))
@@ -292,7 +329,13 @@ module _ (document : List ℕ) (set : Settings) (tab limit : ℕ) (room margins 
   pub body-first : m .lay .skip ≤ 0 → Writing document set tab (length room) Body margin (h .start) (h .next) (take count margins) room m first
   body-first k =
       subst (λ (n : ℕ). Writing document set tab n Body margin (h .start) (h .next) (take count margins) room m first) (sym (w .size))
-      (record { size = w .size; leads = stand-text document set tab limit room margins count m at w h r l st margin e k g; column = omega (arith, w .column, open-whole (w .deep .here) r l .0); skip = omega arith; short = omega arith })
+      (record {
+        size = w .size;
+        leads = stand-text document set tab limit room margins count m at w h r l st margin e k g;
+        column = omega (arith, w .column, open-whole (w .deep .here) r l .0);
+        skip = omega arith;
+        short = omega arith;
+      })
 
   -- the walk of the body is over; in the code the room's length stands for the limit
   stand-after : (room′ : List ℕ) (m′ : Mark) → length room′ ≡ length room
@@ -309,7 +352,8 @@ module _ (document : List ℕ) (set : Settings) (tab limit : ℕ) (room margins 
     shallow = record { each = λ i. omega (arith, w .shallow .each i, next-far document set tab limit room margins count m at w h r l) };
   }
 
-  module _ (room′ : List ℕ) (m′ : Mark) (c : Cursor) (v : Writing document set tab (length room) Body margin (h .start) (h .next) (take count margins) room′ m′ c) where
+  module _ (room′ : List ℕ) (m′ : Mark) (c : Cursor)
+      (v : Writing document set tab (length room) Body margin (h .start) (h .next) (take count margins) room′ m′ c) where
     -- the column is far below what a number holds
     pub column-low : m′ .lay .column .0 ≤ 2 ^ 50
     column-low = omega (arith, v .column, v .short, body-few)
@@ -320,13 +364,15 @@ module _ (document : List ℕ) (set : Settings) (tab limit : ℕ) (room margins 
     -- after the last chunk
     pub body-done : placedFrom Body c ≡ [] → Standing document set tab limit room′ margins count m′ (h .next)
     body-done n =
-        stand-after room′ m′ (v .size)
-        (write-end document set tab (length room) Body margin (h .start) (h .next) (take count margins) room′ m′ c v n) (omega (arith, v .column, v .short, far)) (v .skip)
+        stand-after room′ m′ (v .size) (write-end document set tab (length room) Body margin (h .start) (h .next) (take count margins) room′ m′ c v n)
+        (omega (arith, v .column, v .short, far)) (v .skip)
 
     module _ (p : Piece) (d : Cursor) (t : Took Body c p d) (room″ : List ℕ) (m″ : Mark) (f : length room″ ≡ length room′)
-        (q : held room″ (take count margins) m″ ≡ (held room′ (take count margins) m′ >>= bodyChunk (measureOf set) set (length room′) margin (h .start) (placedOf Body p)))
+        (q : held room″ (take count margins) m″
+        ≡ (held room′ (take count margins) m′ >>= bodyChunk (measureOf set) set (length room′) margin (h .start) (placedOf Body p)))
         (near : Near (margin + 1_032_771) (m′ .lay) (m″ .lay)) where
-      here : held room″ (take count margins) m″ ≡ (held room′ (take count margins) m′ >>= bodyChunk (measureOf set) set (length room) margin (h .start) (placedOf Body p))
+      here : held room″ (take count margins) m″
+          ≡ (held room′ (take count margins) m′ >>= bodyChunk (measureOf set) set (length room) margin (h .start) (placedOf Body p))
       here = q ∙ ap (λ (n : ℕ). held room′ (take count margins) m′ >>= bodyChunk (measureOf set) set n margin (h .start) (placedOf Body p)) (v .size)
 
       -- a paragraph with `full` off ends the walk of its body
@@ -337,16 +383,21 @@ module _ (document : List ℕ) (set : Settings) (tab limit : ℕ) (room margins 
           (omega (arith, near .0, v .column, v .short, far, margin-low)) (omega (arith, near .1, v .skip))
 
       -- and other chunks may follow any other
-      pub body-on : last (set .full) (chunkOf Body p) ≡ false → Writing document set tab (length room) Body margin (h .start) (h .next) (take count margins) room″ m″ d
-      body-on b = write-on document set tab (length room) Body margin (h .start) (h .next) (take count margins) room′ m′ c v p d t room″ m″ f here near b margin-low
+      pub body-on : last (set .full) (chunkOf Body p) ≡ false
+          → Writing document set tab (length room) Body margin (h .start) (h .next) (take count margins) room″ m″ d
+      body-on b =
+          write-on document set tab (length room) Body margin (h .start) (h .next) (take count margins) room′ m′ c v p d t room″ m″ f here near b
+          margin-low
 
     -- a chunk was refused by 10
-    pub body-deep : (p : Piece) (d : Cursor) → Took Body c p d → (q : ℕ) → refused 10 q ≡ (held room′ (take count margins) m′ >>= bodyChunk (measureOf set) set (length room′) margin (h .start) (placedOf Body p))
+    pub body-deep : (p : Piece) (d : Cursor) → Took Body c p d → (q : ℕ)
+        → refused 10 q ≡ (held room′ (take count margins) m′ >>= bodyChunk (measureOf set) set (length room′) margin (h .start) (placedOf Body p))
         → whole document set tab limit ≡ refused 10 q
     body-deep p d t q f =
         ap (whole document set tab) (sym (w .size))
         ∙ write-deep document set tab (length room) Body margin (h .start) (h .next) (take count margins) room′ m′ c v p d t q
-        (f ∙ ap (λ (n : ℕ). held room′ (take count margins) m′ >>= bodyChunk (measureOf set) set n margin (h .start) (placedOf Body p)) (v .size)) (last (set .full) (chunkOf Body p)) refl
+        (f ∙ ap (λ (n : ℕ). held room′ (take count margins) m′ >>= bodyChunk (measureOf set) set n margin (h .start) (placedOf Body p)) (v .size))
+        (last (set .full) (chunkOf Body p)) refl
 
 -- The last line end: what stands then, and the answer
 module _ (room room′ kept : List ℕ) (m m′ : Mark) (e : held room′ kept m′ ≡ (held room kept m >>= finish (length room))) (f : length room′ ≡ length room) where

@@ -21,29 +21,34 @@ add-place-chunk c =
 
 returns : tie.Need-returns
 returns c =
-    let a = c .before .before .before .before .before .before .before .before .before .before .before .before .args in
-    let q = c .before .before .before .before .before .before .before .before .before .before .before .before .pre in
     let g = c .before .before .place-chunk in
-    let w = c .before .before .before .width-of .ensures in
-    let begins = c .before .before .before .before .before .before .place-of in
+    let width-of = c .before .before .before .width-of in
+    let text-or = c .before .before .before .before .text-or in
+    let after-place-of = c .before .before .before .before .before .before in
+    let begins = after-place-of .place-of in
+    let if1 = after-place-of .before .before .if1 in
+    let is-text = after-place-of .before .before .before .is-text in
+    let start = after-place-of .before .before .before .before .before .before in
+    let a = start .args in
+    let q = start .pre in
+    let w = width-of .ensures in
     let narrow = piece-narrow (now (a .body)) (a .piece) (q .4) in
-    let is = piece-raw (now (a .body)) (a .piece) (sym (c .before .before .before .before .before .before .before .before .before .is-text .ensures)
-    ∙ c .before .before .before .before .before .before .before .before .if1 .taken) in (
-      (λ kept.
-          rw (← begins .ensures)
-          (chunk-raw (measureOf (a .set)) (a .set) (length (now (a .room))) (a .margin .0) (a .start + begins .result) _ _ (chunkOf (now (a .body)) (a .piece)) _ _
-          (is ∙ ap₂ (λ (x : List ℕ) (w : ℕ). raw x w) (sym (c .before .before .before .before .text-or .ensures)) (sym w))
+    let is = piece-raw (now (a .body)) (a .piece) (sym (is-text .ensures) ∙ if1 .taken) in (
+      (λ kept. rw (← begins .ensures) (chunk-raw (measureOf (a .set)) (a .set) (length (now (a .room))) (a .margin .0) (a .start + begins .result) _ _
+          (chunkOf (now (a .body)) (a .piece)) _ _ (is ∙ ap₂ (λ (x : List ℕ) (w : ℕ). raw x w) (sym (text-or .ensures)) (sym w))
           (g .ensures .0 (omega (arith, q .0, q .1, q .2, w, narrow)) kept))),
-      near-on 0 _ (a .margin .0 + 1_032_771) (a .m .lay) (a .m .lay) (g .result) (omega (arith, w, narrow, q .2)) (near-same 0 (a .m .lay)) (g .ensures .1),
+      near-on 0 _ (a .margin .0 + 1_032_771) (a .m .lay) (a .m .lay) (g .result) (omega (arith, w, narrow, q .2)) (near-same 0 (a .m .lay))
+          (g .ensures .1),
     )
 
 returns-2 : tie.Need-returns-2
 returns-2 c =
-    let a = c .before .before .before .before .before .before .before .before .args in
-    let g = c .before .before .put-break in (
-      (λ kept.
-          g .ensures .0 (sym (c .before .before .before .before .before .is-text .ensures) ∙ c .before .before .before .before .if1 .left) (now (a .body)) (a .margin .0)
-          (a .start + placeOf (a .piece)) kept),
+    let g = c .before .before .put-break in
+    let if1 = c .before .before .before .before .if1 in
+    let after-is-text = c .before .before .before .before .before in
+    let is-text = after-is-text .is-text in
+    let a = after-is-text .before .before .before .args in (
+      (λ kept. g .ensures .0 (sym (is-text .ensures) ∙ if1 .left) (now (a .body)) (a .margin .0) (a .start + placeOf (a .piece)) kept),
       near-on 0 0 (a .margin .0 + 1_032_771) (a .m .lay) (a .m .lay) (g .result) (omega arith) (near-same 0 (a .m .lay)) (g .ensures .1),
     )
 

@@ -8,13 +8,28 @@ use Rattle.console.proofs.text_or.Statement.{statement}
 use Rattle.console.proofs.text_or.Tie as tie
 
 sub-result : tie.Need-sub-result
-sub-result c = let w = subst (PieceWithin (length (now (c .before .before .before .args .body)))) (c .before .piece .given .1) (c .before .before .before .pre) in w .0
+sub-result c =
+    let start = c .before .before .before in
+    let args = start .args in
+    let pre = start .pre in
+    let w = subst (PieceWithin (length (now (args .body)))) (c .before .piece .given .1) pre in
+    w .0
 
 part-result-start : tie.Need-part-result-start
-part-result-start c = let w = subst (PieceWithin (length (now (c .before .before .before .args .body)))) (c .before .piece .given .1) (c .before .before .before .pre) in w .0
+part-result-start c =
+    let start = c .before .before .before in
+    let args = start .args in
+    let pre = start .pre in
+    let w = subst (PieceWithin (length (now (args .body)))) (c .before .piece .given .1) pre in
+    w .0
 
 part-result-end : tie.Need-part-result-end
-part-result-end c = let w = subst (PieceWithin (length (now (c .before .before .before .args .body)))) (c .before .piece .given .1) (c .before .before .before .pre) in w .1
+part-result-end c =
+    let start = c .before .before .before in
+    let args = start .args in
+    let pre = start .pre in
+    let w = subst (PieceWithin (length (now (args .body)))) (c .before .piece .given .1) pre in
+    w .1
 
 returns : tie.Need-returns
 returns c = let a = c .before .before .before .before .args in ap (textOr (now (a .body)) (now (a .space))) (sym (c .before .before .piece .given .1))

@@ -1,3 +1,5 @@
+-- Invariant: from the record at `at` on, what room, margins and mark hold gives the whole text (Standing); inside, from a body's chunk on (Writing).
+-- What falls: the bytes of the document after `at`; inside, the bytes of the body after `from`.
 use mathlib.Core.Path.{refl, sym, _∙_}
 use Prim.Native.Nat.{_+_, _-_}
 use native.Mathlib.Omega.{arith}
@@ -10,10 +12,14 @@ use Rattle.console.proofs.walk.Tie as tie
 use Rattle.refusal.specs.declared.Refusal.the-variants as refusal
 use Rattle.splitter.specs.Answers.{cursor}
 use Rattle.splitter.proofs.Answers.{took, ended}
-use Rattle.console.proofs.Standing.{Standing, Writing, stand-first, zeros-shallow, stand-over, stand-known, stand-startable, stand-less, stand-count, stand-column, stand-started, stand-ended, stand-hidden, write-words, stands-refused, stands-done, margin-low, body-few, body-first, column-low, body-done, body-stop, body-on, body-deep, placed-deep, placed-at, nearby-at}
+use Rattle.console.proofs.Standing.{Standing, Writing, stand-first, zeros-shallow, stand-over, stand-known, stand-startable, stand-less}
+use Rattle.console.proofs.Standing.{stand-count, stand-column, stand-started, stand-ended, stand-hidden, write-words, stands-refused}
+use Rattle.console.proofs.Standing.{stands-done, margin-low, body-few, body-first, column-low, body-done, body-stop, body-on, body-deep}
+use Rattle.console.proofs.Standing.{placed-deep, placed-at, nearby-at}
 
 abbrev Inv-chunks : tie.InvT-chunks
-Inv-chunks document set tab room₀ margins count m₀ at start stop next margin body from₀ code₀ room m from code = Writing document set (tab .0) (length room₀) body (margin .0) start next (take count margins) room m (cursor from code)
+Inv-chunks document set tab room₀ margins count m₀ at start stop next margin body from₀ code₀ room m from code =
+    Writing document set (tab .0) (length room₀) body (margin .0) start next (take count margins) room m (cursor from code)
 
 abbrev μ-chunks : tie.MeasureT-chunks
 μ-chunks document set tab room₀ margins count m₀ at start stop next margin body from₀ code₀ room m from code = length body + 1 - from
@@ -25,171 +31,339 @@ abbrev μ-records : tie.MeasureT-records
 μ-records document set tab room₀ margins₀ count₀ m₀ at₀ room margins count m at = length document - at
 
 records-holds : tie.Need-records-holds Inv-chunks μ-chunks Inv-records μ-records
-records-holds c = stand-first (now (c .before .before .before .args .document)) (c .before .before .before .args .set) (c .before .before .before .args .tab .0) (now (c .before .before .before .args .room)) _ (c .first-mark .result) (c .before .before .before .pre .2) refl (zeros-shallow 32) (c .first-mark .ensures .0) (c .first-mark .ensures .1)
+records-holds c =
+    let start = c .before .before .before in
+    let args = start .args in
+    let pre = start .pre in
+    stand-first (now (args .document)) (args .set) (args .tab .0) (now (args .room)) _ (c .first-mark .result) (pre .2) refl (zeros-shallow 32)
+    (c .first-mark .ensures .0) (c .first-mark .ensures .1)
 
 same-length : tie.Need-same-length Inv-chunks μ-chunks Inv-records μ-records
 same-length c = c .before .before .before .records .inv .size
 
 returns : tie.Need-returns Inv-chunks μ-chunks Inv-records μ-records
 returns c =
-    let a = c .before .before .before .before .before .before .before .args in
-    let s = c .before .before .before .records in
-    stands-refused (now (a .document)) (a .set) (a .tab .0) (length (now (a .room))) (s .room) refusal.NoRoom (stand-over _ _ _ _ (s .room) (s .margins) (s .count) (s .m) (s .at) (s .inv) (c .if1 .taken))
+    let after-records = c .before .before .before in
+    let s = after-records .records in
+    let a = after-records .before .before .before .before .args in
+    stands-refused (now (a .document)) (a .set) (a .tab .0) (length (now (a .room))) (s .room) refusal.NoRoom
+    (stand-over _ _ _ _ (s .room) (s .margins) (s .count) (s .m) (s .at) (s .inv) (c .if1 .taken))
 
 records-less : tie.Need-records-less Inv-chunks μ-chunks Inv-records μ-records
 records-less c =
+    let records-test = c .before .before .before .before .before .records-test in
     let s = c .before .before .before .before .before .before .records in
-    absurd (stand-known _ _ _ _ (s .room) (s .margins) (s .count) (s .m) (s .at) (s .inv) (c .before .before .record-at .result) (c .before .before .record-at .ensures) (c .before .before .before .before .before .records-test .taken) (c .enum-told .given .1))
+    absurd (stand-known _ _ _ _ (s .room) (s .margins) (s .count) (s .m) (s .at) (s .inv) (c .before .before .record-at .result)
+    (c .before .before .record-at .ensures) (records-test .taken) (c .enum-told .given .1))
 
 records-again : tie.Need-records-again Inv-chunks μ-chunks Inv-records μ-records
 records-again c =
+    let records-test = c .before .before .before .before .before .records-test in
     let s = c .before .before .before .before .before .before .records in
-    absurd (stand-known _ _ _ _ (s .room) (s .margins) (s .count) (s .m) (s .at) (s .inv) (c .before .before .record-at .result) (c .before .before .record-at .ensures) (c .before .before .before .before .before .records-test .taken) (c .enum-told .given .1))
+    absurd (stand-known _ _ _ _ (s .room) (s .margins) (s .count) (s .m) (s .at) (s .inv) (c .before .before .record-at .result)
+    (c .before .before .record-at .ensures) (records-test .taken) (c .enum-told .given .1))
 
 records-less-2 : tie.Need-records-less-2 Inv-chunks μ-chunks Inv-records μ-records
 records-less-2 c =
-    let s = c .before .before .before .before .before .before .before .before .before .before .before .before .before .before .records in
-    stand-less _ _ _ _ (s .room) (s .margins) (s .count) (s .m) (s .at) (s .inv) (c .before .before .before .before .before .before .before .before .before .before .record-at .result) (c .before .before .before .before .before .before .before .before .before .before .record-at .ensures) (c .before .before .before .before .before .before .before .before .before .before .before .before .before .records-test .taken)
+    let earlier = c .before .before .before .before .before .before .before .before in
+    let record-at = earlier .before .before .record-at in
+    let records-test = earlier .before .before .before .before .before .records-test in
+    let s = earlier .before .before .before .before .before .before .records in
+    stand-less _ _ _ _ (s .room) (s .margins) (s .count) (s .m) (s .at) (s .inv) (record-at .result) (record-at .ensures) (records-test .taken)
 
 records-again-2 : tie.Need-records-again-2 Inv-chunks μ-chunks Inv-records μ-records
 records-again-2 c =
-    let s = c .before .before .before .before .before .before .before .before .before .before .before .before .before .before .records in
-    let g = c .before .before .before .before .started in
-    let r = c .before .before .before .before .before .before .before .before .before .before .record-at in
-    let l = c .before .before .before .before .before .before .before .before .before .before .before .before .before .records-test .taken in
-    let e = c .before .before .before .before .before .before .before .before .k .given .1 in
-    let p = c .before .before .before .before .before .before .before .before .before .before .before .before .before .before .before .before .before .before .pre in
+    let after-started = c .before .before .before .before in
+    let g = after-started .started in
+    let k = after-started .before .before .before .before .k in
+    let after-record-at = after-started .before .before .before .before .before .before in
+    let r = after-record-at .record-at in
+    let records-test = after-record-at .before .before .before .records-test in
+    let after-records = after-record-at .before .before .before .before in
+    let s = after-records .records in
+    let p = after-records .before .before .before .before .pre in
+    let l = records-test .taken in
+    let e = k .given .1 in
     let fit = stand-startable _ _ _ _ (s .room) (s .margins) (s .count) (s .m) (s .at) (s .inv) (r .result) (r .ensures) l _ e (p .0) (p .1) in
-    stand-started _ _ _ _ (s .room) (s .margins) (s .count) (s .m) (s .at) (s .inv) (r .result) (r .ensures) l _
-    (g .last .0) (g .last .1 .0) (g .result .count) (g .result .mark) e (g .kept .0) (g .kept .1 .0)
-    (g .ensures .0 fit) (g .ensures .1 .0) (g .ensures .1 .1 .0) (g .ensures .1 .1 .1) (p .1)
+    stand-started _ _ _ _ (s .room) (s .margins) (s .count) (s .m) (s .at) (s .inv) (r .result) (r .ensures) l _ (g .last .0) (g .last .1 .0)
+    (g .result .count) (g .result .mark) e (g .kept .0) (g .kept .1 .0) (g .ensures .0 fit) (g .ensures .1 .0) (g .ensures .1 .1 .0)
+    (g .ensures .1 .1 .1) (p .1)
 
 records-less-3 : tie.Need-records-less-3 Inv-chunks μ-chunks Inv-records μ-records
 records-less-3 c =
-    let s = c .before .before .before .before .before .before .before .before .before .before .before .before .records in
-    stand-less _ _ _ _ (s .room) (s .margins) (s .count) (s .m) (s .at) (s .inv) (c .before .before .before .before .before .before .before .before .record-at .result) (c .before .before .before .before .before .before .before .before .record-at .ensures) (c .before .before .before .before .before .before .before .before .before .before .before .records-test .taken)
+    let after-record-at = c .before .before .before .before .before .before .before .before in
+    let record-at = after-record-at .record-at in
+    let records-test = after-record-at .before .before .before .records-test in
+    let s = after-record-at .before .before .before .before .records in
+    stand-less _ _ _ _ (s .room) (s .margins) (s .count) (s .m) (s .at) (s .inv) (record-at .result) (record-at .ensures) (records-test .taken)
 
 records-again-3 : tie.Need-records-again-3 Inv-chunks μ-chunks Inv-records μ-records
 records-again-3 c =
-    let s = c .before .before .before .before .before .before .before .before .before .before .before .before .records in
     let g = c .before .before .before .ended in
-    let r = c .before .before .before .before .before .before .before .before .record-at in
-    let fits = stand-column _ _ _ _ (s .room) (s .margins) (s .count) (s .m) (s .at) (s .inv) (c .before .before .before .before .before .before .before .before .before .before .before .before .before .before .before .before .pre .0) in
+    let after-k2 = c .before .before .before .before .before .before in
+    let k2 = after-k2 .k2 in
+    let r = after-k2 .before .before .record-at in
+    let records-test = after-k2 .before .before .before .before .before .records-test in
+    let after-records = after-k2 .before .before .before .before .before .before in
+    let s = after-records .records in
+    let pre = after-records .before .before .before .before .pre in
+    let fits = stand-column _ _ _ _ (s .room) (s .margins) (s .count) (s .m) (s .at) (s .inv) (pre .0) in
     let few = stand-count _ _ _ _ (s .room) (s .margins) (s .count) (s .m) (s .at) (s .inv) in
-    stand-ended _ _ _ _ (s .room) (s .margins) (s .count) (s .m) (s .at) (s .inv) (r .result) (r .ensures) (c .before .before .before .before .before .before .before .before .before .before .before .records-test .taken) _
-    (g .last .0) (g .result .count) (g .result .mark) (c .before .before .before .before .before .before .k2 .given .1) (g .kept .0) (g .ensures .0 fits (s .margins) few) (g .ensures .1 .0) (g .ensures .1 .1)
+    stand-ended _ _ _ _ (s .room) (s .margins) (s .count) (s .m) (s .at) (s .inv) (r .result) (r .ensures) (records-test .taken) _ (g .last .0)
+    (g .result .count) (g .result .mark) (k2 .given .1) (g .kept .0) (g .ensures .0 fits (s .margins) few) (g .ensures .1 .0) (g .ensures .1 .1)
 
 records-less-4 : tie.Need-records-less-4 Inv-chunks μ-chunks Inv-records μ-records
 records-less-4 c =
-    let s = c .before .before .before .before .before .before .before .before .before .records in
-    stand-less _ _ _ _ (s .room) (s .margins) (s .count) (s .m) (s .at) (s .inv) (c .before .before .before .before .before .record-at .result) (c .before .before .before .before .before .record-at .ensures) (c .before .before .before .before .before .before .before .before .records-test .taken)
+    let after-record-at = c .before .before .before .before .before in
+    let record-at = after-record-at .record-at in
+    let records-test = after-record-at .before .before .before .records-test in
+    let s = after-record-at .before .before .before .before .records in
+    stand-less _ _ _ _ (s .room) (s .margins) (s .count) (s .m) (s .at) (s .inv) (record-at .result) (record-at .ensures) (records-test .taken)
 
 records-again-4 : tie.Need-records-again-4 Inv-chunks μ-chunks Inv-records μ-records
 records-again-4 c =
-    let s = c .before .before .before .before .before .before .before .before .before .records in
-    stand-hidden _ _ _ _ (s .room) (s .margins) (s .count) (s .m) (s .at) (s .inv) (c .before .before .before .before .before .record-at .result) (c .before .before .before .before .before .record-at .ensures) (c .before .before .before .before .before .before .before .before .records-test .taken) _ (c .before .before .before .enum-told2 .given .1) (ltb-true 0 (s .m .lay .skip) (sym (c .before .enabled .ensures) ∙ c .if2 .taken))
+    let enum-told2 = c .before .before .before .enum-told2 in
+    let after-record-at = c .before .before .before .before .before in
+    let record-at = after-record-at .record-at in
+    let records-test = after-record-at .before .before .before .records-test in
+    let s = after-record-at .before .before .before .before .records in
+    stand-hidden _ _ _ _ (s .room) (s .margins) (s .count) (s .m) (s .at) (s .inv) (record-at .result) (record-at .ensures) (records-test .taken) _
+    (enum-told2 .given .1) (ltb-true 0 (s .m .lay .skip) (sym (c .before .enabled .ensures) ∙ c .if2 .taken))
 
 sub-body : tie.Need-sub-body Inv-chunks μ-chunks Inv-records μ-records
-sub-body c = let r = c .before .before .before .before .before .before .before .record-at .ensures in omega (arith, r .order, r .ends)
+sub-body c =
+    let record-at = c .before .before .before .before .before .before .before .record-at in
+    let r = record-at .ensures in
+    omega (arith, r .order, r .ends)
 
 part-body-start : tie.Need-part-body-start Inv-chunks μ-chunks Inv-records μ-records
-part-body-start c = let r = c .before .before .before .before .before .before .before .record-at .ensures in omega (arith, r .order, r .ends)
+part-body-start c =
+    let record-at = c .before .before .before .before .before .before .before .record-at in
+    let r = record-at .ensures in
+    omega (arith, r .order, r .ends)
 
 part-body-end : tie.Need-part-body-end Inv-chunks μ-chunks Inv-records μ-records
-part-body-end c = let r = c .before .before .before .before .before .before .before .record-at .ensures in omega (arith, r .high, r .ends)
+part-body-end c =
+    let record-at = c .before .before .before .before .before .before .before .record-at in
+    let r = record-at .ensures in
+    omega (arith, r .high, r .ends)
 
 chunks-holds : tie.Need-chunks-holds Inv-chunks μ-chunks Inv-records μ-records
 chunks-holds c =
-    let s = c .before .before .before .before .before .before .before .before .before .before .before .before .records in
-    body-first _ _ _ _ (s .room) (s .margins) (s .count) (s .m) (s .at) (s .inv) (c .before .before .before .before .before .before .before .before .record-at .result) (c .before .before .before .before .before .before .before .before .record-at .ensures) (c .before .before .before .before .before .before .before .before .before .before .before .records-test .taken) (c .before .before .before .before .before .before .before .before .before .before .before .before .before .before .before .before .pre .0) _ (c .before .before .before .before .before .before .enum-told2 .given .1) (c .before .top-margin .result .0) (c .before .top-margin .ensures) (ltb-false 0 (s .m .lay .skip) (sym (c .before .before .before .before .enabled .ensures) ∙ c .before .before .before .if2 .left))
+    let if2 = c .before .before .before .if2 in
+    let enabled = c .before .before .before .before .enabled in
+    let after-enum-told2 = c .before .before .before .before .before .before in
+    let enum-told2 = after-enum-told2 .enum-told2 in
+    let record-at = after-enum-told2 .before .before .record-at in
+    let records-test = after-enum-told2 .before .before .before .before .before .records-test in
+    let after-records = after-enum-told2 .before .before .before .before .before .before in
+    let s = after-records .records in
+    let pre = after-records .before .before .before .before .pre in
+    body-first _ _ _ _ (s .room) (s .margins) (s .count) (s .m) (s .at) (s .inv) (record-at .result) (record-at .ensures) (records-test .taken)
+    (pre .0) _ (enum-told2 .given .1) (c .before .top-margin .result .0) (c .before .top-margin .ensures)
+    (ltb-false 0 (s .m .lay .skip) (sym (enabled .ensures) ∙ if2 .left))
 
 records-less-5 : tie.Need-records-less-5 Inv-chunks μ-chunks Inv-records μ-records
 records-less-5 c =
-    let s = c .before .before .before .before .before .before .before .before .before .before .before .before .before .before .before .before .before .before .before .before .before .records in
-    stand-less _ _ _ _ (s .room) (s .margins) (s .count) (s .m) (s .at) (s .inv) (c .before .before .before .before .before .before .before .before .before .before .before .before .before .before .before .before .before .record-at .result) (c .before .before .before .before .before .before .before .before .before .before .before .before .before .before .before .before .before .record-at .ensures) (c .before .before .before .before .before .before .before .before .before .before .before .before .before .before .before .before .before .before .before .before .records-test .taken)
+    let earlier = c .before .before .before .before .before .before .before .before in
+    let after-record-at = earlier .before .before .before .before .before .before .before .before .before in
+    let record-at = after-record-at .record-at in
+    let records-test = after-record-at .before .before .before .records-test in
+    let s = after-record-at .before .before .before .before .records in
+    stand-less _ _ _ _ (s .room) (s .margins) (s .count) (s .m) (s .at) (s .inv) (record-at .result) (record-at .ensures) (records-test .taken)
 
 records-again-5 : tie.Need-records-again-5 Inv-chunks μ-chunks Inv-records μ-records
 records-again-5 c =
-    let s = c .before .before .before .before .before .before .before .before .before .before .before .before .before .before .before .before .before .before .before .before .before .records in
-    let v = c .before .before .before .before .before .before .before .before .chunks in
-    let u = c .before .before .before .before .before .before .put-words in
-    let i = write-words _ _ _ _ _ _ _ _ _ (v .room) (v .m) (cursor (v .from) (v .code)) (v .inv) (u .last .0) (u .result .mark) (u .result .at) (u .kept .0) (u .ensures) in
-    body-done _ _ _ _ (s .room) (s .margins) (s .count) (s .m) (s .at) (s .inv) (c .before .before .before .before .before .before .before .before .before .before .before .before .before .before .before .before .before .record-at .result) (c .before .before .before .before .before .before .before .before .before .before .before .before .before .before .before .before .before .record-at .ensures) (c .before .before .before .before .before .before .before .before .before .before .before .before .before .before .before .before .before .before .before .before .records-test .taken) (c .before .before .before .before .before .before .before .before .before .before .before .before .before .before .before .before .before .before .before .before .before .before .before .before .before .pre .0) _ (c .before .before .before .before .before .before .before .before .before .before .before .before .before .before .before .enum-told2 .given .1) (c .before .before .before .before .before .before .before .before .before .before .top-margin .result .0) (c .before .before .before .before .before .before .before .before .before .before .top-margin .ensures) (u .last .0) (u .result .mark) (cursor (u .result .at) (v .code)) i (ended _ (cursor (u .result .at) (v .code)) (c .before .before .step-at .result) (c .enum-told3 .given .1) (c .before .before .step-at .ensures))
+    let after-put-words = c .before .before .before .before .before .before in
+    let u = after-put-words .put-words in
+    let v = after-put-words .before .before .chunks in
+    let after-top-margin = after-put-words .before .before .before .before in
+    let top-margin = after-top-margin .top-margin in
+    let after-enum-told2 = after-top-margin .before .before .before .before .before in
+    let enum-told2 = after-enum-told2 .enum-told2 in
+    let record-at = after-enum-told2 .before .before .record-at in
+    let records-test = after-enum-told2 .before .before .before .before .before .records-test in
+    let after-records = after-enum-told2 .before .before .before .before .before .before in
+    let s = after-records .records in
+    let pre = after-records .before .before .before .before .pre in
+    let i =
+    write-words _ _ _ _ _ _ _ _ _ (v .room) (v .m) (cursor (v .from) (v .code)) (v .inv) (u .last .0) (u .result .mark) (u .result .at) (u .kept .0)
+    (u .ensures) in
+    body-done _ _ _ _ (s .room) (s .margins) (s .count) (s .m) (s .at) (s .inv) (record-at .result) (record-at .ensures) (records-test .taken)
+    (pre .0) _ (enum-told2 .given .1) (top-margin .result .0) (top-margin .ensures) (u .last .0) (u .result .mark) (cursor (u .result .at) (v .code))
+    i
+    (ended _ (cursor (u .result .at) (v .code)) (c .before .before .step-at .result) (c .enum-told3 .given .1) (c .before .before .step-at .ensures))
 
 put-piece-requires : tie.Need-put-piece-requires Inv-chunks μ-chunks Inv-records μ-records
 put-piece-requires c κs =
-    let s = c .before .before .before .before .before .before .before .before .before .before .before .before .before .before .before .before .before .before .before .before .before .before .before .records in
-    let v = c .before .before .before .before .before .before .before .before .before .before .chunks in
-    let u = c .before .before .before .before .before .before .before .before .put-words in
-    let i = write-words _ _ _ _ _ _ _ _ _ (v .room) (v .m) (cursor (v .from) (v .code)) (v .inv) (u .last .0) (u .result .mark) (u .result .at) (u .kept .0) (u .ensures) in
-    let t = took _ (cursor (u .result .at) (v .code)) (c .before .before .before .before .step-at .result) _ _ (c .before .before .piece .given .1) (c .before .before .before .before .step-at .ensures) in
-    let low = margin-low _ _ _ _ (s .room) (s .margins) (s .count) (s .m) (s .at) (s .inv) (c .before .before .before .before .before .before .before .before .before .before .before .before .before .before .before .before .before .before .before .record-at .result) (c .before .before .before .before .before .before .before .before .before .before .before .before .before .before .before .before .before .before .before .record-at .ensures) (c .before .before .before .before .before .before .before .before .before .before .before .before .before .before .before .before .before .before .before .before .before .before .records-test .taken) (c .before .before .before .before .before .before .before .before .before .before .before .before .before .before .before .before .before .before .before .before .before .before .before .before .before .before .before .pre .0) _ (c .before .before .before .before .before .before .before .before .before .before .before .before .before .before .before .before .before .enum-told2 .given .1) (c .before .before .before .before .before .before .before .before .before .before .before .before .top-margin .result .0) (c .before .before .before .before .before .before .before .before .before .before .before .before .top-margin .ensures) in (
-      column-low _ _ _ _ (s .room) (s .margins) (s .count) (s .m) (s .at) (s .inv) (c .before .before .before .before .before .before .before .before .before .before .before .before .before .before .before .before .before .before .before .record-at .result) (c .before .before .before .before .before .before .before .before .before .before .before .before .before .before .before .before .before .before .before .record-at .ensures) (c .before .before .before .before .before .before .before .before .before .before .before .before .before .before .before .before .before .before .before .before .before .before .records-test .taken) (c .before .before .before .before .before .before .before .before .before .before .before .before .before .before .before .before .before .before .before .before .before .before .before .before .before .before .before .pre .0) _ (c .before .before .before .before .before .before .before .before .before .before .before .before .before .before .before .before .before .enum-told2 .given .1) (c .before .before .before .before .before .before .before .before .before .before .before .before .top-margin .result .0) (c .before .before .before .before .before .before .before .before .before .before .before .before .top-margin .ensures) (u .last .0) (u .result .mark) (cursor (u .result .at) (v .code)) i,
+    let after-step-at = c .before .before .before .before in
+    let step-at = after-step-at .step-at in
+    let u = after-step-at .before .before .before .before .put-words in
+    let after-chunks = after-step-at .before .before .before .before .before .before in
+    let v = after-chunks .chunks in
+    let after-top-margin = after-chunks .before .before in
+    let top-margin = after-top-margin .top-margin in
+    let after-enum-told2 = after-top-margin .before .before .before .before .before in
+    let enum-told2 = after-enum-told2 .enum-told2 in
+    let record-at = after-enum-told2 .before .before .record-at in
+    let records-test = after-enum-told2 .before .before .before .before .before .records-test in
+    let after-records = after-enum-told2 .before .before .before .before .before .before in
+    let s = after-records .records in
+    let pre = after-records .before .before .before .before .pre in
+    let i =
+    write-words _ _ _ _ _ _ _ _ _ (v .room) (v .m) (cursor (v .from) (v .code)) (v .inv) (u .last .0) (u .result .mark) (u .result .at) (u .kept .0)
+    (u .ensures) in
+    let t = took _ (cursor (u .result .at) (v .code)) (step-at .result) _ _ (c .before .before .piece .given .1) (step-at .ensures) in
+    let low =
+    margin-low _ _ _ _ (s .room) (s .margins) (s .count) (s .m) (s .at) (s .inv) (record-at .result) (record-at .ensures) (records-test .taken)
+    (pre .0) _ (enum-told2 .given .1) (top-margin .result .0) (top-margin .ensures) in (
+      column-low _ _ _ _ (s .room) (s .margins) (s .count) (s .m) (s .at) (s .inv) (record-at .result) (record-at .ensures) (records-test .taken)
+          (pre .0) _ (enum-told2 .given .1) (top-margin .result .0) (top-margin .ensures) (u .last .0) (u .result .mark) (cursor (u .result .at) (v .code))
+          i,
       omega (arith, low),
-      body-few _ _ _ _ (s .room) (s .margins) (s .count) (s .m) (s .at) (s .inv) (c .before .before .before .before .before .before .before .before .before .before .before .before .before .before .before .before .before .before .before .record-at .result) (c .before .before .before .before .before .before .before .before .before .before .before .before .before .before .before .before .before .before .before .record-at .ensures) (c .before .before .before .before .before .before .before .before .before .before .before .before .before .before .before .before .before .before .before .before .before .before .records-test .taken) (c .before .before .before .before .before .before .before .before .before .before .before .before .before .before .before .before .before .before .before .before .before .before .before .before .before .before .before .pre .0) _ (c .before .before .before .before .before .before .before .before .before .before .before .before .before .before .before .before .before .enum-told2 .given .1) (c .before .before .before .before .before .before .before .before .before .before .before .before .top-margin .result .0) (c .before .before .before .before .before .before .before .before .before .before .before .before .top-margin .ensures),
-      (let r = c .before .before .before .before .before .before .before .before .before .before .before .before .before .before .before .before .before .before .before .record-at .ensures in omega (arith, r .order, r .high, c .before .before .before .before .before .before .before .before .before .before .before .before .before .before .before .before .before .before .before .before .before .before .before .before .before .before .before .pre .0)),
+      body-few _ _ _ _ (s .room) (s .margins) (s .count) (s .m) (s .at) (s .inv) (record-at .result) (record-at .ensures) (records-test .taken)
+          (pre .0) _ (enum-told2 .given .1) (top-margin .result .0) (top-margin .ensures),
+      (let r = record-at .ensures in omega (arith, r .order, r .high, pre .0)),
       t .piece,
     )
 
 same-length-2 : tie.Need-same-length-2 Inv-chunks μ-chunks Inv-records μ-records
-same-length-2 c = c .before .before .before .before .before .put-piece .kept .0 ∙ c .before .before .before .before .before .before .before .before .before .before .before .before .before .before .put-words .kept .0 ∙ c .before .before .before .before .before .before .before .before .before .before .before .before .before .before .before .before .chunks .inv .size ∙ c .before .before .before .before .before .before .before .before .before .before .before .before .before .before .before .before .before .before .before .before .before .before .before .before .before .before .before .before .before .records .inv .size
+same-length-2 c =
+    let after-put-piece = c .before .before .before .before .before in
+    let put-piece = after-put-piece .put-piece in
+    let after-put-words = after-put-piece .before .before .before .before .before .before .before .before .before in
+    let put-words = after-put-words .put-words in
+    let after-chunks = after-put-words .before .before in
+    let chunks = after-chunks .chunks in
+    let earlier = after-chunks .before .before .before .before .before .before .before .before in
+    let records = earlier .before .before .before .before .before .records in
+    put-piece .kept .0 ∙ put-words .kept .0 ∙ chunks .inv .size ∙ records .inv .size
 
 returns-2 : tie.Need-returns-2 Inv-chunks μ-chunks Inv-records μ-records
 returns-2 c =
-    let a = c .before .before .before .before .before .before .before .before .before .before .before .before .before .before .before .before .before .before .before .before .before .before .before .before .before .before .before .before .before .before .before .before .before .args in
-    let s = c .before .before .before .before .before .before .before .before .before .before .before .before .before .before .before .before .before .before .before .before .before .before .before .before .before .before .before .before .before .records in
-    let v = c .before .before .before .before .before .before .before .before .before .before .before .before .before .before .before .before .chunks in
-    let u = c .before .before .before .before .before .before .before .before .before .before .before .before .before .before .put-words in
-    let i = write-words _ _ _ _ _ _ _ _ _ (v .room) (v .m) (cursor (v .from) (v .code)) (v .inv) (u .last .0) (u .result .mark) (u .result .at) (u .kept .0) (u .ensures) in
-    let g = c .before .before .before .before .before .put-piece in
+    let after-put-piece = c .before .before .before .before .before in
+    let g = after-put-piece .put-piece in
+    let piece = after-put-piece .before .before .before .piece in
+    let after-step-at = after-put-piece .before .before .before .before .before in
+    let step-at = after-step-at .step-at in
+    let u = after-step-at .before .before .before .before .put-words in
+    let after-chunks = after-step-at .before .before .before .before .before .before in
+    let v = after-chunks .chunks in
+    let after-top-margin = after-chunks .before .before in
+    let top-margin = after-top-margin .top-margin in
+    let after-enum-told2 = after-top-margin .before .before .before .before .before in
+    let enum-told2 = after-enum-told2 .enum-told2 in
+    let record-at = after-enum-told2 .before .before .record-at in
+    let records-test = after-enum-told2 .before .before .before .before .before .records-test in
+    let after-records = after-enum-told2 .before .before .before .before .before .before in
+    let s = after-records .records in
+    let start = after-records .before .before .before .before in
+    let a = start .args in
+    let pre = start .pre in
+    let i =
+    write-words _ _ _ _ _ _ _ _ _ (v .room) (v .m) (cursor (v .from) (v .code)) (v .inv) (u .last .0) (u .result .mark) (u .result .at) (u .kept .0)
+    (u .ensures) in
     stands-refused (now (a .document)) (a .set) (a .tab .0) (length (now (a .room))) (g .last .0) (refusal.BeyondMargin _)
-    (body-deep _ _ _ _ (s .room) (s .margins) (s .count) (s .m) (s .at) (s .inv) (c .before .before .before .before .before .before .before .before .before .before .before .before .before .before .before .before .before .before .before .before .before .before .before .before .before .record-at .result) (c .before .before .before .before .before .before .before .before .before .before .before .before .before .before .before .before .before .before .before .before .before .before .before .before .before .record-at .ensures) (c .before .before .before .before .before .before .before .before .before .before .before .before .before .before .before .before .before .before .before .before .before .before .before .before .before .before .before .before .records-test .taken) (c .before .before .before .before .before .before .before .before .before .before .before .before .before .before .before .before .before .before .before .before .before .before .before .before .before .before .before .before .before .before .before .before .before .pre .0) _ (c .before .before .before .before .before .before .before .before .before .before .before .before .before .before .before .before .before .before .before .before .before .before .before .enum-told2 .given .1) (c .before .before .before .before .before .before .before .before .before .before .before .before .before .before .before .before .before .before .top-margin .result .0) (c .before .before .before .before .before .before .before .before .before .before .before .before .before .before .before .before .before .before .top-margin .ensures) (u .last .0) (u .result .mark) (cursor (u .result .at) (v .code)) i _ _
-    (took _ (cursor (u .result .at) (v .code)) (c .before .before .before .before .before .before .before .before .before .before .step-at .result) _ _ (c .before .before .before .before .before .before .before .before .piece .given .1) (c .before .before .before .before .before .before .before .before .before .before .step-at .ensures)) _ (placed-deep (g .last .0) (take (s .count) (s .margins)) (g .result) _ _ (c .before .placed .given .1) (g .ensures .0 (take (s .count) (s .margins)))))
+    (body-deep _ _ _ _ (s .room) (s .margins) (s .count) (s .m) (s .at) (s .inv) (record-at .result) (record-at .ensures) (records-test .taken)
+    (pre .0) _ (enum-told2 .given .1) (top-margin .result .0) (top-margin .ensures) (u .last .0) (u .result .mark) (cursor (u .result .at) (v .code))
+    i _ _ (took _ (cursor (u .result .at) (v .code)) (step-at .result) _ _ (piece .given .1) (step-at .ensures)) _
+    (placed-deep (g .last .0) (take (s .count) (s .margins)) (g .result) _ _ (c .before .placed .given .1)
+    (g .ensures .0 (take (s .count) (s .margins)))))
 
 records-less-6 : tie.Need-records-less-6 Inv-chunks μ-chunks Inv-records μ-records
 records-less-6 c =
-    let s = c .before .before .before .before .before .before .before .before .before .before .before .before .before .before .before .before .before .before .before .before .before .before .before .before .before .before .before .before .before .before .before .records in
-    stand-less _ _ _ _ (s .room) (s .margins) (s .count) (s .m) (s .at) (s .inv) (c .before .before .before .before .before .before .before .before .before .before .before .before .before .before .before .before .before .before .before .before .before .before .before .before .before .before .before .record-at .result) (c .before .before .before .before .before .before .before .before .before .before .before .before .before .before .before .before .before .before .before .before .before .before .before .before .before .before .before .record-at .ensures) (c .before .before .before .before .before .before .before .before .before .before .before .before .before .before .before .before .before .before .before .before .before .before .before .before .before .before .before .before .before .before .records-test .taken)
+    let earlier = c .before .before .before .before .before .before .before .before in
+    let earlier′ = earlier .before .before .before .before .before .before .before .before in
+    let earlier′′ = earlier′ .before .before .before .before .before .before .before .before in
+    let record-at = earlier′′ .before .before .before .record-at in
+    let after-records-test = earlier′′ .before .before .before .before .before .before in
+    let records-test = after-records-test .records-test in
+    let s = after-records-test .before .records in
+    stand-less _ _ _ _ (s .room) (s .margins) (s .count) (s .m) (s .at) (s .inv) (record-at .result) (record-at .ensures) (records-test .taken)
 
 records-again-6 : tie.Need-records-again-6 Inv-chunks μ-chunks Inv-records μ-records
 records-again-6 c =
-    let s = c .before .before .before .before .before .before .before .before .before .before .before .before .before .before .before .before .before .before .before .before .before .before .before .before .before .before .before .before .before .before .before .records in
-    let v = c .before .before .before .before .before .before .before .before .before .before .before .before .before .before .before .before .before .before .chunks in
-    let u = c .before .before .before .before .before .before .before .before .before .before .before .before .before .before .before .before .put-words in
-    let i = write-words _ _ _ _ _ _ _ _ _ (v .room) (v .m) (cursor (v .from) (v .code)) (v .inv) (u .last .0) (u .result .mark) (u .result .at) (u .kept .0) (u .ensures) in
-    let g = c .before .before .before .before .before .before .before .put-piece in
-    body-stop _ _ _ _ (s .room) (s .margins) (s .count) (s .m) (s .at) (s .inv) (c .before .before .before .before .before .before .before .before .before .before .before .before .before .before .before .before .before .before .before .before .before .before .before .before .before .before .before .record-at .result) (c .before .before .before .before .before .before .before .before .before .before .before .before .before .before .before .before .before .before .before .before .before .before .before .before .before .before .before .record-at .ensures) (c .before .before .before .before .before .before .before .before .before .before .before .before .before .before .before .before .before .before .before .before .before .before .before .before .before .before .before .before .before .before .records-test .taken) (c .before .before .before .before .before .before .before .before .before .before .before .before .before .before .before .before .before .before .before .before .before .before .before .before .before .before .before .before .before .before .before .before .before .before .before .pre .0) _ (c .before .before .before .before .before .before .before .before .before .before .before .before .before .before .before .before .before .before .before .before .before .before .before .before .before .enum-told2 .given .1) (c .before .before .before .before .before .before .before .before .before .before .before .before .before .before .before .before .before .before .before .before .top-margin .result .0) (c .before .before .before .before .before .before .before .before .before .before .before .before .before .before .before .before .before .before .before .before .top-margin .ensures) (u .last .0) (u .result .mark) (cursor (u .result .at) (v .code)) i _ _
-    (took _ (cursor (u .result .at) (v .code)) (c .before .before .before .before .before .before .before .before .before .before .before .before .step-at .result) _ _ (c .before .before .before .before .before .before .before .before .before .before .piece .given .1) (c .before .before .before .before .before .before .before .before .before .before .before .before .step-at .ensures)) (g .last .0) _ (g .kept .0)
-    (placed-at (g .last .0) (take (s .count) (s .margins)) (g .result) _ _ (c .before .before .before .placed2 .given .1) (g .ensures .0 (take (s .count) (s .margins)))) (nearby-at _ _ (g .result) _ (c .before .before .before .placed2 .given .1) (g .ensures .1))
-    (sym (c .before .ends-body .ensures _) ∙ c .if3 .taken)
+    let after-placed2 = c .before .before .before in
+    let placed2 = after-placed2 .placed2 in
+    let after-put-piece = after-placed2 .before .before .before .before in
+    let g = after-put-piece .put-piece in
+    let piece = after-put-piece .before .before .before .piece in
+    let after-step-at = after-put-piece .before .before .before .before .before in
+    let step-at = after-step-at .step-at in
+    let u = after-step-at .before .before .before .before .put-words in
+    let after-chunks = after-step-at .before .before .before .before .before .before in
+    let v = after-chunks .chunks in
+    let after-top-margin = after-chunks .before .before in
+    let top-margin = after-top-margin .top-margin in
+    let after-enum-told2 = after-top-margin .before .before .before .before .before in
+    let enum-told2 = after-enum-told2 .enum-told2 in
+    let record-at = after-enum-told2 .before .before .record-at in
+    let records-test = after-enum-told2 .before .before .before .before .before .records-test in
+    let after-records = after-enum-told2 .before .before .before .before .before .before in
+    let s = after-records .records in
+    let pre = after-records .before .before .before .before .pre in
+    let i =
+    write-words _ _ _ _ _ _ _ _ _ (v .room) (v .m) (cursor (v .from) (v .code)) (v .inv) (u .last .0) (u .result .mark) (u .result .at) (u .kept .0)
+    (u .ensures) in
+    body-stop _ _ _ _ (s .room) (s .margins) (s .count) (s .m) (s .at) (s .inv) (record-at .result) (record-at .ensures) (records-test .taken)
+    (pre .0) _ (enum-told2 .given .1) (top-margin .result .0) (top-margin .ensures) (u .last .0) (u .result .mark) (cursor (u .result .at) (v .code))
+    i _ _ (took _ (cursor (u .result .at) (v .code)) (step-at .result) _ _ (piece .given .1) (step-at .ensures)) (g .last .0) _ (g .kept .0)
+    (placed-at (g .last .0) (take (s .count) (s .margins)) (g .result) _ _ (placed2 .given .1) (g .ensures .0 (take (s .count) (s .margins))))
+    (nearby-at _ _ (g .result) _ (placed2 .given .1) (g .ensures .1)) (sym (c .before .ends-body .ensures _) ∙ c .if3 .taken)
 
 chunks-less : tie.Need-chunks-less Inv-chunks μ-chunks Inv-records μ-records
 chunks-less c =
-    let v = c .before .before .before .before .before .before .before .before .before .before .before .before .before .before .before .before .before .before .chunks in
-    let u = c .before .before .before .before .before .before .before .before .before .before .before .before .before .before .before .before .put-words in
-    let t = took _ (cursor (u .result .at) (v .code)) (c .before .before .before .before .before .before .before .before .before .before .before .before .step-at .result) _ _ (c .before .before .before .before .before .before .before .before .before .before .piece .given .1) (c .before .before .before .before .before .before .before .before .before .before .before .before .step-at .ensures) in
+    let earlier = c .before .before .before .before .before .before .before .before in
+    let piece = earlier .before .before .piece in
+    let after-step-at = earlier .before .before .before .before in
+    let step-at = after-step-at .step-at in
+    let u = after-step-at .before .before .before .before .put-words in
+    let v = after-step-at .before .before .before .before .before .before .chunks in
+    let t = took _ (cursor (u .result .at) (v .code)) (step-at .result) _ _ (piece .given .1) (step-at .ensures) in
     omega (arith, t .further, t .short, u .ensures .order)
 
 chunks-again : tie.Need-chunks-again Inv-chunks μ-chunks Inv-records μ-records
 chunks-again c =
-    let s = c .before .before .before .before .before .before .before .before .before .before .before .before .before .before .before .before .before .before .before .before .before .before .before .before .before .before .before .before .before .before .before .records in
-    let v = c .before .before .before .before .before .before .before .before .before .before .before .before .before .before .before .before .before .before .chunks in
-    let u = c .before .before .before .before .before .before .before .before .before .before .before .before .before .before .before .before .put-words in
-    let i = write-words _ _ _ _ _ _ _ _ _ (v .room) (v .m) (cursor (v .from) (v .code)) (v .inv) (u .last .0) (u .result .mark) (u .result .at) (u .kept .0) (u .ensures) in
-    let g = c .before .before .before .before .before .before .before .put-piece in
-    body-on _ _ _ _ (s .room) (s .margins) (s .count) (s .m) (s .at) (s .inv) (c .before .before .before .before .before .before .before .before .before .before .before .before .before .before .before .before .before .before .before .before .before .before .before .before .before .before .before .record-at .result) (c .before .before .before .before .before .before .before .before .before .before .before .before .before .before .before .before .before .before .before .before .before .before .before .before .before .before .before .record-at .ensures) (c .before .before .before .before .before .before .before .before .before .before .before .before .before .before .before .before .before .before .before .before .before .before .before .before .before .before .before .before .before .before .records-test .taken) (c .before .before .before .before .before .before .before .before .before .before .before .before .before .before .before .before .before .before .before .before .before .before .before .before .before .before .before .before .before .before .before .before .before .before .before .pre .0) _ (c .before .before .before .before .before .before .before .before .before .before .before .before .before .before .before .before .before .before .before .before .before .before .before .before .before .enum-told2 .given .1) (c .before .before .before .before .before .before .before .before .before .before .before .before .before .before .before .before .before .before .before .before .top-margin .result .0) (c .before .before .before .before .before .before .before .before .before .before .before .before .before .before .before .before .before .before .before .before .top-margin .ensures) (u .last .0) (u .result .mark) (cursor (u .result .at) (v .code)) i _ _
-    (took _ (cursor (u .result .at) (v .code)) (c .before .before .before .before .before .before .before .before .before .before .before .before .step-at .result) _ _ (c .before .before .before .before .before .before .before .before .before .before .piece .given .1) (c .before .before .before .before .before .before .before .before .before .before .before .before .step-at .ensures)) (g .last .0) _ (g .kept .0)
-    (placed-at (g .last .0) (take (s .count) (s .margins)) (g .result) _ _ (c .before .before .before .placed2 .given .1) (g .ensures .0 (take (s .count) (s .margins)))) (nearby-at _ _ (g .result) _ (c .before .before .before .placed2 .given .1) (g .ensures .1))
-    (sym (c .before .ends-body .ensures _) ∙ c .if3 .left)
+    let after-placed2 = c .before .before .before in
+    let placed2 = after-placed2 .placed2 in
+    let after-put-piece = after-placed2 .before .before .before .before in
+    let g = after-put-piece .put-piece in
+    let piece = after-put-piece .before .before .before .piece in
+    let after-step-at = after-put-piece .before .before .before .before .before in
+    let step-at = after-step-at .step-at in
+    let u = after-step-at .before .before .before .before .put-words in
+    let after-chunks = after-step-at .before .before .before .before .before .before in
+    let v = after-chunks .chunks in
+    let after-top-margin = after-chunks .before .before in
+    let top-margin = after-top-margin .top-margin in
+    let after-enum-told2 = after-top-margin .before .before .before .before .before in
+    let enum-told2 = after-enum-told2 .enum-told2 in
+    let record-at = after-enum-told2 .before .before .record-at in
+    let records-test = after-enum-told2 .before .before .before .before .before .records-test in
+    let after-records = after-enum-told2 .before .before .before .before .before .before in
+    let s = after-records .records in
+    let pre = after-records .before .before .before .before .pre in
+    let i =
+    write-words _ _ _ _ _ _ _ _ _ (v .room) (v .m) (cursor (v .from) (v .code)) (v .inv) (u .last .0) (u .result .mark) (u .result .at) (u .kept .0)
+    (u .ensures) in
+    body-on _ _ _ _ (s .room) (s .margins) (s .count) (s .m) (s .at) (s .inv) (record-at .result) (record-at .ensures) (records-test .taken) (pre .0)
+    _ (enum-told2 .given .1) (top-margin .result .0) (top-margin .ensures) (u .last .0) (u .result .mark) (cursor (u .result .at) (v .code)) i _ _
+    (took _ (cursor (u .result .at) (v .code)) (step-at .result) _ _ (piece .given .1) (step-at .ensures)) (g .last .0) _ (g .kept .0)
+    (placed-at (g .last .0) (take (s .count) (s .margins)) (g .result) _ _ (placed2 .given .1) (g .ensures .0 (take (s .count) (s .margins))))
+    (nearby-at _ _ (g .result) _ (placed2 .given .1) (g .ensures .1)) (sym (c .before .ends-body .ensures _) ∙ c .if3 .left)
 
 same-length-3 : tie.Need-same-length-3 Inv-chunks μ-chunks Inv-records μ-records
 same-length-3 c = c .before .before .finish .kept .0 ∙ c .before .before .before .before .before .records .inv .size
 
 returns-3 : tie.Need-returns-3 Inv-chunks μ-chunks Inv-records μ-records
 returns-3 c =
-    let a = c .before .before .before .before .before .before .before .before .before .args in
-    let s = c .before .before .before .before .before .records in
-    stands-done (now (a .document)) (a .set) (a .tab .0) (length (now (a .room))) (s .room) (c .before .before .finish .last .0) (s .margins) (s .count) (s .m) (s .at) (c .before .before .finish .result) (s .inv) (c .before .before .before .before .records-test .left) (c .before .before .finish .ensures (take (s .count) (s .margins)))
+    let finish = c .before .before .finish in
+    let records-test = c .before .before .before .before .records-test in
+    let after-records = c .before .before .before .before .before in
+    let s = after-records .records in
+    let a = after-records .before .before .before .before .args in
+    stands-done (now (a .document)) (a .set) (a .tab .0) (length (now (a .room))) (s .room) (finish .last .0) (s .margins) (s .count) (s .m) (s .at)
+    (finish .result) (s .inv) (records-test .left) (finish .ensures (take (s .count) (s .margins)))
 
 pub walk-spec : {M : Type 1} → statement M
 walk-spec =
