@@ -28,13 +28,15 @@ module _ (measure : List ℕ → ℕ) (set : Settings) (limit margin at : ℕ) (
   paragraph-full e =
       ended ∙ bind-same x (lineEnd limit) _ (λ s. sym (bind-same (lineEnd limit s) _ gives (λ t. ap gives (if-true _ _ e)) ∙ bind-end (lineEnd limit s)))
 
-  pub paragraph-short : (r′ : Result State) → set .full ≡ false → r′ ≡ (r >>= λ t. gives (withLay (skip 1) t)) → r′ ≡ (x >>= chunk measure set limit margin at paragraph)
+  pub paragraph-short : (r′ : Result State) → set .full ≡ false → r′ ≡ (r >>= λ t. gives (withLay (skip 1) t))
+      → r′ ≡ (x >>= chunk measure set limit margin at paragraph)
   unfolding chunk
   paragraph-short r′ e f =
       bind-two x r r′ (lineEnd limit) (λ t. gives (withLay (skip 1) t)) ended f
       ∙ bind-same x _ _ (λ s. bind-same (lineEnd limit s) _ _ (λ t. ap gives (sym (if-false _ _ e))))
 
-pub skipped : (room kept : List ℕ) (m m′ : Mark) → m′ .len .0 ≡ m .len .0 → m′ .lay ≡ skip 1 (m .lay) → held room kept m′ ≡ (held room kept m >>= λ t. gives (withLay (skip 1) t))
+pub skipped : (room kept : List ℕ) (m m′ : Mark) → m′ .len .0 ≡ m .len .0 → m′ .lay ≡ skip 1 (m .lay)
+    → held room kept m′ ≡ (held room kept m >>= λ t. gives (withLay (skip 1) t))
 skipped room kept m m′ e f = rw (e, f) (shown-changed (withLay (skip 1)) kept kept (m .lay) (skip 1 (m .lay)) (λ x. refl) room (m .len .0))
 
 -- the other chunks
@@ -74,7 +76,8 @@ module _ (body : List ℕ) where
 
 -- the last line end
 module _ (room kept : List ℕ) (m : Mark) where
-  pub last-due : (m .lay .newline || m .lay .blank) ≡ true → (held room kept m >>= write (length room) (0x0A ∷ [])) ≡ (held room kept m >>= finish (length room))
+  pub last-due : (m .lay .newline || m .lay .blank) ≡ true
+      → (held room kept m >>= write (length room) (0x0A ∷ [])) ≡ (held room kept m >>= finish (length room))
   unfolding finish
   last-due e = shown-then room (m .len .0) kept (m .lay) _ _ (λ x. sym (if-true _ _ e))
 

@@ -176,11 +176,13 @@ module _ (room kept : List ℕ) (m : Mark) where
       unfolding fold if_then_else_
       rest-dropped r e s f = f ∙ agree room (m .len .0) kept (m .lay) _ (rest (length room)) (λ h. rw (e, s) (sym (bind-end (folded (length room) here))))
 
-      pub rest-folded : (c : ℕ) (r₁ r₂ : Result State) → folds (set .width) (m .lay .column) (record { 0 = measure x }) ≡ true → isSpace x ≡ false → c ≡ length room
+      pub rest-folded : (c : ℕ) (r₁ r₂ : Result State) → folds (set .width) (m .lay .column) (record { 0 = measure x }) ≡ true → isSpace x ≡ false
+          → c ≡ length room
           → r₁ ≡ (held room kept m >>= folded (length room)) → r₂ ≡ (r₁ >>= put c margin at x w) → r₂ ≡ (held room kept m >>= rest (length room))
       unfolding fold if_then_else_
       rest-folded c r₁ r₂ e s k f g =
-          bind-two (held room kept m) r₁ r₂ _ (put (length room) margin at x w) f (rw k at g) ∙ agree room (m .len .0) kept (m .lay) _ (rest (length room)) (λ h. rw (e, s))
+          bind-two (held room kept m) r₁ r₂ _ (put (length room) margin at x w) f (rw k at g)
+          ∙ agree room (m .len .0) kept (m .lay) _ (rest (length room)) (λ h. rw (e, s))
 
 -- Bounds
 

@@ -13,13 +13,17 @@ use Rattle.console_chunks.proofs.Chunks.{blank-idle, blank-there, blank
 
 returns : tie.Need-returns
 returns c =
-    let a = c .before .before .before .before .before .before .before .before .before .before .before .args in
+    let if2 = c .before .before .before .before .if2 in
+    let after-ends-with = c .before .before .before .before .before in
+    let ends-with = after-ends-with .ends-with in
+    let if1 = after-ends-with .before .before .before .if1 in
+    let a = after-ends-with .before .before .before .before .before .before .args in
     let n = length (now (a .room)) in
-    let open′ = sym (c .before .before .before .before .before .ends-with .ensures) ∙ not-true _ (c .before .before .before .before .if2 .taken) in (
+    let open′ = sym (ends-with .ensures) ∙ not-true _ (if2 .taken) in (
       (λ kept.
           wrote (now (a .room)) _ (a .m .len .0) _ kept (a .m .lay) _ (0x0A ∷ []) n (λ l. l) refl (c .before .before .put .ensures)
           ∙ agree (now (a .room)) (a .m .len .0) kept (a .m .lay) (write n (0x0A ∷ [])) (dueBlank n)
-          (λ h. sym (blank-due n _ (c .before .before .before .before .before .before .before .before .if1 .taken) open′))),
+          (λ h. sym (blank-due n _ (if1 .taken) open′))),
       near-same 0 (a .m .lay),
     )
 

@@ -11,10 +11,16 @@ use Rattle.console_chunks.proofs.Chunks.{line-idle, line-there, line-du
 
 returns : tie.Need-returns
 returns c =
-    let a = c .before .before .before .before .before .before .before .before .before .before .before .before .args in
+    let if2 = c .before .before .before .before .if2 in
+    let after-ends-with = c .before .before .before .before .before in
+    let ends-with = after-ends-with .ends-with in
+    let if1 = after-ends-with .before .before .before .if1 in
+    let after-either = after-ends-with .before .before .before .before in
+    let either = after-either .either in
+    let a = after-either .before .before .before .args in
     let n = length (now (a .room)) in
-    let due = sym (c .before .before .before .before .before .before .before .before .before .either .ensures) ∙ c .before .before .before .before .before .before .before .before .if1 .taken in
-    let open′ = sym (c .before .before .before .before .before .ends-with .ensures) ∙ not-true _ (c .before .before .before .before .if2 .taken) in
+    let due = sym (either .ensures) ∙ if1 .taken in
+    let open′ = sym (ends-with .ensures) ∙ not-true _ (if2 .taken) in
     let l = c .before .before .line-end .ensures in
     ((λ kept. l .0 kept ∙ agree (now (a .room)) (a .m .len .0) kept (a .m .lay) (lineEnd n) (dueLine n) (λ h. sym (line-due n _ due open′))), l .1)
 

@@ -12,15 +12,21 @@ use Rattle.console_chunks.proofs.Chunks.{gap-no, gap-near, gap-wide, ga
 
 returns : tie.Need-returns
 returns c =
-    let a = c .before .before .before .before .before .before .before .before .before .before .before .before .before .args in
+    let after-put-spaces = c .before .before .before .before in
+    let put-spaces = after-put-spaces .put-spaces in
+    let if3 = after-put-spaces .before .before .before .if3 in
+    let if2 = after-put-spaces .before .before .before .before .before .if2 in
+    let after-if1 = after-put-spaces .before .before .before .before .before .before in
+    let if1 = after-if1 .if1 in
+    let a = after-if1 .before .before .before .args in
     let n = length (now (a .room)) in
     let e = c .at-column .ensures in
     let p = c .before .plus .ensures in (
       (λ fits kept.
           wrote (now (a .room)) _ (a .m .len .0) _ kept (a .m .lay) _ (replicate (2 - a .padded .0) 0x20) n
-          (λ l. column (l .column .0 + (2 - a .padded .0)) l) (rw (p .0 (omega arith)) at e) (c .before .before .before .before .put-spaces .ensures)
+          (λ l. column (l .column .0 + (2 - a .padded .0)) l) (rw (p .0 (omega arith)) at e) (put-spaces .ensures)
           ∙ agree (now (a .room)) (a .m .len .0) kept (a .m .lay) _ (gap2 n (a .padded .0))
-          (λ h. sym (gap-due n _ (a .padded .0) (c .before .before .before .before .before .before .before .before .before .before .if1 .taken) (c .before .before .before .before .before .before .before .before .before .if2 .taken) (c .before .before .before .before .before .before .before .if3 .taken)))),
+          (λ h. sym (gap-due n _ (a .padded .0) (if1 .taken) (if2 .taken) (if3 .taken)))),
       near-column 2 _ (a .m .lay) _ e (omega (arith, p .1)),
     )
 

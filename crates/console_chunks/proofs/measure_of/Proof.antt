@@ -10,7 +10,9 @@ returns : tie.Need-returns
 returns c = sym (ap (λ (m : Measure). measureBy m (now (c .before .before .before .args .text))) (c .enum-told .given .1))
 
 returns-2 : tie.Need-returns-2
-returns-2 c = c .count .ensures ∙ sym (ap (λ (m : Measure). measureBy m (now (c .before .before .before .before .args .text))) (c .before .enum-told2 .given .1))
+returns-2 c =
+    let args = c .before .before .before .before .args in
+    c .count .ensures ∙ sym (ap (λ (m : Measure). measureBy m (now (args .text))) (c .before .enum-told2 .given .1))
 
 pub measure-of-spec : {M : Type 1} → statement M
 measure-of-spec = tie.close (tie.spec (λ c. search needs) (λ c. search needs) (λ c κs. search needs) returns returns-2)

@@ -23,19 +23,23 @@ returns-2 c =
 
 returns-3 : tie.Need-returns-3
 returns-3 c =
-    let a = c .before .before .before .before .before .before .before .args in
+    let after-enum-told3 = c .before .before .before .before in
+    let enum-told3 = after-enum-told3 .enum-told3 in
+    let a = after-enum-told3 .before .before .before .args in
     let g = c .before .before .put-paragraph .ensures in (
-      (λ e body margin at kept.
-          chunk-paragraph (measureOf (a .set)) (a .set) (length (now (a .room))) margin at _ _ (chunkOf body (a .piece)) (ap (chunkOf body) (c .before .before .before .before .enum-told3 .given .1)) (g .0 margin at kept)),
+      (λ e body margin at kept. chunk-paragraph (measureOf (a .set)) (a .set) (length (now (a .room))) margin at _ _ (chunkOf body (a .piece))
+          (ap (chunkOf body) (enum-told3 .given .1)) (g .0 margin at kept)),
       g .1,
     )
 
 returns-4 : tie.Need-returns-4
 returns-4 c =
-    let a = c .before .before .before .before .before .before .before .args in
+    let after-enum-told4 = c .before .before .before .before in
+    let enum-told4 = after-enum-told4 .enum-told4 in
+    let a = after-enum-told4 .before .before .before .args in
     let g = c .before .before .line-end .ensures in (
-      (λ e body margin at kept.
-          chunk-break (measureOf (a .set)) (a .set) (length (now (a .room))) margin at _ _ (chunkOf body (a .piece)) (ap (chunkOf body) (c .before .before .before .before .enum-told4 .given .1)) (g .0 kept)),
+      (λ e body margin at kept. chunk-break (measureOf (a .set)) (a .set) (length (now (a .room))) margin at _ _ (chunkOf body (a .piece))
+          (ap (chunkOf body) (enum-told4 .given .1)) (g .0 kept)),
       g .1,
     )
 

@@ -14,22 +14,28 @@ returns c =
 
 returns-2 : tie.Need-returns-2
 returns-2 c =
-    let a = c .before .before .before .before .before .before .before .before .args in (
+    let after-missing-to = c .before .before .before .before in
+    let missing-to = after-missing-to .missing-to in
+    let a = after-missing-to .before .before .before .before .args in (
       (λ fits kept.
-          deep (now (a .room)) kept (a .m) (a .margin .0) (a .at) (now (a .text)) (a .width .0) _ (c .before .before .before .before .missing-to .ensures) (c .before .before .if1 .taken) (c .if2 .left)),
+          deep (now (a .room)) kept (a .m) (a .margin .0) (a .at) (now (a .text)) (a .width .0) _ (missing-to .ensures) (c .before .before .if1 .taken)
+          (c .if2 .left)),
       tt,
     )
 
 returns-3 : tie.Need-returns-3
 returns-3 c =
-    let a = c .before .before .before .before .before .before .before .before .before .before .before .before .before .before .before .before .before .before .args in
-    let miss = c .before .before .before .before .before .before .before .before .before .before .before .before .before .before .missing-to in
-    let r = c .before .before .before .before .before .before .before .before .before .before .reach-margin in
-    let g = c .before .before .before .before .before .before .gap-two in
-    let h = c .before .before .place-here in (
+    let h = c .before .before .place-here in
+    let after-gap-two = c .before .before .before .before .before .before in
+    let g = after-gap-two .gap-two in
+    let r = after-gap-two .before .before .before .before .reach-margin in
+    let after-if1 = after-gap-two .before .before .before .before .before .before in
+    let if1 = after-if1 .if1 in
+    let miss = after-if1 .before .before .missing-to in
+    let a = after-if1 .before .before .before .before .before .before .args in (
       (λ fits kept.
           put-done (now (a .room)) kept (a .m) (a .margin .0) (a .at) (now (a .text)) (a .width .0) (miss .result .0) _ _ _ _ _ (r .kept .0) (g .kept .0)
-          (miss .ensures) (c .before .before .before .before .before .before .before .before .before .before .before .before .if1 .left) (r .ensures .0 kept) (g .ensures .0 (omega (arith, r .ensures .1 .0)) kept)
+          (miss .ensures) (if1 .left) (r .ensures .0 kept) (g .ensures .0 (omega (arith, r .ensures .1 .0)) kept)
           (h .ensures .0 (omega (arith, r .ensures .1 .0, g .ensures .1 .0)) kept)),
       near-then (a .margin .0 + 2) (a .width .0) (a .margin .0 + a .width .0 + 2) (a .m .lay) (g .result .lay) (h .result .lay) (omega arith)
           (near-then (a .margin .0) 2 (a .margin .0 + 2) (a .m .lay) (r .result .lay) (g .result .lay) (omega arith) (r .ensures .1) (g .ensures .1))

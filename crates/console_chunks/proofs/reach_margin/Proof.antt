@@ -13,14 +13,16 @@ use Rattle.console_chunks.proofs.Chunks.{near-column}
 returns : tie.Need-returns
 unfolding reach
 returns c =
-    let a = c .before .before .before .before .before .before .before .before .before .before .args in
+    let put-spaces = c .before .before .before .before .put-spaces in
+    let after-missing-to = c .before .before .before .before .before in
+    let missing-to = after-missing-to .missing-to in
+    let a = after-missing-to .before .before .before .before .before .args in
     let n = length (now (a .room)) in
     let e = c .at-column .ensures in
-    let s = c .before .before .before .before .put-spaces .ensures in
-    let z = c .before .before .before .before .before .missing-to .ensures in
+    let s = put-spaces .ensures in
+    let z = missing-to .ensures in
     let x = c .before .max .ensures in (
-      (λ kept.
-          wrote (now (a .room)) _ (a .m .len .0) _ kept (a .m .lay) _ (replicate (a .margin .0 - a .m .lay .column .0) 0x20) n
+      (λ kept. wrote (now (a .room)) _ (a .m .len .0) _ kept (a .m .lay) _ (replicate (a .margin .0 - a .m .lay .column .0) 0x20) n
           (λ l. column (max (l .column .0) (a .margin .0)) l) (rw x at e) (rw z at s)
           ∙ agree (now (a .room)) (a .m .len .0) kept (a .m .lay) _ (reach n (a .margin .0)) (λ _. refl)),
       near-column (a .margin .0) _ (a .m .lay) _ e (omega arith),
