@@ -1,7 +1,9 @@
 -- What the walks share: the machine values of the step's types, the struct `Splitter`, its fields' facts, and what it owns of its slice.
 -- Machine values are those of `val`, and not of `lowered`: at a field that is an enum the two don't compute to one another.
 -- Assumes nothing.
-use Rattle.proof_kit.proofs.Kit.{_≡_, refl, ℕ, _<_, _^_, List, [], _∷_, length, URA, Val, WT, hasTy, ent, sep, Fml, Heap, Atoms, sem, Given, ‵, _⊛_, given, _$_, _∵_, !, qed, move, drop, use1, split, learn, done, RattleType, Is, u8, RefT, NamedLft, sliceVal, ShrSlice, Declared, all-own, ownAt, rest, own-open, own-out, Values}
+use Rattle.proof_kit.proofs.Kit.{_≡_, refl, ℕ, _<_, _^_, List, [], _∷_, length, URA, Val, WT, hasTy, ent, sep, Fml, Heap, Atoms, sem, Given, ‵, _⊛_}
+use Rattle.proof_kit.proofs.Kit.{given, _$_, _∵_, !, qed, move, drop, use1, split, learn, done, RattleType, Is, u8, RefT, NamedLft, sliceVal}
+use Rattle.proof_kit.proofs.Kit.{ShrSlice, Declared, all-own, ownAt, rest, own-open, own-out, Values}
 use lib.Dec.{T as Holds}
 use denote.Enum.Laws as EL
 use denote.Struct.Laws as LL
@@ -35,7 +37,8 @@ pub cursor-is : (c : Cursor) → c .at < 2 ^ 64 → Is C.the-row (c .code) (code
 cursor-is c fits is = LL.owes K.the-type K′.the-laws c ((refl, fits), (is, tt))
 
 -- the tick state of a cursor has its MIR type
-pub code-of-typed : {M : Type 1} (𝓤 : URA M) (H : Heap 𝓤) (A : Atoms 𝓤) (W : Given 𝓤 H A) (c : Cursor) {vs : List Val} → Is K.the-row c vs → Holds (hasTy C′.mir (code-val (c .code))) × WT (code-val (c .code))
+pub code-of-typed : {M : Type 1} (𝓤 : URA M) (H : Heap 𝓤) (A : Atoms 𝓤) (W : Given 𝓤 H A) (c : Cursor) {vs : List Val} → Is K.the-row c vs
+    → Holds (hasTy C′.mir (code-val (c .code))) × WT (code-val (c .code))
 code-of-typed 𝓤 H A W c is = EL.lawful C.the-type C′.the-laws 𝓤 H A W tt .typed (c .code) _ (LL.owed K.the-type K′.the-laws c _ is .1 .0) .0
 
 -- the struct, at the lifetime a
