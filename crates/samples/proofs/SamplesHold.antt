@@ -25,5 +25,13 @@ use Rattle.manpage.specs.Roff as rof
 use Rattle.samples.specs.Samples.{plain, literal, nested, byRules, samples, Hold}
 
 pub samples-hold : Hold samples
-unfolding plain literal nested byRules samples if_then_else_ startsWith endsWith _>>=_ top pushed popped table rowOf encode bytes whites white blank trim little styles blocks kindOf size tokenAt tokens fits opens closes bodiless accept first reads openBlocks short closed check littleBytes stored text start end around before afterLineEnd ticked step placed split isSpace extended write empty skipStart skipEnd walk body con.termStart con.termEnd con.term con.terms con.tabstop con.emptyBlock con.gapAhead con.lineEnd con.dueLine con.dueBlank con.gap2 con.place con.reach con.pad con.put con.fold con.tick con.started con.ended con.rawChunk con.chunk con.turn con.finish con.narrow con.consoleBy con.console separated escapedBy htm.br htm.entity htm.css htm.change htm.blankLine htm.tagged htm.enter htm.leave htm.finish htm.chunk htm.turn htm.html guard backslash replaced specialByte spacesByte escapeByte escape lineStart preamble monoid.writes monoid.begun monoid.newLine monoid.put monoid.push monoid.pushes composer.fontEscape composer.argument composer.linebreak composer.control0 composer.control composer.plaintext composer.text mappings mapsTo upper rof.subsection rof.captures rof.heading rof.started rof.ended rof.token rof.turn rof.roff
+unfolding plain literal nested byRules samples if_then_else_ startsWith endsWith _>>=_ top pushed popped table rowOf encode bytes whites white
+    blank trim little styles blocks kindOf size tokenAt tokens fits opens closes bodiless accept first reads openBlocks short closed check littleBytes
+    stored text start end around before afterLineEnd ticked step placed split isSpace extended write empty skipStart skipEnd walk body con.termStart
+    con.termEnd con.term con.terms con.tabstop con.emptyBlock con.gapAhead con.lineEnd con.dueLine con.dueBlank con.gap2 con.place con.reach con.pad
+    con.put con.fold con.tick con.started con.ended con.rawChunk con.chunk con.turn con.finish con.narrow con.consoleBy con.console separated
+    escapedBy htm.br htm.entity htm.css htm.change htm.blankLine htm.tagged htm.enter htm.leave htm.finish htm.chunk htm.turn htm.html guard backslash
+    replaced specialByte spacesByte escapeByte escape lineStart preamble monoid.writes monoid.begun monoid.newLine monoid.put monoid.push
+    monoid.pushes composer.fontEscape composer.argument composer.linebreak composer.control0 composer.control composer.plaintext composer.text
+    mappings mapsTo upper rof.subsection rof.captures rof.heading rof.started rof.ended rof.token rof.turn rof.roff
 samples-hold = refl

@@ -12,5 +12,7 @@ use Rattle.samples.specs.Samples.{plain, literal}
 use Rattle.samples.specs.Tabstops.{tabstops, TabbedHold}
 
 pub tabstops-hold : TabbedHold tabstops
-unfolding plain literal tabstops if_then_else_ _>>=_ top pushed popped table rowOf encode bytes little styles blocks kindOf size tokenAt tokens fits littleBytes stored text start end around opens closes bodiless accept first reads openBlocks short closed check termStart termEnd term terms tabstop settledFrom settledAt tabstopIn settledIn
+unfolding plain literal tabstops if_then_else_ _>>=_ top pushed popped table rowOf encode bytes little styles blocks kindOf size tokenAt tokens
+    fits littleBytes stored text start end around opens closes bodiless accept first reads openBlocks short closed check termStart termEnd term terms
+    tabstop settledFrom settledAt tabstopIn settledIn
 tabstops-hold = (refl, refl)
