@@ -20,7 +20,8 @@ use Rattle.splitter.specs.Split.{Chunk, raw, paragraph, lineBreak, split}
 use Rattle.renderer.specs.Walk.{withOut, withLay, page, write, last, anywhere, body}
 use Rattle.skip.specs.Counter.{hides}
 use Rattle.html_rules.specs.Marks.{separated}
-use Rattle.html_rules.specs.Markdown.{State, styled, skip, fenced, startLead, startLine, startText, metTerm, startLay, endText, endLay, codeBegins, codeStops, lineText, wordText, change, separate, begun, started, ended, rawChunk, bodyEnds, finish, chunk, turn}
+use Rattle.html_rules.specs.Markdown.{State, styled, skip, fenced, startLead, startLine, startText, metTerm, startLay, endText, endLay, codeBegins}
+use Rattle.html_rules.specs.Markdown.{codeStops, lineText, wordText, change, separate, begun, started, ended, rawChunk, bodyEnds, finish, chunk, turn}
 use Rattle.html_rules.specs.declared.Markdown.{Markdown}
 use Rattle.html_rules.proofs.Lifts.{lift, lift-then, lift-lay}
 use Rattle.markdown_marks.specs.Parts.{closed, startRule}

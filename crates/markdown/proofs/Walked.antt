@@ -31,7 +31,8 @@ use Rattle.renderer.specs.Walk.{page, withLay, write, shown, last, anywhere, wa
 use Rattle.skip.specs.Counter.{hides, skipParagraph}
 use Rattle.renderer.proofs.Shown.{shown-in, shown-then, shown-by, shown-write, shown-changed}
 use Rattle.renderer.proofs.Leads.{Leads, leads-start, leads-on, chunksThen}
-use Rattle.html_rules.specs.Markdown.{State, plain, initial, styled, skip, fenced, opening, closing, metTerm, startLay, endLay, codeEnds, change, bodyEnds, finish, chunk, turn}
+use Rattle.html_rules.specs.Markdown.{State, plain, initial, styled, skip, fenced, opening, closing, metTerm, startLay, endLay, codeEnds, change}
+use Rattle.html_rules.specs.Markdown.{bodyEnds, finish, chunk, turn}
 use Rattle.html_rules.specs.declared.Markdown.{Markdown}
 use Rattle.html_marks.specs.Parts.{isMeta}
 use Rattle.markdown_marks.specs.Parts.{tags as allTags, closed, startRule, startedText, endedText, Few}
@@ -134,7 +135,8 @@ module _ (limit : ℕ) (full : Bool) (tags document : List ℕ) where
       further : at + 1 ≤ h .next
       further = walking.further (turn limit full) (finish limit) document whole at room len [] lay (o .leads) r l
 
-      by-kind : (k : Kind) → h .kind ≡ k → (s : State) → Turned s ≡ turn limit full at (h .start) k (part document (h .start) (h .stop)) (tokensFrom document (h .next)) s
+      by-kind : (k : Kind) → h .kind ≡ k → (s : State)
+          → Turned s ≡ turn limit full at (h .start) k (part document (h .start) (h .stop)) (tokensFrom document (h .next)) s
       by-kind = walking.by-kind (turn limit full) (finish limit) document whole at room len [] lay (o .leads) r l
 
       turn-leads : (rule : List ℕ → Result (List ℕ)) (new : List ℕ) (n : ℕ) (lay′ : Markdown)

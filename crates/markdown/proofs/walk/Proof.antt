@@ -9,7 +9,8 @@ use Rattle.markdown.proofs.walk.Tie as tie
 use Rattle.splitter.specs.Answers.{cursor}
 use Rattle.splitter.proofs.Answers.{took, ended}
 use Rattle.renderer.specs.Rendered.{Inside}
-use Rattle.markdown.proofs.Walked.{On, InBody, on-start, on-out, on-end, on-unknown, on-meta, on-started, on-ended, on-hidden, on-body, on-done, on-stopped, body-few, body-words, body-on, body-at}
+use Rattle.markdown.proofs.Walked.{On, InBody, on-start, on-out, on-end, on-unknown, on-meta, on-started, on-ended, on-hidden, on-body}
+use Rattle.markdown.proofs.Walked.{on-done, on-stopped, body-few, body-words, body-on, body-at}
 
 -- The chunks of a body: the room keeps its length, and what is shown and the chunks from the cursor on, with the end of the body and the
 -- records after it, give the whole. What is left of the body falls.
@@ -52,7 +53,9 @@ returns : tie.Need-returns Inv-chunks μ-chunks Inv-records μ-records
 returns c = (on-out _ _ _ _ (c .before .before .records .inv) (c .if1 .taken), tt)
 
 same-length-2 : tie.Need-same-length-2 Inv-chunks μ-chunks Inv-records μ-records
-same-length-2 c = c .before .before .meet-meta .kept .0 ∙ c .before .before .before .before .before .before .before .before .before .records .inv .same
+same-length-2 c =
+    let records = c .before .before .before .before .before .before .before .before .before .records in
+    c .before .before .meet-meta .kept .0 ∙ records .inv .same
 
 returns-2 : tie.Need-returns-2 Inv-chunks μ-chunks Inv-records μ-records
 returns-2 c =
@@ -83,12 +86,15 @@ records-less-2 c =
 
 records-again-2 : tie.Need-records-again-2 Inv-chunks μ-chunks Inv-records μ-records
 records-again-2 c =
+    let put-start = c .before .before .before .put-start in
+    let after-met-term = c .before .before .before .before .before in
+    let met-term = after-met-term .met-term in
+    let kind = after-met-term .before .before .kind in
+    let if2 = after-met-term .before .before .before .before .if2 in
+    let is-meta = after-met-term .before .before .before .before .before .is-meta in
     let r = c .before .before .before .before .before .before .before .before .before .before .before in
     on-started _ _ _ _ (r .before .before .before .records .inv) (r .record-at .ensures) (r .before .before .records-test .taken) _ _ _ _
-    (c .before .before .before .before .before .before .before .kind .given .1)
-    (sym (c .before .before .before .before .before .before .before .before .before .before .is-meta .ensures)
-    ∙ c .before .before .before .before .before .before .before .before .before .if2 .left) (c .before .before .before .put-start .kept .0)
-    (c .before .before .before .before .before .met-term .ensures) (c .before .before .before .put-start .ensures) (c .after-start .ensures)
+    (kind .given .1) (sym (is-meta .ensures) ∙ if2 .left) (put-start .kept .0) (met-term .ensures) (put-start .ensures) (c .after-start .ensures)
 
 records-less-3 : tie.Need-records-less-3 Inv-chunks μ-chunks Inv-records μ-records
 records-less-3 c =
@@ -98,12 +104,14 @@ records-less-3 c =
 
 records-again-3 : tie.Need-records-again-3 Inv-chunks μ-chunks Inv-records μ-records
 records-again-3 c =
+    let put-end = c .before .before .before .put-end in
+    let after-kind2 = c .before .before .before .before .before .before in
+    let kind2 = after-kind2 .kind2 in
+    let if2 = after-kind2 .before .before .if2 in
+    let is-meta = after-kind2 .before .before .before .is-meta in
     let r = c .before .before .before .before .before .before .before .before .before .before in
     on-ended _ _ _ _ (r .before .before .before .records .inv) (r .record-at .ensures) (r .before .before .records-test .taken) _ _ _
-    (c .before .before .before .before .before .before .kind2 .given .1)
-    (sym (c .before .before .before .before .before .before .before .before .before .is-meta .ensures)
-    ∙ c .before .before .before .before .before .before .before .before .if2 .left) (c .before .before .before .put-end .kept .0)
-    (c .before .before .before .put-end .ensures) (c .after-end .ensures)
+    (kind2 .given .1) (sym (is-meta .ensures) ∙ if2 .left) (put-end .kept .0) (put-end .ensures) (c .after-end .ensures)
 
 records-less-4 : tie.Need-records-less-4 Inv-chunks μ-chunks Inv-records μ-records
 records-less-4 c =
@@ -113,22 +121,24 @@ records-less-4 c =
 
 records-again-4 : tie.Need-records-again-4 Inv-chunks μ-chunks Inv-records μ-records
 records-again-4 c =
+    let kind3 = c .before .before .before .kind3 in
     let r = c .before .before .before .before .before .before .before in
-    on-hidden _ _ _ _ (r .before .before .before .records .inv) (r .record-at .ensures) (r .before .before .records-test .taken)
-    (c .before .before .before .kind3 .given .1)
+    on-hidden _ _ _ _ (r .before .before .before .records .inv) (r .record-at .ensures) (r .before .before .records-test .taken) (kind3 .given .1)
     (sym (c .before .enabled .ensures) ∙ c .if3 .taken)
 
 chunks-holds : tie.Need-chunks-holds Inv-chunks μ-chunks Inv-records μ-records
 chunks-holds c =
+    let s = c .before .before .before .before .change-to-markdown-style in
+    let after-if3 = c .before .before .before .before .before .before in
+    let if3 = after-if3 .if3 in
+    let enabled = after-if3 .before .enabled in
+    let kind3 = after-if3 .before .before .before .kind3 in
     let r = c .before .before .before .before .before .before .before .before .before .before .before .before .before in
-    let o = r .before .before .before .records .inv in
-    let s = c .before .before .before .before .change-to-markdown-style in (
+    let o = r .before .before .before .records .inv in (
       refl,
       body-at (s .kept .0 ∙ o .same)
-          (on-body _ _ _ _ o (r .record-at .ensures) (r .before .before .records-test .taken)
-          (c .before .before .before .before .before .before .before .before .before .kind3 .given .1) _ _ _ _ (c .get .ensures)
-          (sym (c .before .before .before .before .before .before .before .enabled .ensures) ∙ c .before .before .before .before .before .before .if3 .left)
-          (s .ensures) (c .before .styled .ensures)),
+          (on-body _ _ _ _ o (r .record-at .ensures) (r .before .before .records-test .taken) (kind3 .given .1) _ _ _ _ (c .get .ensures)
+          (sym (enabled .ensures) ∙ if3 .left) (s .ensures) (c .before .styled .ensures)),
     )
 
 records-less-5 : tie.Need-records-less-5 Inv-chunks μ-chunks Inv-records μ-records
@@ -139,50 +149,55 @@ records-less-5 c =
 
 records-again-5 : tie.Need-records-again-5 Inv-chunks μ-chunks Inv-records μ-records
 records-again-5 c =
+    let end-code = c .before .before .before .end-code in
+    let if4 = c .before .before .before .before .before .if4 in
+    let after-ends-body = c .before .before .before .before .before .before in
+    let ends-body = after-ends-body .ends-body in
+    let piece = after-ends-body .before .before .piece in
+    let after-step-at = after-ends-body .before .before .before .before in
+    let step-at = after-step-at .step-at in
+    let m = after-step-at .before .before .before .put-plain in
     let b = c .before .before .before .before .before .before .before .before .before .before .before .before .before .before .before in
     let r = read b in
     let o = r .before .before .before .records .inv in
     let i = b .chunks .inv in
     let e = changed b .change-to-markdown-style .kept .0 ∙ o .same in
-    let m = c .before .before .before .before .before .before .before .before .before .before .before .before .before .put-plain in
     let g = bytes b .get .ensures in
     let h = r .record-at in
     let f = body-few _ _ (h .result .start) (h .result .stop) g (o .short) (omega (arith, h .ensures .high)) in
     on-stopped _ _ _ _ o (h .ensures) (r .before .before .records-test .taken) (told b .kind3 .given .1) (m .kept .0 ∙ i .0 ∙ e)
-    (body-at (sym e) (body-words _ _ _ _ (i .1) _ _ _ (i .0) f (m .ensures))) _ _ (c .before .before .before .end-code .kept .0)
-    (c .before .before .before .end-code .ensures)
-    (took _ _ _ _ _ (c .before .before .before .before .before .before .before .before .piece .given .1)
-    (c .before .before .before .before .before .before .before .before .before .before .step-at .ensures))
-    (sym (c .before .before .before .before .before .before .ends-body .ensures _) ∙ c .before .before .before .before .before .if4 .taken) _
-    (c .enable-number .ensures)
+    (body-at (sym e) (body-words _ _ _ _ (i .1) _ _ _ (i .0) f (m .ensures))) _ _ (end-code .kept .0) (end-code .ensures)
+    (took _ _ _ _ _ (piece .given .1) (step-at .ensures)) (sym (ends-body .ensures _) ∙ if4 .taken) _ (c .enable-number .ensures)
 
 chunks-less : tie.Need-chunks-less Inv-chunks μ-chunks Inv-records μ-records
 chunks-less c =
-    let t = took _ _ _ _ _ (c .before .before .before .before .before .before .before .before .piece .given .1)
-    (c .before .before .before .before .before .before .before .before .before .before .step-at .ensures) in
-    omega (
-      arith,
-      t .further,
-      t .short,
-      c .before .before .before .before .before .before .before .before .before .before .before .before .before .put-plain .ensures .order,
-    )
+    let after-piece = c .before .before .before .before .before .before .before .before in
+    let piece = after-piece .piece in
+    let step-at = after-piece .before .before .step-at in
+    let put-plain = after-piece .before .before .before .before .before .put-plain in
+    let t = took _ _ _ _ _ (piece .given .1) (step-at .ensures) in
+    omega (arith, t .further, t .short, put-plain .ensures .order)
 
 chunks-again : tie.Need-chunks-again Inv-chunks μ-chunks Inv-records μ-records
 chunks-again c =
+    let put-chunk = c .before .before .before .put-chunk in
+    let if4 = c .before .before .before .before .before .if4 in
+    let after-ends-body = c .before .before .before .before .before .before in
+    let ends-body = after-ends-body .ends-body in
+    let piece = after-ends-body .before .before .piece in
+    let after-step-at = after-ends-body .before .before .before .before in
+    let step-at = after-step-at .step-at in
+    let m = after-step-at .before .before .before .put-plain in
     let b = c .before .before .before .before .before .before .before .before .before .before .before .before .before .before .before in
     let r = read b in
     let o = r .before .before .before .records .inv in
     let i = b .chunks .inv in
-    let m = c .before .before .before .before .before .before .before .before .before .before .before .before .before .put-plain in
     let g = bytes b .get .ensures in
     let h = r .record-at in
     let f = body-few _ _ (h .result .start) (h .result .stop) g (o .short) (omega (arith, h .ensures .high)) in (
-      c .before .before .before .put-chunk .kept .0 ∙ m .kept .0 ∙ i .0,
-      body-on _ _ _ _ (body-words _ _ _ _ (i .1) _ _ _ (i .0) f (m .ensures))
-          (took _ _ _ _ _ (c .before .before .before .before .before .before .before .before .piece .given .1)
-          (c .before .before .before .before .before .before .before .before .before .before .step-at .ensures)) _ _ _ (m .kept .0 ∙ i .0)
-          (sym (c .before .before .before .before .before .before .ends-body .ensures _) ∙ c .before .before .before .before .before .if4 .left) (o .table)
-          (c .before .before .before .put-chunk .ensures) (c .fence-after .ensures),
+      put-chunk .kept .0 ∙ m .kept .0 ∙ i .0,
+      body-on _ _ _ _ (body-words _ _ _ _ (i .1) _ _ _ (i .0) f (m .ensures)) (took _ _ _ _ _ (piece .given .1) (step-at .ensures)) _ _ _
+          (m .kept .0 ∙ i .0) (sym (ends-body .ensures _) ∙ if4 .left) (o .table) (put-chunk .ensures) (c .fence-after .ensures),
     )
 
 records-less-6 : tie.Need-records-less-6 Inv-chunks μ-chunks Inv-records μ-records
@@ -193,19 +208,21 @@ records-less-6 c =
 
 records-again-6 : tie.Need-records-again-6 Inv-chunks μ-chunks Inv-records μ-records
 records-again-6 c =
+    let enum-told2 = c .before .before .before .before .enum-told2 in
+    let after-step-at = c .before .before .before .before .before .before in
+    let step-at = after-step-at .step-at in
+    let m = after-step-at .before .before .before .put-plain in
     let b = c .before .before .before .before .before .before .before .before .before .before .before in
     let r = read b in
     let o = r .before .before .before .records .inv in
     let i = b .chunks .inv in
     let e = changed b .change-to-markdown-style .kept .0 ∙ o .same in
-    let m = c .before .before .before .before .before .before .before .before .before .put-plain in
     let g = bytes b .get .ensures in
     let h = r .record-at in
     let f = body-few _ _ (h .result .start) (h .result .stop) g (o .short) (omega (arith, h .ensures .high)) in
     on-done _ _ _ _ o (h .ensures) (r .before .before .records-test .taken) (told b .kind3 .given .1) (m .kept .0 ∙ i .0 ∙ e)
     (body-at (sym e) (body-words _ _ _ _ (i .1) _ _ _ (i .0) f (m .ensures))) _ _ (c .before .before .end-code2 .kept .0)
-    (c .before .before .end-code2 .ensures)
-    (ended _ _ _ (c .before .before .before .before .enum-told2 .given .1) (c .before .before .before .before .before .before .step-at .ensures))
+    (c .before .before .end-code2 .ensures) (ended _ _ _ (enum-told2 .given .1) (step-at .ensures))
 
 same-length-3 : tie.Need-same-length-3 Inv-chunks μ-chunks Inv-records μ-records
 same-length-3 c = c .before .before .finish .kept .0 ∙ c .before .before .before .before .before .records .inv .same
