@@ -14,7 +14,8 @@ use Rattle.room.specs.Room.{extended}
 use Rattle.room.proofs.Laws.{extended-in, extended-out, extended-twice}
 use Rattle.roff_escape.specs.declared.escape.Escape.{Escape}
 use Rattle.roff_escape.specs.Escape.{escape, lineStart, preamble}
-use Rattle.roff_escape.specs.Monoid.{Piece, piece, pushStr, breaks, lineEnd, lineHere, escapeAll, lineAfter, rendered, Written, writes, begun, newLine, put, push, pushes}
+use Rattle.roff_escape.specs.Monoid.{Piece, piece, pushStr, breaks, lineEnd, lineHere, escapeAll, lineAfter, rendered, Written, writes, begun}
+use Rattle.roff_escape.specs.Monoid.{newLine, put, push, pushes}
 
 -- At the end
 
@@ -62,7 +63,8 @@ module _ (room : ℕ) where
   push-writes mode x w = go (breaks mode (w .fresh)) refl
     where
       go : (b : Bool) → breaks mode (w .fresh) ≡ b
-          → push room mode x w ≡ writes room (lineEnd mode (w .fresh) ++ escape mode (lineHere mode (w .fresh)) x) (lineStart mode (lineHere mode (w .fresh)) x) w
+          → push room mode x w
+          ≡ writes room (lineEnd mode (w .fresh) ++ escape mode (lineHere mode (w .fresh)) x) (lineStart mode (lineHere mode (w .fresh)) x) w
       go true e = rw e (writes-twice (bytes "\n") true (λ f. escape mode f x) (λ f. lineStart mode f x) w)
       go false e = rw e refl
 
@@ -96,7 +98,8 @@ module _ (room : ℕ) where
       bind-same (push room (p .mode) (p .text) w) _ _ (pushes-append ps qs) ∙ bind-assoc (push room (p .mode) (p .text) w) (pushes room ps) (pushes room qs)
 
   -- some pieces, where what was written before fits
-  pub pushes-writes : (ps : List Piece) (w : Written) → length (w .out) ≤ room → pushes room ps w ≡ writes room (escapeAll (w .fresh) ps) (lineAfter (w .fresh) ps) w
+  pub pushes-writes : (ps : List Piece) (w : Written) → length (w .out) ≤ room
+      → pushes room ps w ≡ writes room (escapeAll (w .fresh) ps) (lineAfter (w .fresh) ps) w
   unfolding writes _>>=_
   pushes-writes ps w h =
       sym (ap (λ (r : Result Written). r >>= pushes room ps) (ap (λ (r : Result (List ℕ)). r >>= λ y. gives (record { out = y; fresh = w .fresh }))
@@ -105,27 +108,34 @@ module _ (room : ℕ) where
 
 -- The law of the labelled buffer, for any pieces and any room: pushed after the preamble as they arise, they give the whole buffer as it is rendered
 -- at the end, or 13 where that is longer than the room; and a line starts after them where `escape` ends at the start of one.
-pub buffer-law : (room : ℕ) (ps : List Piece) → (begun room >>= pushes room ps) ≡ writes room (rendered ps) (lineAfter true ps) (record { out = []; fresh = true })
+pub buffer-law : (room : ℕ) (ps : List Piece)
+    → (begun room >>= pushes room ps) ≡ writes room (rendered ps) (lineAfter true ps) (record { out = []; fresh = true })
 unfolding begun rendered
 buffer-law room ps = writes-pushes room preamble true (record { out = []; fresh = true }) ps
 
 -- what is written where it fits
-pub buffer-given : (room : ℕ) (ps : List Piece) → length (rendered ps) ≤ room → (begun room >>= pushes room ps) ≡ gives (record { out = rendered ps; fresh = lineAfter true ps })
+pub buffer-given : (room : ℕ) (ps : List Piece) → length (rendered ps) ≤ room
+    → (begun room >>= pushes room ps) ≡ gives (record { out = rendered ps; fresh = lineAfter true ps })
 unfolding writes _>>=_
-buffer-given room ps h = buffer-law room ps ∙ ap (λ (r : Result (List ℕ)). r >>= λ y. gives (record { out = y; fresh = lineAfter true ps })) (extended-in room (rendered ps) [] (omega arith))
+buffer-given room ps h =
+    buffer-law room ps
+    ∙ ap (λ (r : Result (List ℕ)). r >>= λ y. gives (record { out = y; fresh = lineAfter true ps })) (extended-in room (rendered ps) [] (omega arith))
 
 -- the first pieces are written first: what is pushed later takes nothing back
 pub rendered-prefix : (ps qs : List Piece) → rendered (ps ++ qs) ≡ rendered ps ++ escapeAll (lineAfter true ps) qs
 unfolding rendered
-rendered-prefix ps qs = ap (λ (y : List ℕ). preamble ++ y) (all-append true ps qs) ∙ sym (append-assoc preamble (escapeAll true ps) (escapeAll (lineAfter true ps) qs))
+rendered-prefix ps qs =
+    ap (λ (y : List ℕ). preamble ++ y) (all-append true ps qs) ∙ sym (append-assoc preamble (escapeAll true ps) (escapeAll (lineAfter true ps) qs))
 
 -- so that 13 is met at some piece just where the whole is too long
 pub buffer-refused : (room : ℕ) (ps qs : List Piece) → room < length (rendered ps) → (begun room >>= pushes room (ps ++ qs)) ≡ refused 13 0
 unfolding writes _>>=_
 buffer-refused room ps qs h =
-    let k : length (rendered (ps ++ qs)) ≡ length (rendered ps) + length (escapeAll (lineAfter true ps) qs) = ap length (rendered-prefix ps qs) ∙ length-append (rendered ps) (escapeAll (lineAfter true ps) qs) in
+    let k : length (rendered (ps ++ qs)) ≡ length (rendered ps) + length (escapeAll (lineAfter true ps) qs) =
+    ap length (rendered-prefix ps qs) ∙ length-append (rendered ps) (escapeAll (lineAfter true ps) qs) in
     buffer-law room (ps ++ qs)
-    ∙ ap (λ (r : Result (List ℕ)). r >>= λ y. gives (record { out = y; fresh = lineAfter true (ps ++ qs) })) (extended-out room (rendered (ps ++ qs)) [] (omega arith))
+    ∙ ap (λ (r : Result (List ℕ)). r >>= λ y. gives (record { out = y; fresh = lineAfter true (ps ++ qs) }))
+    (extended-out room (rendered (ps ++ qs)) [] (omega arith))
 
 -- `push_str` of one piece more
 pub buffer-pushed : (room : ℕ) (ps : List Piece) (mode : Escape) (x : List ℕ)

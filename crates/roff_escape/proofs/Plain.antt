@@ -15,7 +15,8 @@ use Rattle.base.proofs.Choice.{and-left, and-right, and-both, le-or-lt}
 use Rattle.room.specs.Room.{seen, extended}
 use Rattle.room.proofs.Laws.{seen-out, wrote, copied-more}
 use Rattle.roff_escape.specs.declared.escape.Escape.{Escape}
-use Rattle.roff_escape.specs.Escape.{unescapedAtNewline, spaces, special, specialNoNewline, unescaped, specialByte, escapeByte, startsLine, escape, lineStart}
+use Rattle.roff_escape.specs.Escape.{unescapedAtNewline, spaces, special, specialNoNewline, unescaped, specialByte, escapeByte, startsLine}
+use Rattle.roff_escape.specs.Escape.{escape, lineStart}
 use Rattle.roff_escape.specs.Parts.{plain, allPlain, plainHere, Copies}
 use Rattle.roff_escape.proofs.Escaping.{puts, guard-none, backslash-none, replaced-other, Escaped, escaped-part}
 

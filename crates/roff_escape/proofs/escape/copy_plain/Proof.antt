@@ -1,3 +1,5 @@
+-- Invariant: the plain bytes from `at` up to i stand in the room after the first `len`, and n counts both.
+-- What falls: the bytes after i.
 use mathlib.Core.Path.{_≡_, refl, sym, _∙_}
 use Prim.Native.Nat.{_+_, _-_}
 use native.Mathlib.Omega.{arith}
@@ -33,9 +35,12 @@ returns-2 c = c .before .before .before .before .before .loop .inv .0
 
 loop-again : tie.Need-loop-again Inv-loop μ-loop
 loop-again c =
-    let a = c .before .before .before .before .before .before .before .before .args in
-    let l = c .before .before .before .before .before .loop in (
-      copies-more (now (a .bytes)) (a .at) (a .len) (now (a .room)) (l .room) (l .i) (l .n) (l .inv .0) (l .inv .1) (l .inv .2) (c .before .before .before .before .loop-test .taken) (c .if2 .left) (sym (c .before .before .is-plain .ensures) ∙ not-false _ (c .before .if1 .left)),
+    let loop-test = c .before .before .before .before .loop-test in
+    let after-loop = c .before .before .before .before .before in
+    let l = after-loop .loop in
+    let a = after-loop .before .before .before .args in (
+      copies-more (now (a .bytes)) (a .at) (a .len) (now (a .room)) (l .room) (l .i) (l .n) (l .inv .0) (l .inv .1) (l .inv .2) (loop-test .taken)
+          (c .if2 .left) (sym (c .before .before .is-plain .ensures) ∙ not-false _ (c .before .if1 .left)),
       length-set (l .room) (l .n) _ ∙ l .inv .1,
       omega (arith, l .inv .0 .order),
     )

@@ -1,3 +1,5 @@
+-- Invariant: what stands in the room up to n, and the bytes from i on escaped, is all of them escaped (Escaped).
+-- What falls: the bytes after i.
 use Prim.Native.Nat.{_-_}
 use borrow.Author.Needs.{needs}
 use denote.Ref.{now}
@@ -19,12 +21,14 @@ loop-holds c = let a = c .before .before .args in escaped-start (a .mode) (a .st
 
 loop-again : tie.Need-loop-again Inv-loop μ-loop
 loop-again c =
-    let a = c .before .before .before .before .before .before .before .before .before .before .args in
-    let l = c .before .before .before .before .before .before .before .loop in
     let g = c .before .before .before .put-byte in
+    let after-loop-test = c .before .before .before .before .before .before in
+    let loop-test = after-loop-test .loop-test in
+    let l = after-loop-test .before .loop in
+    let a = after-loop-test .before .before .before .before .args in
     rw (c .starts-line .ensures)
-    (escaped-byte (a .mode) (a .start) (now (a .bytes)) (now (a .room)) (a .len) (l .inv) _ _
-    (from-here (now (a .bytes)) (l .i) (c .before .before .before .before .before .before .loop-test .taken)) (g .last .0) (g .result) (g .kept .0) (g .ensures))
+    (escaped-byte (a .mode) (a .start) (now (a .bytes)) (now (a .room)) (a .len) (l .inv) _ _ (from-here (now (a .bytes)) (l .i) (loop-test .taken))
+    (g .last .0) (g .result) (g .kept .0) (g .ensures))
 
 same-length : tie.Need-same-length Inv-loop μ-loop
 same-length c = c .before .loop .inv .size

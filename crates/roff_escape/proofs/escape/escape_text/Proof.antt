@@ -1,3 +1,5 @@
+-- Invariant: what stands in the room up to n, and the bytes from i on escaped, is all of them escaped (EscapedTo).
+-- What falls: the bytes after i.
 use mathlib.Core.Path.{sym, _∙_}
 use mathlib.Core.Logic.{⊎-elim}
 use Prim.Native.Nat.{_-_, _≤_, _<_}
@@ -21,16 +23,19 @@ abbrev μ-loop : tie.MeasureT-loop
 
 loop-holds : tie.Need-loop-holds Inv-loop μ-loop
 loop-holds c =
-    let a = c .before .before .args in
-    (record { within = omega arith; escaped = escaped-start (a .mode) (a .start) (now (a .bytes)) (now (a .room)) (a .len) }, c .before .before .fits .len .fits)
+    let a = c .before .before .args in (
+      record { within = omega arith; escaped = escaped-start (a .mode) (a .start) (now (a .bytes)) (now (a .room)) (a .len) },
+      c .before .before .fits .len .fits,
+    )
 
 sub-n : tie.Need-sub-n Inv-loop μ-loop
 sub-n c = c .before .before .copy-plain .ensures .order
 
 add-n : tie.Need-add-n Inv-loop μ-loop
 add-n c =
-    let g = c .before .before .copy-plain in
-    let l = c .before .before .before .before .before .before .before .loop in
+    let after-copy-plain = c .before .before in
+    let g = after-copy-plain .copy-plain in
+    let l = after-copy-plain .before .before .before .before .before .loop in
     let s = c .before .before .before .before .before .before .before .before .before .before in
     record {
       fits = copies-below (now (s .args .bytes)) (l .i) (l .n) (l .room) (g .last .0) (g .result) _ (g .ensures) (l .inv .1)
@@ -38,15 +43,23 @@ add-n c =
     }
 
 same-length : tie.Need-same-length Inv-loop μ-loop
-same-length c = c .before .before .before .copy-plain .kept .0 ∙ c .before .before .before .before .before .before .before .before .loop .inv .0 .escaped .size
+same-length c =
+    let after-copy-plain = c .before .before .before in
+    let copy-plain = after-copy-plain .copy-plain in
+    let loop = after-copy-plain .before .before .before .before .before .loop in
+    copy-plain .kept .0 ∙ loop .inv .0 .escaped .size
 
 returns : tie.Need-returns Inv-loop μ-loop
 returns c =
     let g = c .before .before .before .copy-plain in
-    let l = c .before .before .before .before .before .before .before .before .loop in
-    let a = c .before .before .before .before .before .before .before .before .before .before .before .args in
-    let s = to-plain (a .mode) (a .start) (now (a .bytes)) (now (a .room)) (a .len) (l .inv .0) (g .last .0) (g .result)
-    (sym (c .before .before .before .before .before .before .plain-here .ensures) ∙ c .before .before .before .before .before .if1 .taken) (g .kept .0) (g .ensures) in
+    let if1 = c .before .before .before .before .before .if1 in
+    let after-plain-here = c .before .before .before .before .before .before in
+    let plain-here = after-plain-here .plain-here in
+    let l = after-plain-here .before .before .loop in
+    let a = after-plain-here .before .before .before .before .before .args in
+    let s =
+    to-plain (a .mode) (a .start) (now (a .bytes)) (now (a .room)) (a .len) (l .inv .0) (g .last .0) (g .result)
+    (sym (plain-here .ensures) ∙ if1 .taken) (g .kept .0) (g .ensures) in
     escaped-end (a .mode) (a .start) (now (a .bytes)) (now (a .room)) (a .len) (s .escaped)
     (drop-of-length-le (now (a .bytes)) {i = g .result} (c .if2 .taken))
 
@@ -79,7 +92,9 @@ shared-slice-read-c : tie.Need-shared-slice-read-c Inv-loop μ-loop
 shared-slice-read-c c = here (c .before) .1
 
 add-i : tie.Need-add-i Inv-loop μ-loop
-add-i c = let h = here (c .before .before .before .before .before .before .before) .1 in search needs
+add-i c =
+    let h = here (c .before .before .before .before .before .before .before) .1 in
+    search needs
 
 loop-less : tie.Need-loop-less Inv-loop μ-loop
 loop-less c =
@@ -89,9 +104,11 @@ loop-less c =
 
 loop-again : tie.Need-loop-again Inv-loop μ-loop
 loop-again c =
-    let a = c .before .before .before .before .before .before .before .before .before .before .before .before .before .args in
+    let after-put-byte = c .before .before .before .before in
+    let put-byte = after-put-byte .put-byte in
+    let a = after-put-byte .before .before .before .before .before .before .before .before .before .args in
     let j = c .before .before .before .before .before .before .before in
-    let g = c .before .before .before .before .put-byte in (
+    let g = put-byte in (
       rw (c .before .starts-line .ensures) (record {
         within = omega (arith, here j .1);
         escaped = escaped-byte (a .mode) (a .start) (now (a .bytes)) (now (a .room)) (a .len) (here j .0 .escaped) _ _

@@ -11,10 +11,15 @@ returns : tie.Need-returns
 returns c = puts _ _ _ _ _ _ (guard-none _ _ (not-true _ (c .if1 .taken))) (puts-nothing (now (c .before .before .args .room)) (c .before .before .args .len))
 
 returns-2 : tie.Need-returns-2
-returns-2 c = puts _ _ _ _ _ _ (guard-some _ _ (not-false _ (c .before .before .before .before .before .before .if1 .left)) (c .before .before .before .before .before .match .keys1)) (c .before .before .put-all .ensures)
+returns-2 c =
+    let match = c .before .before .before .before .before .match in
+    let if1 = c .before .before .before .before .before .before .if1 in
+    puts _ _ _ _ _ _ (guard-some _ _ (not-false _ (if1 .left)) (match .keys1)) (c .before .before .put-all .ensures)
 
 returns-3 : tie.Need-returns-3
-returns-3 c = puts _ _ _ _ _ _ (guard-other _ _ (c .match .rest .1) (not-false _ (c .before .if1 .left))) (puts-nothing (now (c .before .before .before .args .room)) (c .before .before .before .args .len))
+returns-3 c =
+    let args = c .before .before .before .args in
+    puts _ _ _ _ _ _ (guard-other _ _ (c .match .rest .1) (not-false _ (c .before .if1 .left))) (puts-nothing (now (args .room)) (args .len))
 
 pub put-guard-spec : {M : Type 1} → statement M
 put-guard-spec =

@@ -9,10 +9,12 @@ use Rattle.roff_escape.specs.Escape.{specialByte}
 returns : tie.Need-returns
 unfolding specialByte
 returns c =
-    let a = c .before .before .before .before .before .before .before .before .before .before .before .before .before .args in
-    let g = c .before .before .before .before .before .before .before .before .before .before .put-guard in
-    let b = c .before .before .before .before .before .before .put-backslash in
     let r = c .before .before .put-replaced in
+    let after-put-backslash = c .before .before .before .before .before .before in
+    let b = after-put-backslash .put-backslash in
+    let after-put-guard = after-put-backslash .before .before .before .before in
+    let g = after-put-guard .put-guard in
+    let a = after-put-guard .before .before .before .args in
     puts-two (now (a .room)) (b .last .0) (r .last .0) (a .len) (b .result) (r .result) _ _ (b .kept .0 ∙ g .kept .0)
     (puts-two (now (a .room)) (g .last .0) (b .last .0) (a .len) (g .result) (b .result) _ _ (g .kept .0) (g .ensures) (b .ensures)) (r .ensures)
 

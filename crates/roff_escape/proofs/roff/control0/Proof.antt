@@ -8,7 +8,9 @@ use Rattle.roff_escape.proofs.Composing.{pushed-then}
 
 returns : tie.Need-returns
 unfolding control0 controlName linebreak
-returns c = pushed-then (c .before .before .before .before .before .before .control-name .kept .0) (c .before .before .before .before .before .before .control-name .ensures) (c .before .before .roff-linebreak .ensures)
+returns c =
+    let control-name = c .before .before .before .before .before .before .control-name in
+    pushed-then (control-name .kept .0) (control-name .ensures) (c .before .before .roff-linebreak .ensures)
 
 pub control0-spec : {M : Type 1} → statement M
 control0-spec =

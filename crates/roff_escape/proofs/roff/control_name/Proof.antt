@@ -9,7 +9,9 @@ use Rattle.roff_escape.proofs.Composing.{pushed-then}
 
 returns : tie.Need-returns
 unfolding controlName bytes encode if_then_else_
-returns c = pushed-then (c .before .before .before .before .before .before .push .kept .0) (c .before .before .before .before .before .before .push .ensures) (c .before .before .push2 .ensures)
+returns c =
+    let push = c .before .before .before .before .before .before .push in
+    pushed-then (push .kept .0) (push .ensures) (c .before .before .push2 .ensures)
 
 pub control-name-spec : {M : Type 1} → statement M
 control-name-spec =

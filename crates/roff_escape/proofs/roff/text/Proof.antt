@@ -14,12 +14,13 @@ use Rattle.roff_escape.proofs.Composing.{pushed-then, pushed-same}
 returns : tie.Need-returns
 unfolding text bytes encode if_then_else_
 returns c =
-    let f = c .before .before .before .before .before .before .before .before .before .before .before .put-font in
-    let p = c .before .before .before .before .before .before .before .plaintext in
-    let a = c .before .before .before .before .before .before .before .before .before .before .before .before .before .before .before .args in
+    let after-plaintext = c .before .before .before .before .before .before .before in
+    let p = after-plaintext .plaintext in
+    let after-put-font = after-plaintext .before .before .before .before in
+    let f = after-put-font .put-font in
+    let a = after-put-font .before .before .before .before .args in
     pushed-then (p .kept .0 ∙ f .kept .0)
-    (pushed-then (f .kept .0) (f .ensures)
-    (pushed-same (ap (λ (b : Bool). plaintext b (now (a .bytes)) ∷ []) (sym (f .ensures .strip))) (p .ensures)))
+    (pushed-then (f .kept .0) (f .ensures) (pushed-same (ap (λ (b : Bool). plaintext b (now (a .bytes)) ∷ []) (sym (f .ensures .strip))) (p .ensures)))
     (c .before .before .push .ensures)
 
 pub text-spec : {M : Type 1} → statement M
