@@ -31,17 +31,23 @@ returns-4 c = ((λ fits. rw (ne-eqb _ _ (c .before .before .if1 .left), le-ltb _
 returns-5 : tie.Need-returns-5
 unfolding startLay if_then_else_
 returns-5 c =
-    let n = c .before .before .before .before .before .args .l .skip in
+    let if3 = c .before .before .before .if3 in
+    let if1 = c .before .before .before .before .if1 in
+    let args = c .before .before .before .before .before .args in
+    let n = args .l .skip in
     let k = c .push-number in (
-      (λ fits.
-          rw (ne-eqb _ _ (c .before .before .before .before .if1 .left), le-ltb _ _ (c .before .before .before .if3 .left), ne-eqb _ _ (c .before .before .if4 .left), eq-eqb _ _ (c .before .if5 .taken))
-          (ap (λ (x : ℕ). skip x (c .before .before .before .before .before .args .l)) (skip-fits n (k .result) (k .ensures) fits))),
+      (λ fits. rw (ne-eqb _ _ (if1 .left), le-ltb _ _ (if3 .left), ne-eqb _ _ (c .before .before .if4 .left), eq-eqb _ _ (c .before .if5 .taken))
+          (ap (λ (x : ℕ). skip x (args .l)) (skip-fits n (k .result) (k .ensures) fits))),
       (refl, skip-most n (k .result) (k .ensures)),
     )
 
 returns-6 : tie.Need-returns-6
 unfolding startLay if_then_else_
-returns-6 c = ((λ fits. rw (ne-eqb _ _ (c .before .before .before .if1 .left), le-ltb _ _ (c .before .before .if3 .left), ne-eqb _ _ (c .before .if4 .left), ne-eqb _ _ (c .if5 .left))), (refl, omega arith))
+returns-6 c =
+    let if1 = c .before .before .before .if1 in (
+      (λ fits. rw (ne-eqb _ _ (if1 .left), le-ltb _ _ (c .before .before .if3 .left), ne-eqb _ _ (c .before .if4 .left), ne-eqb _ _ (c .if5 .left))),
+      (refl, omega arith),
+    )
 
 pub start-lay-spec : {M : Type 1} → statement M
 start-lay-spec =

@@ -25,12 +25,21 @@ returns-4 c = ((λ fits. rw (ne-eqb _ _ (c .before .before .if1 .left), ne-eqb _
 returns-5 : tie.Need-returns-5
 unfolding startMore if_then_else_
 returns-5 c =
-    let p = c .plus .ensures in
-    ((λ fits. rw (ne-eqb _ _ (c .before .before .before .before .if1 .left), ne-eqb _ _ (c .before .before .before .if2 .left), ne-eqb _ _ (c .before .before .if4 .left), eq-eqb _ _ (c .before .if5 .taken)) (p .0 fits)), omega (arith, p .1))
+    let if2 = c .before .before .before .if2 in
+    let if1 = c .before .before .before .before .if1 in
+    let p = c .plus .ensures in (
+      (λ fits.
+          rw (ne-eqb _ _ (if1 .left), ne-eqb _ _ (if2 .left), ne-eqb _ _ (c .before .before .if4 .left), eq-eqb _ _ (c .before .if5 .taken)) (p .0 fits)),
+      omega (arith, p .1),
+    )
 
 returns-6 : tie.Need-returns-6
 unfolding startMore if_then_else_
-returns-6 c = ((λ fits. rw (ne-eqb _ _ (c .before .before .before .if1 .left), ne-eqb _ _ (c .before .before .if2 .left), ne-eqb _ _ (c .before .if4 .left), ne-eqb _ _ (c .if5 .left))), omega arith)
+returns-6 c =
+    let if1 = c .before .before .before .if1 in (
+      (λ fits. rw (ne-eqb _ _ (if1 .left), ne-eqb _ _ (c .before .before .if2 .left), ne-eqb _ _ (c .before .if4 .left), ne-eqb _ _ (c .if5 .left))),
+      omega arith,
+    )
 
 pub start-more-spec : {M : Type 1} → statement M
 start-more-spec =

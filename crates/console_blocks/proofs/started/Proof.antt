@@ -10,17 +10,25 @@ use Rattle.console_blocks.proofs.Blocks.{start-done, push-yes, push-no}
 
 returns : tie.Need-returns
 returns c =
-    let a = c .before .before .before .before .before .before .before .before .before .before .before .before .before .before .before .before .before .before .args in
-    let t = c .before .before .before .before .before .before .before .before .before .before .before .tick-if in
-    let g = c .before .before .before .before .before .before .before .before .before .before .before .before .before .gap-at in
-    let l = c .before .before .before .before .before .before .before .before .start-lay .ensures in
+    let start-more = c .before .before .before .start-more in
+    let if1 = c .before .before .before .before .before .if1 in
+    let after-pushes-one = c .before .before .before .before .before .before in
+    let pushes-one = after-pushes-one .pushes-one in
+    let start-lay = after-pushes-one .before .before .start-lay in
+    let after-tick-if = after-pushes-one .before .before .before .before .before in
+    let t = after-tick-if .tick-if in
+    let g = after-tick-if .before .before .gap-at in
+    let after-index-of = after-tick-if .before .before .before in
+    let index-of = after-index-of .index-of in
+    let a = after-index-of .before .before .before .before .args in
+    let l = start-lay .ensures in
     let d = c .before .before .indent-by .ensures in
-    let more = c .before .before .before .start-more .ensures in
+    let more = start-more .ensures in
     let kept = take (a .count) (now (a .margins)) in (
       (λ fit.
-          start-done (now (a .room)) (t .last .0) kept _ (a .m) (t .result) _ (a .b) (length (now (a .room))) _ (c .before .before .before .before .before .before .before .before .before .before .before .before .before .before .index-of .ensures)
+          start-done (now (a .room)) (t .last .0) kept _ (a .m) (t .result) _ (a .b) (length (now (a .room))) _ (index-of .ensures)
           (t .ensures .0 (fit .column) kept) (a .tab .0) (g .result) _ (g .ensures) (l .0 (omega (arith, t .ensures .1 .1, fit .skip)))
-          (push-yes (a .tab .0) _ (g .result) kept _ _ (sym (c .before .before .before .before .before .before .pushes-one .ensures) ∙ c .before .before .before .before .before .if1 .taken) (more .0 (omega (arith, fit .margin)))
+          (push-yes (a .tab .0) _ (g .result) kept _ _ (sym (pushes-one .ensures) ∙ if1 .taken) (more .0 (omega (arith, fit .margin)))
           (d .0 (fit .slot) (omega (arith, more .1, fit .margin))))),
       (
         d .1 .0,
@@ -33,13 +41,17 @@ returns c =
 
 returns-2 : tie.Need-returns-2
 returns-2 c =
-    let a = c .before .before .before .before .before .before .before .before .before .before .before .before .before .args in
-    let t = c .before .before .before .before .before .before .tick-if in
-    let g = c .before .before .before .before .before .before .before .before .gap-at in
-    let l = c .before .before .before .start-lay .ensures in
+    let start-lay = c .before .before .before .start-lay in
+    let after-tick-if = c .before .before .before .before .before .before in
+    let t = after-tick-if .tick-if in
+    let g = after-tick-if .before .before .gap-at in
+    let after-index-of = after-tick-if .before .before .before in
+    let index-of = after-index-of .index-of in
+    let a = after-index-of .before .before .before .before .args in
+    let l = start-lay .ensures in
     let kept = take (a .count) (now (a .margins)) in (
       (λ fit.
-          start-done (now (a .room)) (t .last .0) kept _ (a .m) (t .result) _ (a .b) (length (now (a .room))) _ (c .before .before .before .before .before .before .before .before .before .index-of .ensures)
+          start-done (now (a .room)) (t .last .0) kept _ (a .m) (t .result) _ (a .b) (length (now (a .room))) _ (index-of .ensures)
           (t .ensures .0 (fit .column) kept) (a .tab .0) (g .result) _ (g .ensures) (l .0 (omega (arith, t .ensures .1 .1, fit .skip)))
           (push-no (a .tab .0) _ (g .result) _ (sym (c .before .pushes-one .ensures) ∙ c .if1 .left))),
       (

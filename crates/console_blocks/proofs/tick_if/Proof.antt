@@ -12,10 +12,12 @@ use Rattle.console_blocks.proofs.Blocks.{tick-due, tick-none}
 
 returns : tie.Need-returns
 returns c =
+    let if1 = c .before .before .before .before .if1 in
     let a = c .before .before .before .before .before .before .args in
     let n = length (now (a .room)) in
     let p = c .before .before .put-tick .ensures in (
-      (λ fits kept. p .0 fits kept ∙ agree (now (a .room)) (a .m .len .0) kept (a .m .lay) (tick n) (tickIf n (a .i)) (λ h. sym (tick-due n (a .i) _ (c .before .before .before .before .if1 .taken)))),
+      (λ fits kept.
+          p .0 fits kept ∙ agree (now (a .room)) (a .m .len .0) kept (a .m .lay) (tick n) (tickIf n (a .i)) (λ h. sym (tick-due n (a .i) _ (if1 .taken)))),
       p .1,
     )
 

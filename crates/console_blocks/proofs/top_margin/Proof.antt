@@ -8,7 +8,9 @@ returns : tie.Need-returns
 returns c = top-none _ _ _ (c .before .min .ensures) (c .if1 .taken)
 
 returns-2 : tie.Need-returns-2
-returns-2 c = top-some (now (c .before .before .before .before .args .margins)) (c .before .before .before .before .args .count) (c .before .before .min .result) (c .before .before .min .ensures) (c .before .if1 .left)
+returns-2 c =
+    let args = c .before .before .before .before .args in
+    top-some (now (args .margins)) (args .count) (c .before .before .min .result) (c .before .before .min .ensures) (c .before .if1 .left)
 
 pub top-margin-spec : {M : Type 1} → statement M
 top-margin-spec =
