@@ -73,7 +73,8 @@ measured-place : (x : Result (List ℕ)) → placeOf (measured x) ≡ placeOf x
 measured-place (gives y) = refl
 measured-place (refused n p) = refl
 
-pub rendered-number : (r : Rendered) (x : Result (List ℕ)) → answered r ≡ measured x → (numberOf (answered r) ≡ numberOf x) × (lengthOrPlace (answered r) ≡ lengthOrPlace (measured x))
+pub rendered-number : (r : Rendered) (x : Result (List ℕ)) → answered r ≡ measured x
+    → (numberOf (answered r) ≡ numberOf x) × (lengthOrPlace (answered r) ≡ lengthOrPlace (measured x))
 rendered-number r x e = (ap numberOf e ∙ measured-number x, ap lengthOrPlace e)
 
 -- what the builder answered
@@ -82,7 +83,8 @@ pub built-number : (b : Built) (x : Result (List ℕ)) (n : ℕ) → builtAs b �
 built-number b x n e = (ap numberOf e ∙ measured-number x, ap (lengthAfter n) e, ap placeOf e ∙ measured-place x)
 
 module _ (b : Built) (n : ℕ) where
-  pub stored-length : (m k p : ℕ) → b ≡ built.Length m → k ≡ 0 → p ≡ 0 → (k ≡ numberOf (builtAs b)) × ((m ≡ lengthAfter n (builtAs b)) × (p ≡ placeOf (builtAs b)))
+  pub stored-length : (m k p : ℕ) → b ≡ built.Length m → k ≡ 0 → p ≡ 0
+      → (k ≡ numberOf (builtAs b)) × ((m ≡ lengthAfter n (builtAs b)) × (p ≡ placeOf (builtAs b)))
   stored-length m k p e f g = rw e (f, (refl, g))
 
   pub stored-refused : (a : Refusal) (k p : ℕ) → b ≡ built.Refused a → k ≡ refusalNumber a → p ≡ refusalPlace a

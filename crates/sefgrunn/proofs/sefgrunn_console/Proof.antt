@@ -12,9 +12,10 @@ use Rattle.sefgrunn.proofs.RoomBound.{room-enough}
 
 returns : tie.Need-returns
 returns c =
-    let m = c .before .before .before .before .before .before .measure-asked in
-    let a = c .before .before .before .before .before .before .before .before .before .args in
     let r = c .before .before .before .before .render-console in
+    let after-measure-asked = c .before .before .before .before .before .before in
+    let m = after-measure-asked .measure-asked in
+    let a = after-measure-asked .before .before .before .args in
     let set : Settings = record { width = a .width; full = a .full; measure = m .result } in
     let x = console set (length (now (a .room))) (now (a .document)) in
     let n = rendered-number (r .result) x (r .ensures .0) in

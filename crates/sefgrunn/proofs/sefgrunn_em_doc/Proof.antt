@@ -8,8 +8,12 @@ use Rattle.sefgrunn.proofs.Numbers.{built-number}
 
 returns : tie.Need-returns
 returns c =
-    let n = built-number (c .before .before .before .before .before .em-doc .result) (addsEmDoc (now (c .before .before .before .before .before .before .before .before .before .before .args .room)) (now (c .before .before .before .before .before .before .before .before .before .before .args .len)) (now (c .before .before .before .before .before .before .before .before .before .before .args .added))) (now (c .before .before .before .before .before .before .before .before .before .before .args .len)) (c .before .before .before .before .before .em-doc .ensures .0) in
-    (c .stored .ensures .0 ∙ n .0, (c .stored .ensures .1 .0 ∙ n .1, (c .stored .ensures .1 .1 ∙ n .2, c .before .before .before .before .before .em-doc .ensures .1)))
+    let after-em-doc = c .before .before .before .before .before in
+    let em-doc = after-em-doc .em-doc in
+    let args = after-em-doc .before .before .before .before .before .args in
+    let n =
+    built-number (em-doc .result) (addsEmDoc (now (args .room)) (now (args .len)) (now (args .added))) (now (args .len)) (em-doc .ensures .0) in
+    (c .stored .ensures .0 ∙ n .0, (c .stored .ensures .1 .0 ∙ n .1, (c .stored .ensures .1 .1 ∙ n .2, em-doc .ensures .1)))
 
 pub sefgrunn-em-doc-spec : {M : Type 1} → statement M
 sefgrunn-em-doc-spec =

@@ -10,8 +10,13 @@ use Rattle.sefgrunn.proofs.Numbers.{rendered-number}
 
 returns : tie.Need-returns
 returns c =
-    let n = rendered-number (c .before .before .before .before .render-html-strict .result) (html (length (now (c .before .before .before .before .before .before .before .before .args .room))) true (c .before .before .before .before .before .before .before .before .args .full) (c .before .before .before .before .before .before .before .before .args .css) (now (c .before .before .before .before .before .before .before .before .args .document))) (c .before .before .before .before .render-html-strict .ensures .0) in
-    (c .told .ensures .0 ∙ n .0, (c .told .ensures .1 ∙ n .1, c .before .before .before .before .render-html-strict .ensures .1))
+    let after-render-html-strict = c .before .before .before .before in
+    let render-html-strict = after-render-html-strict .render-html-strict in
+    let args = after-render-html-strict .before .before .before .before .args in
+    let n =
+    rendered-number (render-html-strict .result) (html (length (now (args .room))) true (args .full) (args .css) (now (args .document)))
+    (render-html-strict .ensures .0) in
+    (c .told .ensures .0 ∙ n .0, (c .told .ensures .1 ∙ n .1, render-html-strict .ensures .1))
 
 pub sefgrunn-html-strict-spec : {M : Type 1} → statement M
 sefgrunn-html-strict-spec =

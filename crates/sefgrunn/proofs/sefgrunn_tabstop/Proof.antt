@@ -10,8 +10,9 @@ returns c =
 
 returns-2 : tie.Need-returns-2
 returns-2 c =
+    let answer2 = c .before .before .before .answer2 in
     let s = c .before .before .before .before .before .search-tabstop in
-    searched-refused (s .result) _ _ (s .ensures .0) (s .ensures .1) _ _ _ (c .before .before .before .answer2 .given .1) (c .refused .ensures .0) (c .refused .ensures .1)
+    searched-refused (s .result) _ _ (s .ensures .0) (s .ensures .1) _ _ _ (answer2 .given .1) (c .refused .ensures .0) (c .refused .ensures .1)
 
 pub sefgrunn-tabstop-spec : {M : Type 1} → statement M
 sefgrunn-tabstop-spec =

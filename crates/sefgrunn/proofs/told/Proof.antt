@@ -7,7 +7,10 @@ returns : tie.Need-returns
 returns c = told-text (c .before .before .before .args .answer) _ (c .before .answer .given .1)
 
 returns-2 : tie.Need-returns-2
-returns-2 c = told-refused (c .before .before .before .before .before .args .answer) _ _ _ (c .before .before .before .answer2 .given .1) (c .refused .ensures .0) (c .refused .ensures .1)
+returns-2 c =
+    let answer2 = c .before .before .before .answer2 in
+    let args = c .before .before .before .before .before .args in
+    told-refused (args .answer) _ _ _ (answer2 .given .1) (c .refused .ensures .0) (c .refused .ensures .1)
 
 pub told-spec : {M : Type 1} → statement M
 told-spec =
