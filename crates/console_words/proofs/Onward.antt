@@ -94,7 +94,8 @@ module _ (set : Settings) (x old : List ℕ) (len col at : ℕ) (new : List ℕ)
   }
 
   -- a word that fits, with what it counts for
-  module _ (h : at′ < w .to) (n : ℕ) (counts : (y : List ℕ) → length y ≡ w .to - at′ → characters y ≡ w .width → n ≡ measureOf set y) (thin : col′ + n ≤ set .width) where
+  module _ (h : at′ < w .to) (n : ℕ) (counts : (y : List ℕ) → length y ≡ w .to - at′ → characters y ≡ w .width → n ≡ measureOf set y)
+      (thin : col′ + n ≤ set .width) where
     abbrev text : List ℕ
     text = part x at′ (w .to)
 
@@ -110,8 +111,8 @@ module _ (set : Settings) (x old : List ℕ) (len col at : ℕ) (new : List ℕ)
     unfolding chunk
     word-there t kept lay p =
         let k : length (take len′ new) ≡ len′ = length-take-le len′ new (omega (arith, c .fits h)) in
-        raw-there (length new) (t .margin) (t .start + at′) text (w .width) kept (column col′ lay) (take len′ new) (quiet-on (t .margin) lay (p .quiet) (p .here))
-        (omega (arith, c .fits h, long)) (measureOf set) set
+        raw-there (length new) (t .margin) (t .start + at′) text (w .width) kept (column col′ lay) (take len′ new)
+        (quiet-on (t .margin) lay (p .quiet) (p .here)) (omega (arith, c .fits h, long)) (measureOf set) set
         (empty-some new len′ (λ z. omega (arith, o .some)) (omega (arith, c .fits h))) (omega (arith, counts text long (c .counts h)))
 
     pub onward-next : Onward set x old len col at new′ (len′ + (w .to - at′)) (col′ + w .width) (w .to)
@@ -120,17 +121,20 @@ module _ (set : Settings) (x old : List ℕ) (len col at : ℕ) (new : List ℕ)
       inside = omega (arith, c .fits h, o .words .size);
       grows = omega (arith, o .grows);
       near = omega (arith, o .near, o .words .order, c .narrow h);
-      words = words-next (fullOf set) (ruleOf set) (Plain col) x old len at (column col′) new len′ at′ (o .words) new′ w c size h (column (col′ + w .width)) word-there;
+      words =
+          words-next (fullOf set) (ruleOf set) (Plain col) x old len at (column col′) new len′ at′ (o .words) new′ w c size h
+          (column (col′ + w .width)) word-there;
     }
 
 -- Where a word would follow at once.
 
-pub ready-if : (room : List ℕ) (m : Mark) (margin : ℕ) (c : Code) → (m .len .0 ≡ 0 → ⊥) → m .len .0 ≤ length room → m .lay .newline ≡ false → m .lay .blank ≡ false → m .lay .gutter ≡ false → c ≡ code.No
-    → Ahead room m margin c (leb margin (m .lay .column .0))
+pub ready-if : (room : List ℕ) (m : Mark) (margin : ℕ) (c : Code) → (m .len .0 ≡ 0 → ⊥) → m .len .0 ≤ length room → m .lay .newline ≡ false
+    → m .lay .blank ≡ false → m .lay .gutter ≡ false → c ≡ code.No → Ahead room m margin c (leb margin (m .lay .column .0))
 ready-if room m margin c h k n b g e =
     ⊎-elim
     (λ (l : margin ≤ m .lay .column .0).
-    rw (le-leb margin (m .lay .column .0) l) (record { some = omega arith; inside = k; quiet = record { newline = n; blank = b; gutter = g; reached = l }; outside = e }))
+    rw (le-leb margin (m .lay .column .0) l)
+    (record { some = omega arith; inside = k; quiet = record { newline = n; blank = b; gutter = g; reached = l }; outside = e }))
     (λ (l : m .lay .column .0 < margin). rw (lt-leb margin (m .lay .column .0) l) tt)
     (le-or-lt margin (m .lay .column .0))
 

@@ -6,8 +6,15 @@ use Rattle.console_words.proofs.Onward.{ready-if}
 
 returns-6 : tie.Need-returns-6
 returns-6 c =
-    let a = c .before .before .before .before .before .before .before .before .before .before .before .before .args in
-    ready-if (now (a .room)) (a .m) (a .margin .0) (a .code) (c .before .before .before .before .before .before .before .before .before .before .if1 .left) (c .before .before .before .before .before .before .before .before .if2 .left) (c .before .before .before .before .before .before .if3 .left) (c .before .before .before .before .before .if4 .left) (c .before .before .before .before .if5 .left) (c .before .before .enum-told .given .1)
+    let if5 = c .before .before .before .before .if5 in
+    let if4 = c .before .before .before .before .before .if4 in
+    let after-if3 = c .before .before .before .before .before .before in
+    let if3 = after-if3 .if3 in
+    let if2 = after-if3 .before .before .if2 in
+    let if1 = after-if3 .before .before .before .before .if1 in
+    let a = after-if3 .before .before .before .before .before .before .args in
+    ready-if (now (a .room)) (a .m) (a .margin .0) (a .code) (if1 .left) (if2 .left) (if3 .left) (if4 .left) (if5 .left)
+    (c .before .before .enum-told .given .1)
 
 pub follows-spec : {M : Type 1} → statement M
 follows-spec =
