@@ -179,9 +179,11 @@ module _ (x : List ℕ) (at len : ℕ) (old : List ℕ) where
             let l : at < length x = omega (arith, c .within) in
             placed-take x (cursor at code.No) (Raw at to width) (cursor to code.No)
             (answers-some x (cursor at code.No) code.No (Take (Raw at to width) (cursor to code.No)) l refl
-            (plain-word x at l (λ f. first-none h (line-ends (getD x at 0) f)) (record { to = to; width = width }) (λ f. first-none h (space-ends (getD x at 0) f)) e) .0)
+            (plain-word x at l (λ f. first-none h (line-ends (getD x at 0) f)) (record { to = to; width = width })
+            (λ f. first-none h (space-ends (getD x at 0) f)) e) .0)
 
-    pub copied-stop : (getD x at 0 ≡ 0x20 → ⊥) → to < length x → isLineEndOrSpace (getD x to 0) ≡ true → Copies x at len old new (record { to = to; width = width })
+    pub copied-stop : (getD x at 0 ≡ 0x20 → ⊥) → to < length x → isLineEndOrSpace (getD x to 0) ≡ true
+        → Copies x at len old new (record { to = to; width = width })
     copied-stop n h e = copied-whole n (reading-stop x at to width (c .reading) h e)
 
     pub copied-end : (getD x at 0 ≡ 0x20 → ⊥) → length x ≤ to → Copies x at len old new (record { to = to; width = width })
@@ -203,10 +205,12 @@ module _ (x : List ℕ) (at len : ℕ) (old : List ℕ) where
                 (copied-more old new (drop at x) len (to - at) (omega (arith, c .size)) (omega (arith, length-drop at x, c .order)) (c .copied));
           }
 
-      pub copying-one : w ≡ width + 1 → isLineEndOrSpace (getD x to 0) ≡ false → (getD x to 0 / 64 ≡ 2 → ⊥) → Copying x at len old (set new (len + (to - at)) (getD x to 0)) (to + 1) w
+      pub copying-one : w ≡ width + 1 → isLineEndOrSpace (getD x to 0) ≡ false → (getD x to 0 / 64 ≡ 2 → ⊥)
+          → Copying x at len old (set new (len + (to - at)) (getD x to 0)) (to + 1) w
       copying-one k e n = on (reading-one x at to width (c .reading) h e w k n) (omega arith)
 
-      pub copying-more : w ≡ width → isLineEndOrSpace (getD x to 0) ≡ false → getD x to 0 / 64 ≡ 2 → Copying x at len old (set new (len + (to - at)) (getD x to 0)) (to + 1) w
+      pub copying-more : w ≡ width → isLineEndOrSpace (getD x to 0) ≡ false → getD x to 0 / 64 ≡ 2
+          → Copying x at len old (set new (len + (to - at)) (getD x to 0)) (to + 1) w
       copying-more k e n = on (reading-none x at to width (c .reading) h e w k n) (omega arith)
 
   -- a space

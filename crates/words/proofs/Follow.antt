@@ -27,7 +27,8 @@ module _ {L : Type 0} where
       → (kept : List ℕ) (lay : L) → shown new len kept lay ≡ shown old len kept lay
   shown-stays old new len size same kept lay =
       ⊎-elim
-      (λ (h : len ≤ length old). shown-in new len kept lay (omega arith) ∙ ap (λ (y : List ℕ). gives (page kept lay y)) same ∙ sym (shown-in old len kept lay h))
+      (λ (h : len ≤ length old).
+      shown-in new len kept lay (omega arith) ∙ ap (λ (y : List ℕ). gives (page kept lay y)) same ∙ sym (shown-in old len kept lay h))
       (λ (h : length old < len). shown-out new len kept lay (omega arith) ∙ sym (shown-out old len kept lay h))
       (le-or-lt len (length old))
 

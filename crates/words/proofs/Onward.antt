@@ -35,7 +35,9 @@ module _ {I L : Type 0} (full : I → Bool) (chunk : I → ℕ → Placed → Pa
       order = o .order;
       within = o .within;
       same = λ i kept lay p.
-          ap (λ (r : Result (Page L)). r >>= onward full chunk i (length old) x at′ code.No) (shown-stays new new′ len′ size (c .stays) kept (moved lay)) ∙ o .same i kept lay p;
+          ap (λ (r : Result (Page L)). r >>= onward full chunk i (length old) x at′ code.No)
+          (shown-stays new new′ len′ size (c .stays) kept (moved lay))
+          ∙ o .same i kept lay p;
     }
 
     -- the word's bytes are as many as it takes up
@@ -54,6 +56,7 @@ module _ {I L : Type 0} (full : I → Bool) (chunk : I → ℕ → Placed → Pa
       within = λ l. omega (arith, c .within h);
       same = λ i kept lay p.
           rw (← o .size)
-          (word-follows (full i) (chunk i (length new)) x new new′ (part x at′ (w .to)) len′ (w .to - at′) at′ (w .to) (w .width) kept (moved lay) (after lay) size (c .fits h) (c .copied h) (c .next h) (e i kept lay p)
+          (word-follows (full i) (chunk i (length new)) x new new′ (part x at′ (w .to)) len′ (w .to - at′) at′ (w .to) (w .width) kept
+          (moved lay) (after lay) size (c .fits h) (c .copied h) (c .next h) (e i kept lay p)
           ∙ rw (o .size) (o .same i kept lay p));
     }

@@ -18,7 +18,10 @@ returns-2 c =
     copied-nothing x (a .at) (a .len) (now (a .room)) (fitting-past x (a .at) (length (now (a .room))) (a .len) (c .if2 .taken))
 
 returns-3 : tie.Need-returns-3
-returns-3 c = let a = c .before .before .before .before .before .before .args in copied-space (now (a .body)) (a .at) (a .len) (now (a .room)) (c .before .before .if2 .left) (c .before .before .before .if1 .left) (c .if3 .taken)
+returns-3 c =
+    let if1 = c .before .before .before .if1 in
+    let a = c .before .before .before .before .before .before .args in
+    copied-space (now (a .body)) (a .at) (a .len) (now (a .room)) (c .before .before .if2 .left) (if1 .left) (c .if3 .taken)
 
 pub copy-next-spec : {M : Type 1} → statement M
 copy-next-spec =
