@@ -122,14 +122,18 @@ module _ (st : Style) (x : List ℕ) (t : Terms) where
 
 start-bounds : (b : Block) (t : Terms) → ((termStart b t) .widest ≤ t .widest) × ((termStart b t) .counted ≤ t .counted)
 unfolding termStart
-start-bounds b t = pick (λ (u : Terms). (u .widest ≤ t .widest) × (u .counted ≤ t .counted)) (eqb (index b) 4) (λ e. (omega arith, omega arith)) (λ e. (omega arith, omega arith))
+start-bounds b t =
+    pick (λ (u : Terms). (u .widest ≤ t .widest) × (u .counted ≤ t .counted)) (eqb (index b) 4) (λ e. (omega arith, omega arith))
+    (λ e. (omega arith, omega arith))
 
 end-bounds : (b : Block) (t : Terms) → t .widest ≤ 24 → ((termEnd b t) .widest ≤ 24) × ((termEnd b t) .counted ≤ t .counted)
 unfolding termEnd
 end-bounds b t h = pick (λ (u : Terms). (u .widest ≤ 24) × (u .counted ≤ t .counted)) (eqb (index b) 4) (λ e. (widest, omega arith)) (λ e. (h, omega arith))
   where
     widest : (if ltb (t .widest) (t .counted) && leb (t .counted) 24 then t .counted else t .widest) ≤ 24
-    widest = pick (λ (w : ℕ). w ≤ 24) (ltb (t .widest) (t .counted) && leb (t .counted) 24) (λ e. leb-true (t .counted) 24 (and-right (ltb (t .widest) (t .counted)) _ e)) (λ e. h)
+    widest =
+        pick (λ (w : ℕ). w ≤ 24) (ltb (t .widest) (t .counted) && leb (t .counted) 24)
+        (λ e. leb-true (t .counted) 24 (and-right (ltb (t .widest) (t .counted)) _ e)) (λ e. h)
 
 pub term-bounds : (k : Kind) (x : List ℕ) (t : Terms) → t .widest ≤ 24 → ((term k x t) .widest ≤ 24) × ((term k x t) .counted ≤ t .counted + length x)
 unfolding term

@@ -12,12 +12,19 @@ returns-2 c = sym (empty-one _ _ _ (c .before .record-at .ensures) (c .before .b
 
 returns-3 : tie.Need-returns-3
 returns-3 c =
-    let both = empty-two _ _ _ _ (c .before .before .before .before .before .record-at .ensures) (c .before .before .before .before .before .before .if1 .left) (c .before .before .before .record-at2 .ensures) (c .before .before .before .before .if2 .left) in
+    let record-at2 = c .before .before .before .record-at2 in
+    let if2 = c .before .before .before .before .if2 in
+    let record-at = c .before .before .before .before .before .record-at in
+    let if1 = c .before .before .before .before .before .before .if1 in
+    let both = empty-two _ _ _ _ (record-at .ensures) (if1 .left) (record-at2 .ensures) (if2 .left) in
     c .is-end .ensures ∙ sym (both ∙ rw (sym (c .before .before .is-start .ensures) ∙ c .before .if3 .taken))
 
 returns-4 : tie.Need-returns-4
 returns-4 c =
-    let both = empty-two _ _ _ _ (c .before .before .before .before .record-at .ensures) (c .before .before .before .before .before .if1 .left) (c .before .before .record-at2 .ensures) (c .before .before .before .if2 .left) in
+    let if2 = c .before .before .before .if2 in
+    let record-at = c .before .before .before .before .record-at in
+    let if1 = c .before .before .before .before .before .if1 in
+    let both = empty-two _ _ _ _ (record-at .ensures) (if1 .left) (c .before .before .record-at2 .ensures) (if2 .left) in
     sym (both ∙ rw (sym (c .before .is-start .ensures) ∙ c .if3 .left))
 
 pub empty-block-spec : {M : Type 1} → statement M

@@ -1,3 +1,5 @@
+-- Invariant: the records from i on say the gap that those from `at` on say.
+-- What falls: the bytes of the document after i.
 use mathlib.Core.Path.{_≡_, refl, sym, _∙_}
 use Prim.Native.Nat.{_-_}
 use native.Mathlib.Omega.{arith}
@@ -21,19 +23,24 @@ loop-holds c = refl
 
 returns : tie.Need-returns Inv-loop μ-loop
 returns c =
-    let l = c .before .before .before .before .before .loop in
+    let record-at = c .before .before .before .record-at in
+    let loop-test = c .before .before .before .before .loop-test in
+    let after-loop = c .before .before .before .before .before in
+    let l = after-loop .loop in
+    let args = after-loop .before .before .args in
     let here = sym (c .before .before .is-end .ensures) ∙ c .before .if1 .taken in
-    c .empty-block .ensures
-    ∙ sym (l .inv ∙ gap-here (now (c .before .before .before .before .before .before .before .args .document)) (l .i) _ (c .before .before .before .record-at .ensures) (c .before .before .before .before .loop-test .taken) here)
+    c .empty-block .ensures ∙ sym (l .inv ∙ gap-here (now (args .document)) (l .i) _ (record-at .ensures) (loop-test .taken) here)
 
 loop-less : tie.Need-loop-less Inv-loop μ-loop
 loop-less c = let r = c .before .before .record-at .ensures in omega (arith, r .low (c .before .before .before .loop-test .taken), r .order, r .high)
 
 loop-again : tie.Need-loop-again Inv-loop μ-loop
 loop-again c =
+    let loop-test = c .before .before .before .loop-test in
     let l = c .before .before .before .before .loop in
+    let args = c .before .before .before .before .before .before .args in
     let on = sym (c .before .is-end .ensures) ∙ c .if1 .left in
-    l .inv ∙ gap-next (now (c .before .before .before .before .before .before .args .document)) (l .i) _ (c .before .before .record-at .ensures) (c .before .before .before .loop-test .taken) on
+    l .inv ∙ gap-next (now (args .document)) (l .i) _ (c .before .before .record-at .ensures) (loop-test .taken) on
 
 returns-2 : tie.Need-returns-2 Inv-loop μ-loop
 returns-2 c =

@@ -11,14 +11,20 @@ use Rattle.console_tabstop.specs.Counted.{termsOf}
 use Rattle.console_tabstop.proofs.Scans.{text-counted, text-passed}
 
 add-r : tie.Need-add-r
-add-r c = omega (arith, c .before .count .ensures, count-short (now (c .before .before .before .before .before .before .before .args .body)), c .before .before .before .before .before .before .before .pre)
+add-r c =
+    let start = c .before .before .before .before .before .before .before in
+    let args = start .args in
+    let pre = start .pre in
+    omega (arith, c .before .count .ensures, count-short (now (args .body)), pre)
 
 returns : tie.Need-returns
 returns c =
-    let a = c .before .before .before .before .before .before .before .args in
+    let after-enum-told = c .before .before .before .before in
+    let enum-told = after-enum-told .enum-told in
+    let a = after-enum-told .before .before .before .args in
     let t = termsOf (a .t) in
     text-counted _ (now (a .body)) t _ (eq-eqb _ _ (c .before .before .if1 .taken)) (c .before .count .ensures)
-    ∙ ap (λ k. term k (now (a .body)) t) (sym (c .before .before .before .before .enum-told .given .1))
+    ∙ ap (λ k. term k (now (a .body)) t) (sym (enum-told .given .1))
 
 returns-2 : tie.Need-returns-2
 returns-2 c =
