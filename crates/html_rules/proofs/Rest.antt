@@ -21,7 +21,8 @@ use Rattle.splitter.specs.declared.Piece.{Piece}
 use Rattle.splitter.proofs.Answers.{Took}
 use Rattle.renderer.specs.Walk.{Page, page, shown, Turn, last, anywhere}
 use Rattle.renderer.proofs.Shown.{shown-out, shown-bind, shown-then, shown-by}
-use Rattle.renderer.proofs.Leads.{Leads, leads-on, leads-out, leads-same, leads-shown, records, turned, walk-record, walk-end, chunksThen, body-chunk, body-last, body-end}
+use Rattle.renderer.proofs.Leads.{Leads, leads-on, leads-out, leads-same, leads-shown, records, turned, walk-record, walk-end, chunksThen, body-chunk}
+use Rattle.renderer.proofs.Leads.{body-last, body-end}
 use Rattle.html_rules.proofs.Lifts.{refuses}
 
 module _ {L : Type 0} (turn : Turn (Page L)) (finish : Page L → Result (List ℕ)) (document : List ℕ) where
@@ -82,8 +83,8 @@ module _ {L : Type 0} (turn : Turn (Page L)) (finish : Page L → Result (List �
 
         -- a turn in two steps, of which the first is done
         pub turn-begins : (first : Page L → Result (Page L)) (then′ : Page L → Result (List ℕ)) (shown′ : Result (Page L))
-            → ((x : List ℕ) → (Turned (page kept lay x) >>= rest (h .next)) ≡ (first (page kept lay x) >>= then′)) → shown′ ≡ (shown room len kept lay >>= first)
-            → Leads whole then′ shown′
+            → ((x : List ℕ) → (Turned (page kept lay x) >>= rest (h .next)) ≡ (first (page kept lay x) >>= then′))
+            → shown′ ≡ (shown room len kept lay >>= first) → Leads whole then′ shown′
         turn-begins first then′ shown′ t e =
             leads-on whole (λ s. first s >>= then′) (shown room len kept lay)
             (leads-shown room len kept lay whole (rest at) (λ s. first s >>= then′) (λ x. rest-record (page kept lay x) ∙ t x) leads) first then′ shown′
