@@ -25,7 +25,9 @@ use Rattle.document.proofs.Walks.{check-gives}
 use Rattle.splitter.specs.Split.{Chunk, raw, paragraph, lineBreak, isSpace, Placed, split}
 use Rattle.renderer.specs.Walk.{withOut, withLay, write, empty, last, walk, body}
 use Rattle.skip.specs.Counter.{hides}
-use Rattle.console_rules.specs.Console.{State, initial, folds, lineEnd, dueLine, dueBlank, gap2, place, missing, reach, pad, put, fold, tick, outdent, started, ended, finish, narrow, rawChunk, chunk, bodyChunk, turn, gapAhead, tabstop, measureOf, consoleBy, console}
+use Rattle.console_rules.specs.Console.{State, initial, folds, lineEnd, dueLine, dueBlank, gap2, place, missing, reach, pad, put, fold, tick}
+use Rattle.console_rules.specs.Console.{outdent, started, ended, finish, narrow, rawChunk, chunk, bodyChunk, turn, gapAhead, tabstop, measureOf}
+use Rattle.console_rules.specs.Console.{consoleBy, console}
 use Rattle.console_rules.specs.Margin.{Ready, printed, dropped, tooFar, ready, FarChunk, FarRecord, Far}
 use Rattle.console_rules.specs.Margin as far
 use Rattle.console_rules.specs.declared.Settings.{Settings}
@@ -227,7 +229,8 @@ module _ (measure : List ℕ → ℕ) (set : Settings) (room : ℕ) where
         ∙ bind-assoc (dueBlank room s₁) _ then′)
         ∙ bind-assoc (dueLine room s) _ then′)
 
-    raw-far : (s : State) {r : Ready} → ready measure set room x s ≡ gives r → tooFar room margin r ≡ true → rawChunk measure set room margin p x w s ≡ refused 10 p
+    raw-far : (s : State) {r : Ready} → ready measure set room x s ≡ gives r → tooFar room margin r ≡ true
+        → rawChunk measure set room margin p x w s ≡ refused 10 p
     unfolding _>>=_
     raw-far s e f = raw-after s ∙ ap (λ (q : Result Ready). q >>= then′) e ∙ if-true _ _ f
 
@@ -236,7 +239,8 @@ module _ (measure : List ℕ → ℕ) (set : Settings) (room : ℕ) where
     unfolding _>>=_ if_then_else_
     raw-when s q e = go (ready measure set room x s) refl (sym (raw-after s) ∙ e)
       where
-        told : (r : Ready) → ready measure set room x s ≡ gives r → (b : Bool) → tooFar room margin r ≡ b → (if b then refused 10 p else written room margin x w r) ≡ refused 10 q
+        told : (r : Ready) → ready measure set room x s ≡ gives r → (b : Bool) → tooFar room margin r ≡ b
+            → (if b then refused 10 p else written room margin x w r) ≡ refused 10 q
             → (r : Ready) × (ready measure set room x s ≡ gives r) × (tooFar room margin r ≡ true) × (q ≡ p)
         told r f true g h = (r, f, g, same-place h)
         told r f false g h = absurd (not-refused (written room margin x w r) (not-written room margin x w r) h)
@@ -260,8 +264,8 @@ module _ (measure : List ℕ → ℕ) (set : Settings) (room : ℕ) where
     body-far (c ∷ cs) s (far.later {t = t} e f g) =
         ap (λ (r : Result State). r >>= λ t. if last (set .full) (c .chunk) then gives t else Chunks cs t) e ∙ if-false _ _ f ∙ body-far cs t g
 
-    chunk-when : (c : Placed) (d : Chunk) → c .chunk ≡ d → (cs : List Placed) (s : State) (q : ℕ) → chunk measure set room margin (start + c .place) d s ≡ refused 10 q
-        → FarChunk measure set room margin start q (c ∷ cs) s
+    chunk-when : (c : Placed) (d : Chunk) → c .chunk ≡ d → (cs : List Placed) (s : State) (q : ℕ)
+        → chunk measure set room margin (start + c .place) d s ≡ refused 10 q → FarChunk measure set room margin start q (c ∷ cs) s
     unfolding chunk
     chunk-when c (raw x w) e cs s q h =
         let r = raw-when margin (start + c .place) x w s q h in
@@ -274,7 +278,8 @@ module _ (measure : List ℕ → ℕ) (set : Settings) (room : ℕ) where
     body-when [] s q e = absurd (refused-gives (sym e))
     body-when (c ∷ cs) s q e = go (λ t h. body-when cs t q h) (bodyChunk measure set room margin start c s) refl e
       where
-        next : ((t : State) → Chunks cs t ≡ refused 10 q → FarChunk measure set room margin start q cs t) → (t : State) → bodyChunk measure set room margin start c s ≡ gives t → (b : Bool) → last (set .full) (c .chunk) ≡ b
+        next : ((t : State) → Chunks cs t ≡ refused 10 q → FarChunk measure set room margin start q cs t) → (t : State)
+            → bodyChunk measure set room margin start c s ≡ gives t → (b : Bool) → last (set .full) (c .chunk) ≡ b
             → (if b then gives t else Chunks cs t) ≡ refused 10 q → FarChunk measure set room margin start q (c ∷ cs) s
         next rest t f true g h = absurd (refused-gives (sym h))
         next rest t f false g h = far.later f g (rest t h)
@@ -319,7 +324,8 @@ module _ (measure : List ℕ → ℕ) (set : Settings) (room : ℕ) where
     walk-when [] s q e = absurd (refused-gives (sym e))
     walk-when (t ∷ ts) s q e = go (λ u h. walk-when ts u q h) (Turned t ts s) refl e
       where
-        go : ((u : State) → Records ts u ≡ refused 10 q → FarRecord measure set room tab q ts u) → (r : Result State) → Turned t ts s ≡ r → (r >>= Records ts) ≡ refused 10 q → FarRecord measure set room tab q (t ∷ ts) s
+        go : ((u : State) → Records ts u ≡ refused 10 q → FarRecord measure set room tab q ts u) → (r : Result State) → Turned t ts s ≡ r
+            → (r >>= Records ts) ≡ refused 10 q → FarRecord measure set room tab q (t ∷ ts) s
         go rest (gives u) f h = far.later f (rest u h)
         go rest (refused n k) f h = turn-when t (t .kind) refl ts s q (f ∙ h)
 
@@ -372,6 +378,7 @@ module _ (measure : List ℕ → ℕ) (set : Settings) (room : ℕ) where
 
 -- at the measure that the settings name
 pub margin-refusal : (set : Settings) (room : ℕ) (document : List ℕ) (q : ℕ)
-    → (Far (measureOf set) set room document q → console set room document ≡ refused 10 q) × (console set room document ≡ refused 10 q → Far (measureOf set) set room document q)
+    → (Far (measureOf set) set room document q → console set room document ≡ refused 10 q)
+    × (console set room document ≡ refused 10 q → Far (measureOf set) set room document q)
 unfolding console
 margin-refusal set room document q = (far-refused (measureOf set) set room document q, refused-far (measureOf set) set room document q)

@@ -29,7 +29,9 @@ use Rattle.room.specs.Room.{extended}
 use Rattle.renderer.specs.Walk.{withOut, withLay, write}
 use Rattle.skip.specs.Counter.{skipStart, skipEnd}
 use Rattle.renderer.proofs.Keeps.{walk-adds, body-says}
-use Rattle.console_rules.specs.Console.{State, column, initial, lineEnd, dueLine, dueBlank, gap2, place, missing, reach, pad, put, fold, tick, outdent, started, ended, gapAhead, tabstop, rawChunk, chunk, bodyChunk, turn, finish, narrow, measureOf, consoleBy, console}
+use Rattle.console_rules.specs.Console.{State, column, initial, lineEnd, dueLine, dueBlank, gap2, place, missing, reach, pad, put, fold, tick}
+use Rattle.console_rules.specs.Console.{outdent, started, ended, gapAhead, tabstop, rawChunk, chunk, bodyChunk, turn, finish, narrow, measureOf}
+use Rattle.console_rules.specs.Console.{consoleBy, console}
 use Rattle.console_rules.specs.declared.Settings.{Settings}
 
 -- a text fits the room, is UTF-8 and prints some characters, and nothing is skipped
@@ -75,7 +77,13 @@ module _ (room : ℕ) where
   unfolding write extended _>>=_
   write-shows y x s v h =
       pick (λ r. All (Shows room (x ++ printing y)) (r >>= λ z. gives (withOut z s))) (leb (length (s .out ++ y)) room)
-      (λ e. given record { fit = leb-true _ _ e; valid = valid-both (s .out) y (h .valid) v; shown = printing-append (s .out) y (h .valid) ∙ ap (λ (l : List ℕ). l ++ printing y) (h .shown); kept = h .kept })
+      (λ e. given record {
+        fit = leb-true _ _ e;
+        valid = valid-both (s .out) y (h .valid) v;
+        shown = printing-append (s .out) y (h .valid)
+            ∙ ap (λ (l : List ℕ). l ++ printing y) (h .shown);
+        kept = h .kept;
+      })
       (λ _. refusal)
 
   write-blank : (y : List ℕ) (x : List ℕ) (s : State) → blank y ≡ true → Shows room x s → All (Shows room x) (write room y s)
@@ -117,11 +125,14 @@ module _ (room : ℕ) where
         all-bind (Shows room x) _ _ _ (gap2-shows _ x s₁ h₁) λ s₂ h₂.
         place-shows y w x s₂ v h₂
 
-    fold-shows : (p : ℕ) (y : List ℕ) (w : ℕ) (x : List ℕ) (s : State) → Valid y → Shows room x s → All (Shows room (x ++ printing y)) (fold room margin p y w s)
+    fold-shows : (p : ℕ) (y : List ℕ) (w : ℕ) (x : List ℕ) (s : State) → Valid y → Shows room x s
+        → All (Shows room (x ++ printing y)) (fold room margin p y w s)
     unfolding fold
     fold-shows p y w x s v h =
         let t = trim-same (s .out) (h .valid) in
-        all-bind (Shows room x) _ _ _ (lineEnd-shows x (withOut (trim (s .out)) s) (record { fit = le-trans (trim-shorter (s .out)) (h .fit); valid = t .0; shown = t .1 ∙ h .shown; kept = h .kept })) λ s₁ h₁.
+        all-bind (Shows room x) _ _ _
+        (lineEnd-shows x (withOut (trim (s .out)) s)
+        (record { fit = le-trans (trim-shorter (s .out)) (h .fit); valid = t .0; shown = t .1 ∙ h .shown; kept = h .kept })) λ s₁ h₁.
         pick (All (Shows room (x ++ printing y))) _ (λ e. given {a = s₁} (simp (isSpace-printing y e, append-nil) h₁)) (λ _. put-shows p y w x s₁ v h₁)
 
   -- a backtick
@@ -169,7 +180,8 @@ module _ (room : ℕ) where
   ended-shows block.Mono p y x s h = same x _ h
 
 module _ (measure : List ℕ → ℕ) (set : Settings) (room : ℕ) where
-  rawChunk-shows : (margin p : ℕ) (y : List ℕ) (w : ℕ) (x : List ℕ) (s : State) → Valid y → Shows room x s → All (Shows room (x ++ printing y)) (rawChunk measure set room margin p y w s)
+  rawChunk-shows : (margin p : ℕ) (y : List ℕ) (w : ℕ) (x : List ℕ) (s : State) → Valid y → Shows room x s
+      → All (Shows room (x ++ printing y)) (rawChunk measure set room margin p y w s)
   unfolding rawChunk
   rawChunk-shows margin p y w x s v h =
       pick (All (Shows room (x ++ printing y))) _ (λ _. put-shows room margin p y w x s v h) λ _.
@@ -179,7 +191,8 @@ module _ (measure : List ℕ → ℕ) (set : Settings) (room : ℕ) where
 
   -- with `full` on
   module _ (full : set .full ≡ true) where
-    chunk-shows : (margin p : ℕ) (c : Chunk) (x : List ℕ) (s : State) → Sound c → Shows room x s → All (Shows room (x ++ said c)) (chunk measure set room margin p c s)
+    chunk-shows : (margin p : ℕ) (c : Chunk) (x : List ℕ) (s : State) → Sound c → Shows room x s
+        → All (Shows room (x ++ said c)) (chunk measure set room margin p c s)
     unfolding chunk if_then_else_
     chunk-shows margin p (raw z w) x s v h = rawChunk-shows margin p z w x s v h
     chunk-shows margin p lineBreak x s v h = rw (append-nil x) (lineEnd-shows room x s h)

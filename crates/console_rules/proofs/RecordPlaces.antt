@@ -16,7 +16,8 @@ use Rattle.splitter.specs.Split.{Chunk, raw, paragraph, lineBreak, Placed, spli
 use Rattle.splitter.proofs.Fits.{extent}
 use Rattle.splitter.proofs.Places.{Each, none, also, split-within}
 use Rattle.renderer.specs.Walk.{anywhere, last, walk, body}
-use Rattle.console_rules.specs.Console.{State, initial, pad, put, fold, rawChunk, chunk, bodyChunk, turn, tabstop, finish, narrow, measureOf, consoleBy, console}
+use Rattle.console_rules.specs.Console.{State, initial, pad, put, fold, rawChunk, chunk, bodyChunk, turn, tabstop, finish, narrow, measureOf}
+use Rattle.console_rules.specs.Console.{consoleBy, console}
 use Rattle.console_rules.specs.RecordPlaces.{recordTurn, recordConsole, Among, here, further, InBody, SameBut10, same, both10}
 use Rattle.console_rules.specs.declared.Settings.{Settings}
 
@@ -71,8 +72,10 @@ module _ (P : ℕ → ℕ → Type 0) (p q : ℕ) (h : P p q) (room margin : ℕ
 
 module _ (measure : List ℕ → ℕ) (set : Settings) (room : ℕ) where
   -- the chunks of a body
-  body-same-but : (P : ℕ → ℕ → Type 0) (margin start p n : ℕ) → ((m : ℕ) → m ≤ n → P (start + m) p) → (cs : List Placed) → Each (λ (c : Placed). c .place + extent (c .chunk) ≤ n) cs
-      → (s : State) → SameBut10 P (body (set .full) (bodyChunk measure set room margin start) cs s) (body (set .full) (anywhere (chunk measure set room margin p)) cs s)
+  body-same-but : (P : ℕ → ℕ → Type 0) (margin start p n : ℕ) → ((m : ℕ) → m ≤ n → P (start + m) p) → (cs : List Placed)
+      → Each (λ (c : Placed). c .place + extent (c .chunk) ≤ n) cs → (s : State)
+      → SameBut10 P (body (set .full) (bodyChunk measure set room margin start) cs s)
+      (body (set .full) (anywhere (chunk measure set room margin p)) cs s)
   unfolding body
   body-same-but P margin start p n h [] none s = same
   body-same-but P margin start p n h (c ∷ cs) (also k ks) s =
@@ -81,14 +84,17 @@ module _ (measure : List ℕ → ℕ) (set : Settings) (room : ℕ) where
 
   -- a record
   turn-same-but : (tab : ℕ) (t : Token) (ts us : List Token) (s : State)
-      → SameBut10 (InBody (t ∷ us)) (turn measure set room tab (t .place) (t .start) (t .kind) (t .body) ts s) (recordTurn measure set room tab (t .place) (t .start) (t .kind) (t .body) ts s)
+      → SameBut10 (InBody (t ∷ us)) (turn measure set room tab (t .place) (t .start) (t .kind) (t .body) ts s)
+      (recordTurn measure set room tab (t .place) (t .start) (t .kind) (t .body) ts s)
   unfolding turn recordTurn
   turn-same-but tab t ts us s = go (t .kind)
     where
       inside : (m : ℕ) → m ≤ length (t .body) → InBody (t ∷ us) (t .start + m) (t .place)
       inside m k = record { token = t; among = here; record-place = refl; begins = omega arith; ends = omega arith }
 
-      go : (k : Kind) → SameBut10 (InBody (t ∷ us)) (turn measure set room tab (t .place) (t .start) k (t .body) ts s) (recordTurn measure set room tab (t .place) (t .start) k (t .body) ts s)
+      go : (k : Kind)
+          → SameBut10 (InBody (t ∷ us)) (turn measure set room tab (t .place) (t .start) k (t .body) ts s)
+          (recordTurn measure set room tab (t .place) (t .start) k (t .body) ts s)
       go (kind.Text st) =
           if-same-but (InBody (t ∷ us)) _ same
           (body-same-but (InBody (t ∷ us)) (top (s .kept)) (t .start) (t .place) (length (t .body)) inside (split (t .body)) (split-within (t .body)) s)
@@ -96,7 +102,8 @@ module _ (measure : List ℕ → ℕ) (set : Settings) (room : ℕ) where
       go (kind.End b) = same
       go kind.Unknown = same
 
-  walk-same-but : (tab : ℕ) (ts : List Token) (s : State) → SameBut10 (InBody ts) (walk (turn measure set room tab) ts s) (walk (recordTurn measure set room tab) ts s)
+  walk-same-but : (tab : ℕ) (ts : List Token) (s : State)
+      → SameBut10 (InBody ts) (walk (turn measure set room tab) ts s) (walk (recordTurn measure set room tab) ts s)
   unfolding walk
   walk-same-but tab [] s = same
   walk-same-but tab (t ∷ ts) s =
