@@ -9,7 +9,9 @@ returns : tie.Need-returns
 returns c = start-other (c .before .before .args .b) (c .before .before .args .n) (sym (c .before .is-inline .ensures) ∙ not-true _ (c .if1 .taken))
 
 returns-2 : tie.Need-returns-2
-returns-2 c = start-inline (c .before .before .before .args .b) (c .before .before .before .args .n) _ (sym (c .before .before .is-inline .ensures) ∙ not-false _ (c .before .if1 .left)) (c .push-number .ensures)
+returns-2 c =
+    let args = c .before .before .before .args in
+    start-inline (args .b) (args .n) _ (sym (c .before .before .is-inline .ensures) ∙ not-false _ (c .before .if1 .left)) (c .push-number .ensures)
 
 pub skip-start-spec : {M : Type 1} → statement M
 skip-start-spec =
