@@ -14,9 +14,12 @@ hand-requires c κs =
 
 returns : tie.Need-returns
 returns c =
-    let a = c .before .before .before .before .before .before .before .args in
     let s = c .before .before .before .before .step-at in
-    next-taken (now (a .body)) (a .at) (a .ticks) _ (c .before .before .before .before .before .code-of .ensures) (s .result) (s .ensures .0) (c .before .before .step .given .1) _ (c .hand .ensures)
+    let after-code-of = c .before .before .before .before .before in
+    let code-of = after-code-of .code-of in
+    let a = after-code-of .before .before .args in
+    next-taken (now (a .body)) (a .at) (a .ticks) _ (code-of .ensures) (s .result) (s .ensures .0) (c .before .before .step .given .1) _
+    (c .hand .ensures)
 
 returns-2 : tie.Need-returns-2
 returns-2 c =
