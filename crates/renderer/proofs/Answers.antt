@@ -13,7 +13,8 @@ use Rattle.renderer.specs.declared.Rendered.the-variants as rendered
 use Rattle.renderer.proofs.Clearing.{standing-measured}
 
 module _ (room : List ℕ) (len : ℕ) where
-  pub answer-out : length room < len → (standing room (rendered.Refused refusal.NoRoom) ≡ seen room len) × Inside (length room) (rendered.Refused refusal.NoRoom)
+  pub answer-out : length room < len
+      → (standing room (rendered.Refused refusal.NoRoom) ≡ seen room len) × Inside (length room) (rendered.Refused refusal.NoRoom)
   answer-out h = (sym (seen-out room len h), tt)
 
   pub answer-in : len ≤ length room → (standing room (rendered.Text len) ≡ seen room len) × Inside (length room) (rendered.Text len)
@@ -26,7 +27,8 @@ module _ (room : List ℕ) (len : ℕ) where
     form-out h = (rw (seen-out room len h), tt)
 
     pub form-in : len ≤ length room
-        → (standing room (rendered.Refused (refusal.NoForm at)) ≡ (seen room len >>= λ _. refused 11 at)) × Inside (length room) (rendered.Refused (refusal.NoForm at))
+        → (standing room (rendered.Refused (refusal.NoForm at)) ≡ (seen room len >>= λ _. refused 11 at))
+        × Inside (length room) (rendered.Refused (refusal.NoForm at))
     unfolding _>>=_
     form-in h = (rw (seen-in room len h), tt)
 

@@ -23,7 +23,8 @@ module _ {S : Type 0} (P : List ℕ → S → Type 0) (turn : Turn S)
   walk-adds [] x s v h = given {a = s} (rw (append-nil x) h)
   walk-adds (t ∷ ts) x s (also v vs) h =
       rw (append-assoc x (adds (t .kind) (t .body)) (order ts)) at
-      (all-bind (P (x ++ adds (t .kind) (t .body))) (P (x ++ adds (t .kind) (t .body) ++ order ts)) _ _ (keeps t ts x s v h) λ s₁ h₁. walk-adds ts (x ++ adds (t .kind) (t .body)) s₁ vs h₁)
+      (all-bind (P (x ++ adds (t .kind) (t .body))) (P (x ++ adds (t .kind) (t .body) ++ order ts)) _ _ (keeps t ts x s v h)
+      λ s₁ h₁. walk-adds ts (x ++ adds (t .kind) (t .body)) s₁ vs h₁)
 
 -- a property of the state alone
 pub walk-keeps : {S : Type 0} (P : S → Type 0) (turn : Turn S)

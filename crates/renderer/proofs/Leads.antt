@@ -47,7 +47,8 @@ module _ {S T : Type 0} (whole : Result T) (rest : S → Result T) (shown : Resu
 -- the rule refuses: that is the whole
 pub leads-refused : {S T U : Type 0} (whole : Result T) (rest : S → Result T) (shown : Result S) → Leads whole rest shown
     → (rule : S → Result U) (after : U → Result T) (n p : ℕ) → ((s : S) → rest s ≡ (rule s >>= after)) → (shown >>= rule) ≡ refused n p → whole ≡ refused n p
-leads-refused whole rest shown l rule after n p h e = leads-out whole after (shown >>= rule) (leads-on whole rest shown l rule after (shown >>= rule) h refl) n p e
+leads-refused whole rest shown l rule after n p h e =
+    leads-out whole after (shown >>= rule) (leads-on whole rest shown l rule after (shown >>= rule) h refl) n p e
 
 -- nothing is left: what is shown is the whole
 pub leads-end : {S : Type 0} (whole : Result S) (rest : S → Result S) (shown : Result S) → Leads whole rest shown → ((s : S) → rest s ≡ gives s) → shown ≡ whole
@@ -55,7 +56,8 @@ leads-end whole rest shown l h = sym (bind-end shown) ∙ leads-same whole rest 
 
 -- what is left, put in other words for the pages that a room shows with these things kept and these flags
 pub leads-shown : {L T : Type 0} (room : List ℕ) (len : ℕ) (kept : List ℕ) (lay : L) (whole : Result T) (rest rest′ : Page L → Result T)
-    → ((x : List ℕ) → rest (page kept lay x) ≡ rest′ (page kept lay x)) → Leads whole rest (shown room len kept lay) → Leads whole rest′ (shown room len kept lay)
+    → ((x : List ℕ) → rest (page kept lay x) ≡ rest′ (page kept lay x)) → Leads whole rest (shown room len kept lay)
+    → Leads whole rest′ (shown room len kept lay)
 leads-shown room len kept lay whole rest rest′ h l = sym (shown-then room len kept lay rest rest′ h) ∙ l
 
 -- Records: what is left from a place on

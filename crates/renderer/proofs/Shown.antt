@@ -31,7 +31,8 @@ module _ {L A : Type 0} (room : List ℕ) (len : ℕ) (kept : List ℕ) (lay : L
   shown-bind f = sym (bind-assoc (seen room len) (λ x. gives (page kept lay x)) f)
 
   -- two rules that agree on what is shown: a length past the room is no case of its own
-  pub shown-then : (f g : Page L → Result A) → ((x : List ℕ) → f (page kept lay x) ≡ g (page kept lay x)) → (shown room len kept lay >>= f) ≡ (shown room len kept lay >>= g)
+  pub shown-then : (f g : Page L → Result A) → ((x : List ℕ) → f (page kept lay x) ≡ g (page kept lay x))
+      → (shown room len kept lay >>= f) ≡ (shown room len kept lay >>= g)
   shown-then f g h = shown-bind f ∙ bind-same (seen room len) _ _ h ∙ sym (shown-bind g)
 
   -- a test of the flags that passes, or does not
