@@ -43,17 +43,20 @@ module _ (document : List ℕ) (at : ℕ) where
   module _ (stack : List ℕ) where
     -- the record at a place is checked, and then those from its end on
     pub reads-at : at < length document
-        → reads at 0 stack (drop at document) ≡ (first at stack (drop at document) >>= λ after. reads (nextAt document at) 0 after (drop (nextAt document at) document))
+        → reads at 0 stack (drop at document)
+        ≡ (first at stack (drop at document) >>= λ after. reads (nextAt document at) 0 after (drop (nextAt document at) document))
     reads-at h =
         reads-some (drop at document) at stack (simp length-drop (omega arith))
-        ∙ ap (λ (l : List ℕ). first at stack (drop at document) >>= λ after. reads (nextAt document at) 0 after l) (drop-drop (6 + size (drop at document)) at document)
+        ∙ ap (λ (l : List ℕ). first at stack (drop at document) >>= λ after. reads (nextAt document at) 0 after l)
+        (drop-drop (6 + size (drop at document)) at document)
 
     pub reads-at-gives : (after : List ℕ) → at < length document → first at stack (drop at document) ≡ gives after
         → reads at 0 stack (drop at document) ≡ reads (nextAt document at) 0 after (drop (nextAt document at) document)
     unfolding _>>=_
     reads-at-gives after h e = reads-at h ∙ rw e
 
-    pub reads-at-refused : (n p : ℕ) → at < length document → first at stack (drop at document) ≡ refused n p → reads at 0 stack (drop at document) ≡ refused n p
+    pub reads-at-refused : (n p : ℕ) → at < length document → first at stack (drop at document) ≡ refused n p
+        → reads at 0 stack (drop at document) ≡ refused n p
     unfolding _>>=_
     reads-at-refused n p h e = reads-at h ∙ rw e
 

@@ -64,8 +64,10 @@ opens-gives p i stack after e =
 closes-gives : (p i : ℕ) (stack after : List ℕ) → closes p i stack ≡ gives after → ((1 ≤ length stack) × (top stack ≡ i)) × (after ≡ popped stack)
 unfolding closes
 closes-gives p i stack after e =
-    let f = if-gives _ (gives (popped stack)) _ _ after e in
-    ((leb-true 1 (length stack) (and-left _ (eqb (top stack) i) (f .0)), eqb-true (top stack) i (and-right (leb 1 (length stack)) _ (f .0))), sym (gives-same (f .1)))
+    let f = if-gives _ (gives (popped stack)) _ _ after e in (
+      (leb-true 1 (length stack) (and-left _ (eqb (top stack) i) (f .0)), eqb-true (top stack) i (and-right (leb 1 (length stack)) _ (f .0))),
+      sym (gives-same (f .1)),
+    )
 
 bodiless-gives : (p : ℕ) (body : List ℕ) (r : Result (List ℕ)) (after : List ℕ) → bodiless p body r ≡ gives after → (body ≡ []) × (r ≡ gives after)
 unfolding bodiless
@@ -164,8 +166,10 @@ accepted-at-0 document x e = open-at-0 document [] (check-gives document x e .1)
 pub open-done : {left document : List ℕ} {at : ℕ} {stack : List ℕ} → Open-at left document at stack → length document ≤ at → stack ≡ left
 open-done {document} {at} {stack} o h = gives-same (sym (reads-end document at stack h) ∙ o .runs)
 
-module _ {left document : List ℕ} {at : ℕ} {stack : List ℕ} {h : Head} (o : Open-at left document at stack) (r : Read document at h) (l : at < length document) where
-  passed : (after : List ℕ) × (first at stack (drop at document) ≡ gives after) × (reads (nextAt document at) 0 after (drop (nextAt document at) document) ≡ gives left)
+module _ {left document : List ℕ} {at : ℕ} {stack : List ℕ} {h : Head} (o : Open-at left document at stack) (r : Read document at h)
+    (l : at < length document) where
+  passed : (after : List ℕ) × (first at stack (drop at document) ≡ gives after)
+      × (reads (nextAt document at) 0 after (drop (nextAt document at) document) ≡ gives left)
   passed = bind-gives (first at stack (drop at document)) _ left (sym (reads-at document at stack l) ∙ o .runs)
 
   -- the record lies whole in the document
@@ -187,7 +191,10 @@ module _ {left document : List ℕ} {at : ℕ} {stack : List ℕ} {h : Head} (o 
 
   pub open-next : Open-at left document (h .next) (openAfter (h .kind) stack)
   open-next = record {
-    runs = ap (λ (n : ℕ). reads n 0 (openAfter (h .kind) stack) (drop n document)) (open-whole .1) ∙ ap (λ (x : List ℕ). reads (nextAt document at) 0 x (drop (nextAt document at) document)) (sym (accepted .2)) ∙ passed .2;
+    runs =
+        ap (λ (n : ℕ). reads n 0 (openAfter (h .kind) stack) (drop n document)) (open-whole .1)
+        ∙ ap (λ (x : List ℕ). reads (nextAt document at) 0 x (drop (nextAt document at) document)) (sym (accepted .2))
+        ∙ passed .2;
     shallow = few (h .kind) open-allowed;
   }
     where
@@ -239,8 +246,11 @@ module _ {left document : List ℕ} {at : ℕ} (array : List ℕ) (depth : ℕ) 
       → (1 ≤ depth) × (getD array (depth - 1) 0 ≡ index b) × Open-at left document (h .next) (take (depth - 1) array)
   array-end {b} e =
       let t = end-top o r l e in
-      let d : 1 ≤ depth = omega (arith, length-take-le depth array (omega arith), t .0) in
-      (d, sym (top-take array depth d (omega arith)) ∙ t .1, subst (λ (x : List ℕ). Open-at left document (h .next) x) (sym (pop-take array depth (omega arith))) (end-next o r l e))
+      let d : 1 ≤ depth = omega (arith, length-take-le depth array (omega arith), t .0) in (
+        d,
+        sym (top-take array depth d (omega arith)) ∙ t .1,
+        subst (λ (x : List ℕ). Open-at left document (h .next) x) (sym (pop-take array depth (omega arith))) (end-next o r l e),
+      )
 
 -- So many blocks at least are open here: for an array of 32 whose count goes up by one at most where a block starts, and down by one
 -- where one ends
@@ -255,7 +265,8 @@ deep-bound d = omega (arith, d .deep, d .here .shallow)
 pub deep-less : {left document : List ℕ} {at depth : ℕ} (less : ℕ) → less ≤ depth → Deep-at left document at depth → Deep-at left document at less
 deep-less less e d = record { stack = d .stack; here = d .here; deep = omega (arith, d .deep) }
 
-pub deep-from : {left document : List ℕ} {at : ℕ} {stack : List ℕ} (depth : ℕ) → Open-at left document at stack → depth ≤ length stack → Deep-at left document at depth
+pub deep-from : {left document : List ℕ} {at : ℕ} {stack : List ℕ} (depth : ℕ) → Open-at left document at stack → depth ≤ length stack
+    → Deep-at left document at depth
 deep-from {stack} depth o e = record { stack = stack; here = o; deep = e }
 
 module _ {left document : List ℕ} {at depth : ℕ} {h : Head} (d : Deep-at left document at depth) (r : Read document at h) (l : at < length document) where
@@ -263,8 +274,10 @@ module _ {left document : List ℕ} {at depth : ℕ} {h : Head} (d : Deep-at lef
   deep-text e = deep-from depth (text-next (d .here) r l e) (d .deep)
 
   pub deep-start : {b : Block} → h .kind ≡ kind.Start b → (depth < 32) × Deep-at left document (h .next) (depth + 1)
-  deep-start {b} e =
-      (omega (arith, d .deep, start-room (d .here) r l e), deep-from (depth + 1) (start-next (d .here) r l e) (omega (arith, d .deep, length-pushed (index b) (d .stack))))
+  deep-start {b} e = (
+    omega (arith, d .deep, start-room (d .here) r l e),
+    deep-from (depth + 1) (start-next (d .here) r l e) (omega (arith, d .deep, length-pushed (index b) (d .stack))),
+  )
 
   pub deep-same : {b : Block} → h .kind ≡ kind.Start b → Deep-at left document (h .next) depth
   deep-same {b} e = deep-from depth (start-next (d .here) r l e) (omega (arith, d .deep, length-pushed (index b) (d .stack)))

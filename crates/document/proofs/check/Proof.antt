@@ -9,15 +9,26 @@ returns : tie.Need-returns
 returns c = check-long (now (c .before .before .args .document)) (c .if1 .taken)
 
 returns-2 : tie.Need-returns-2
-returns-2 c = check-closed (now (c .before .before .before .before .before .before .args .document)) (c .before .before .before .open-blocks .result) (c .before .before .before .before .if1 .left) (c .before .before .before .open-blocks .ensures .0) (c .before .enum-told .given .1) (c .if2 .taken)
+returns-2 c =
+    let open-blocks = c .before .before .before .open-blocks in
+    let if1 = c .before .before .before .before .if1 in
+    let args = c .before .before .before .before .before .before .args in
+    check-closed (now (args .document)) (open-blocks .result) (if1 .left) (open-blocks .ensures .0) (c .before .enum-told .given .1) (c .if2 .taken)
 
 returns-3 : tie.Need-returns-3
 returns-3 c =
     let o = c .before .before .before .open-blocks in
-    check-left (now (c .before .before .before .before .before .before .args .document)) (o .result) (c .before .before .before .before .if1 .left) (o .ensures .0) (c .before .enum-told .given .1) (c .if2 .left) (omega (arith, o .ensures .1))
+    let if1 = c .before .before .before .before .if1 in
+    let args = c .before .before .before .before .before .before .args in
+    check-left (now (args .document)) (o .result) (if1 .left) (o .ensures .0) (c .before .enum-told .given .1) (c .if2 .left)
+    (omega (arith, o .ensures .1))
 
 returns-4 : tie.Need-returns-4
-returns-4 c = check-refused (now (c .before .before .before .before .before .before .args .document)) (c .before .before .before .open-blocks .result) (c .before .before .before .before .if1 .left) (c .before .before .before .open-blocks .ensures .0) (c .before .verdict .given .1)
+returns-4 c =
+    let open-blocks = c .before .before .before .open-blocks in
+    let if1 = c .before .before .before .before .if1 in
+    let args = c .before .before .before .before .before .before .args in
+    check-refused (now (args .document)) (open-blocks .result) (if1 .left) (open-blocks .ensures .0) (c .before .verdict .given .1)
 
 pub check-spec : {M : Type 1} → statement M
 check-spec =

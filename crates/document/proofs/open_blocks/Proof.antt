@@ -1,3 +1,5 @@
+-- Invariant: at most 32 blocks are open, and reading on from `at` with them gives what the whole document gives.
+-- What falls: the bytes of the document after `at`.
 use mathlib.Core.Path.{_≡_, refl, sym, _∙_}
 use Prim.Native.Nat.{_-_, _≤_}
 use native.Mathlib.Omega.{arith}
@@ -24,29 +26,65 @@ loop-holds c = (refl, omega arith, refl)
 
 returns : tie.Need-returns Inv-loop μ-loop
 returns c =
-    (sym (sym (c .before .before .before .loop .inv .2) ∙ reads-cut (now (c .before .before .before .before .before .args .document)) (c .before .before .before .loop .at) _ (c .before .before .loop-test .taken) (sym (c .before .fits-at .ensures) ∙ not-true _ (c .if1 .taken))), (c .before .before .before .loop .inv .1, c .before .before .before .loop .inv .0))
+    let loop = c .before .before .before .loop in
+    let args = c .before .before .before .before .before .args in (
+      sym (sym (loop .inv .2)
+          ∙ reads-cut (now (args .document)) (loop .at) _ (c .before .before .loop-test .taken)
+          (sym (c .before .fits-at .ensures) ∙ not-true _ (c .if1 .taken))),
+      (loop .inv .1, loop .inv .0),
+    )
 
 accept-requires : tie.Need-accept-requires Inv-loop μ-loop
-accept-requires c κs = let r = c .before .record-at .ensures in (omega (arith, r .order, r .ends), omega (arith, r .high, r .ends), c .before .before .before .before .before .loop .inv .0, c .before .before .before .before .before .loop .inv .1)
+accept-requires c κs =
+    let loop = c .before .before .before .before .before .loop in
+    let r = c .before .record-at .ensures in
+    (omega (arith, r .order, r .ends), omega (arith, r .high, r .ends), loop .inv .0, loop .inv .1)
 
 returns-2 : tie.Need-returns-2 Inv-loop μ-loop
-returns-2 c = (
-  sym (sym (c .before .before .before .before .before .before .before .before .before .before .loop .inv .2) ∙ reads-refused (now (c .before .before .before .before .before .before .before .before .before .before .before .before .args .document)) (c .before .before .before .before .before .before .before .before .before .before .loop .at) _ (c .before .before .before .before .before .before .before .before .before .loop-test .taken) (c .before .before .before .before .before .before .record-at .ensures) (sym (c .before .before .before .before .before .before .before .before .fits-at .ensures) ∙ not-false _ (c .before .before .before .before .before .before .before .if1 .left))
-      (turn-refused _ (c .before .before .before .before .accept .ensures .0) (c .before .turn2 .given .1))),
-  (c .before .before .before .before .before .before .before .before .before .before .loop .inv .1, omega arith),
-)
+returns-2 c =
+    let accept = c .before .before .before .before .accept in
+    let after-record-at = c .before .before .before .before .before .before in
+    let record-at = after-record-at .record-at in
+    let if1 = after-record-at .before .if1 in
+    let fits-at = after-record-at .before .before .fits-at in
+    let loop-test = after-record-at .before .before .before .loop-test in
+    let loop = after-record-at .before .before .before .before .loop in
+    let args = after-record-at .before .before .before .before .before .before .args in (
+      sym (sym (loop .inv .2) ∙ reads-refused (now (args .document)) (loop .at) _ (loop-test .taken) (record-at .ensures)
+          (sym (fits-at .ensures) ∙ not-false _ (if1 .left))
+          (turn-refused _ (accept .ensures .0) (c .before .turn2 .given .1))),
+      (loop .inv .1, omega arith),
+    )
 
 loop-less : tie.Need-loop-less Inv-loop μ-loop
-loop-less c = let r = c .before .before .before .before .before .before .record-at .ensures in omega (arith, r .low (c .before .before .before .before .before .before .before .before .before .loop-test .taken), r .order, r .high)
+loop-less c =
+    let after-record-at = c .before .before .before .before .before .before in
+    let record-at = after-record-at .record-at in
+    let loop-test = after-record-at .before .before .before .loop-test in
+    let r = record-at .ensures in
+    omega (arith, r .low (loop-test .taken), r .order, r .high)
 
 loop-again : tie.Need-loop-again Inv-loop μ-loop
 loop-again c =
-    let on = reads-on (now (c .before .before .before .before .before .before .before .before .before .before .before .before .args .document)) (c .before .before .before .before .before .before .before .before .before .before .loop .at) _ (c .before .before .before .before .before .before .before .before .before .loop-test .taken) (c .before .before .before .before .before .before .record-at .ensures) (sym (c .before .before .before .before .before .before .before .before .fits-at .ensures) ∙ not-false _ (c .before .before .before .before .before .before .before .if1 .left))
-    (turn-open _ (c .before .before .before .before .accept .ensures .0) (c .before .turn .given .1)) in
-    (omega arith, turn-shallow (c .before .before .before .before .accept .ensures .1) (c .before .turn .given .1), sym on ∙ c .before .before .before .before .before .before .before .before .before .before .loop .inv .2)
+    let accept = c .before .before .before .before .accept in
+    let after-record-at = c .before .before .before .before .before .before in
+    let record-at = after-record-at .record-at in
+    let if1 = after-record-at .before .if1 in
+    let fits-at = after-record-at .before .before .fits-at in
+    let loop-test = after-record-at .before .before .before .loop-test in
+    let loop = after-record-at .before .before .before .before .loop in
+    let args = after-record-at .before .before .before .before .before .before .args in
+    let on =
+    reads-on (now (args .document)) (loop .at) _ (loop-test .taken) (record-at .ensures) (sym (fits-at .ensures) ∙ not-false _ (if1 .left))
+    (turn-open _ (accept .ensures .0) (c .before .turn .given .1)) in
+    (omega arith, turn-shallow (accept .ensures .1) (c .before .turn .given .1), sym on ∙ loop .inv .2)
 
 returns-3 : tie.Need-returns-3 Inv-loop μ-loop
-returns-3 c = (sym (sym (c .before .loop .inv .2) ∙ reads-end (now (c .before .before .before .args .document)) (c .before .loop .at) _ (c .loop-test .left)), (c .before .loop .inv .1, c .before .loop .inv .0))
+returns-3 c =
+    let args = c .before .before .before .args in (
+      sym (sym (c .before .loop .inv .2) ∙ reads-end (now (args .document)) (c .before .loop .at) _ (c .loop-test .left)),
+      (c .before .loop .inv .1, c .before .loop .inv .0),
+    )
 
 pub open-blocks-spec : {M : Type 1} → statement M
 open-blocks-spec =
