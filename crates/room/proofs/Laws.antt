@@ -104,7 +104,8 @@ pub filled-more : (old new : List ℕ) (at i b : ℕ) → at + i < length new
     → take (at + (i + 1)) (set new (at + i) b) ≡ take at old ++ replicate (i + 1) b
 filled-more old new at i b h e =
     let s : at + (i + 1) ≡ suc (at + i) = omega arith in
-    rw (s, take-suc-set new (at + i) b h, e) (append-assoc (take at old) (replicate i b) (b ∷ []) ∙ ap (λ (l : List ℕ). take at old ++ l) (replicate-append-replicate i 1 b))
+    rw (s, take-suc-set new (at + i) b h, e)
+    (append-assoc (take at old) (replicate i b) (b ∷ []) ∙ ap (λ (l : List ℕ). take at old ++ l) (replicate-append-replicate i 1 b))
 
 -- Clearing
 

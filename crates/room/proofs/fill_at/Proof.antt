@@ -1,3 +1,5 @@
+-- Invariant: k copies of the byte stand in the room from `at` on, and what is before them as it was.
+-- What falls: how many copies of the n are still to be put.
 use mathlib.Core.Path.{_≡_, refl, _∙_}
 use mathlib.Core.List.{_++_}
 use Prim.Native.Nat.{_+_, _-_, _≤_}
@@ -23,8 +25,11 @@ loop-holds c = (omega arith, refl, rw (add-zero, append-nil))
 loop-again : tie.Need-loop-again Inv-loop μ-loop
 loop-again c =
     let l = c .before .loop in
-    let a = c .before .before .args in
-    (omega arith, length-set (l .room) (a .at + l .k) (a .byte) ∙ l .inv .1, filled-more (now (a .room)) (l .room) (a .at) (l .k) (a .byte) (omega arith) (l .inv .2))
+    let a = c .before .before .args in (
+      omega arith,
+      length-set (l .room) (a .at + l .k) (a .byte) ∙ l .inv .1,
+      filled-more (now (a .room)) (l .room) (a .at) (l .k) (a .byte) (omega arith) (l .inv .2),
+    )
 
 same-length : tie.Need-same-length Inv-loop μ-loop
 same-length c = c .before .loop .inv .1

@@ -14,7 +14,8 @@ returns : tie.Need-returns
 returns c =
     let a = c .before .args in
     let r = now (a .room) in
-    wrote r (set r (a .len) (a .byte)) (a .byte ∷ []) (a .len) 1 refl (length-set r (a .len) (a .byte)) (omega arith) (rw add-one (take-suc-set r (a .len) (a .byte) (c .if1 .taken)))
+    wrote r (set r (a .len) (a .byte)) (a .byte ∷ []) (a .len) 1 refl (length-set r (a .len) (a .byte)) (omega arith)
+    (rw add-one (take-suc-set r (a .len) (a .byte) (c .if1 .taken)))
 
 returns-2 : tie.Need-returns-2
 returns-2 c = let a = c .before .args in full (now (a .room)) (now (a .room)) (a .byte ∷ []) (a .len) 1 refl refl (omega arith)
