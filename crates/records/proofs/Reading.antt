@@ -37,11 +37,13 @@ little-two s at =
     let b : getD (drop 1 (drop at s)) 0 0 ≡ getD s (at + 1) 0 = getD-drop 1 (drop at s) 0 0 ∙ getD-drop at s 1 0 in
     omega (arith, little-more 1 (drop at s), little-more 0 (drop 1 (drop at s)), a, b)
 
-pub little-four : (s : List ℕ) (at x y : ℕ) → x ≡ little (take 2 (drop at s)) → y ≡ little (take 2 (drop (at + 2) s)) → x + 65536 * y ≡ little (take 4 (drop at s))
+pub little-four : (s : List ℕ) (at x y : ℕ) → x ≡ little (take 2 (drop at s)) → y ≡ little (take 2 (drop (at + 2) s))
+    → x + 65536 * y ≡ little (take 4 (drop at s))
 unfolding little
 little-four s at x y e f =
     let t = drop at s in
-    let q : drop 1 (drop 1 t) ≡ drop (at + 2) s = ap (drop 1) (drop-drop 1 at s) ∙ drop-drop 1 (at + 1) s ∙ ap (λ (k : ℕ). drop k s) (let z : at + 1 + 1 ≡ at + 2 = omega arith in z) in
+    let q : drop 1 (drop 1 t) ≡ drop (at + 2) s =
+    ap (drop 1) (drop-drop 1 at s) ∙ drop-drop 1 (at + 1) s ∙ ap (λ (k : ℕ). drop k s) (let z : at + 1 + 1 ≡ at + 2 = omega arith in z) in
     let g : little (take 2 (drop 1 (drop 1 t))) ≡ y = rw q (sym f) in
     omega (arith, little-more 3 t, little-more 2 (drop 1 t), little-more 1 t, little-more 0 (drop 1 t), e, g)
 
@@ -65,7 +67,15 @@ module _ (k : ℕ) where
 
   pub kind-end : (b : Block) → 0x0200 ≤ k → k ≤ 0x020B → b ≡ getD blocks (k - 0x0200) block.Header → kind.End b ≡ kindOf k
   unfolding kindOf if_then_else_
-  kind-end b h j e = rw (le-leb 1 k (omega arith), lt-leb k 5 (omega arith), le-leb 0x0100 k (omega arith), lt-leb k 0x010B (omega arith), le-leb 0x0200 k h, le-leb k 0x020B j) (ap kind.End e)
+  kind-end b h j e =
+      rw (
+        le-leb 1 k (omega arith),
+        lt-leb k 5 (omega arith),
+        le-leb 0x0100 k (omega arith),
+        lt-leb k 0x010B (omega arith),
+        le-leb 0x0200 k h,
+        le-leb k 0x020B j,
+      ) (ap kind.End e)
 
   pub kind-0 : k < 1 → kind.Unknown ≡ kindOf k
   unfolding kindOf if_then_else_
@@ -81,7 +91,15 @@ module _ (k : ℕ) where
 
   pub kind-3 : 0x020B < k → kind.Unknown ≡ kindOf k
   unfolding kindOf if_then_else_
-  kind-3 h = rw (le-leb 1 k (omega arith), lt-leb k 5 (omega arith), le-leb 0x0100 k (omega arith), lt-leb k 0x010B (omega arith), le-leb 0x0200 k (omega arith), lt-leb k 0x020B h)
+  kind-3 h =
+      rw (
+        le-leb 1 k (omega arith),
+        lt-leb k 5 (omega arith),
+        le-leb 0x0100 k (omega arith),
+        lt-leb k 0x010B (omega arith),
+        le-leb 0x0200 k (omega arith),
+        lt-leb k 0x020B h,
+      )
 
 -- Records
 
@@ -118,7 +136,8 @@ module _ (s : List ℕ) (at : ℕ) where
     unfolding tokenAt
     listed-here start next d b t =
         tokens-at s at h
-        ∙ ap₂ _∷_ (token-eq (sym d) (ap (λ (l : List ℕ). kindOf (little (take 2 l))) (drop-drop 4 at s) ∙ sym ek) (ap (take (size (drop at s))) (drop-drop 6 at s) ∙ sym b)) (sym t)
+        ∙ ap₂ _∷_ (token-eq (sym d) (ap (λ (l : List ℕ). kindOf (little (take 2 l))) (drop-drop 4 at s) ∙ sym ek)
+        (ap (take (size (drop at s))) (drop-drop 6 at s) ∙ sym b)) (sym t)
         ∙ sym (if-true _ _ (lt-ltb at (length s) h))
 
     pub read-short : length s < at + 6 → Read s at (record { kind = k; start = length s; stop = length s; next = length s })
@@ -142,7 +161,8 @@ module _ (s : List ℕ) (at : ℕ) where
       pub read-cut : length s - (at + 6) < n → Read s at (record { kind = k; start = at + 6; stop = length s; next = length s })
       read-cut m = record {
         listed = listed-here (at + 6) (length s) six
-            (take-all (length s - (at + 6)) (drop (at + 6) s) (omega (arith, length-drop (at + 6) s)) ∙ sym (take-all (size (drop at s)) (drop (at + 6) s) (omega (arith, length-drop (at + 6) s))))
+            (take-all (length s - (at + 6)) (drop (at + 6) s) (omega (arith, length-drop (at + 6) s))
+            ∙ sym (take-all (size (drop at s)) (drop (at + 6) s) (omega (arith, length-drop (at + 6) s))))
             (tokens-end s (length s) (le-refl (length s)) ∙ sym (tokens-end s (nextAt s at) (omega arith)));
         low = λ l. omega arith;
         order = j;

@@ -13,7 +13,8 @@ returns c = λ h. c .low-block .ensures (omega arith)
 
 returns-2 : tie.Need-returns-2
 returns-2 c =
-    λ h. c .high-block .ensures (omega arith) ∙ ap (λ (n : ℕ). getD blocks n block.Header) (let z : c .before .before .args .i - 6 + 6 ≡ c .before .before .args .i = omega arith in z)
+    λ h. c .high-block .ensures (omega arith)
+    ∙ ap (λ (n : ℕ). getD blocks n block.Header) (let z : c .before .before .args .i - 6 + 6 ≡ c .before .before .args .i = omega arith in z)
 
 pub block-of-spec : {M : Type 1} → statement M
 block-of-spec =

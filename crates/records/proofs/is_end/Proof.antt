@@ -7,7 +7,9 @@ use Rattle.records.proofs.is_end.Tie as tie
 use Rattle.records.specs.Records.{isEnd}
 
 returns-3 : tie.Need-returns-3
-returns-3 c = ap (λ (n : ℕ). eqb n (c .before .before .before .before .args .i)) (c .index-of .ensures) ∙ sym (ap (isEnd (c .before .before .before .before .args .i)) (c .before .before .k .given .1))
+returns-3 c =
+    let args = c .before .before .before .before .args in
+    ap (λ (n : ℕ). eqb n (args .i)) (c .index-of .ensures) ∙ sym (ap (isEnd (args .i)) (c .before .before .k .given .1))
 
 pub is-end-spec : {M : Type 1} → statement M
 is-end-spec =

@@ -7,7 +7,9 @@ use Rattle.records.proofs.is_start.Tie as tie
 use Rattle.records.specs.Records.{isStart}
 
 returns-2 : tie.Need-returns-2
-returns-2 c = ap (λ (n : ℕ). eqb n (c .before .before .before .before .args .i)) (c .index-of .ensures) ∙ sym (ap (isStart (c .before .before .before .before .args .i)) (c .before .before .k .given .1))
+returns-2 c =
+    let args = c .before .before .before .before .args in
+    ap (λ (n : ℕ). eqb n (args .i)) (c .index-of .ensures) ∙ sym (ap (isStart (args .i)) (c .before .before .k .given .1))
 
 pub is-start-spec : {M : Type 1} → statement M
 is-start-spec =

@@ -18,16 +18,22 @@ returns-2 c =
 returns-3 : tie.Need-returns-3
 unfolding size
 returns-3 c =
-    let a = c .before .before .before .before .before .before .before .args in
-    let k = c .before .before .kind-of2 .ensures ∙ ap kindOf (c .before .before .before .whole-two .ensures .0) in
-    read-cut (now (a .document)) (a .at) _ (c .before .before .before .before .before .if1 .left) k _ (c .before .whole-four .ensures .0) (omega arith) (omega arith)
+    let whole-two = c .before .before .before .whole-two in
+    let after-if1 = c .before .before .before .before .before in
+    let if1 = after-if1 .if1 in
+    let a = after-if1 .before .before .args in
+    let k = c .before .before .kind-of2 .ensures ∙ ap kindOf (whole-two .ensures .0) in
+    read-cut (now (a .document)) (a .at) _ (if1 .left) k _ (c .before .whole-four .ensures .0) (omega arith) (omega arith)
 
 returns-4 : tie.Need-returns-4
 unfolding size
 returns-4 c =
-    let a = c .before .before .before .before .before .before .before .args in
-    let k = c .before .before .kind-of2 .ensures ∙ ap kindOf (c .before .before .before .whole-two .ensures .0) in
-    read-whole (now (a .document)) (a .at) _ (c .before .before .before .before .before .if1 .left) k _ (c .before .whole-four .ensures .0) (omega arith) (omega arith)
+    let whole-two = c .before .before .before .whole-two in
+    let after-if1 = c .before .before .before .before .before in
+    let if1 = after-if1 .if1 in
+    let a = after-if1 .before .before .args in
+    let k = c .before .before .kind-of2 .ensures ∙ ap kindOf (whole-two .ensures .0) in
+    read-whole (now (a .document)) (a .at) _ (if1 .left) k _ (c .before .whole-four .ensures .0) (omega arith) (omega arith)
 
 pub record-at-spec : {M : Type 1} → statement M
 record-at-spec =

@@ -7,7 +7,10 @@ use Rattle.records.proofs.Reading.{little-four}
 
 returns : tie.Need-returns
 returns c =
-    (little-four (now (c .before .before .before .args .bytes)) (c .before .before .before .args .at) _ _ (c .before .whole-two .ensures .0) (c .whole-two2 .ensures .0), omega (arith, c .before .whole-two .ensures, c .whole-two2 .ensures))
+    let args = c .before .before .before .args in (
+      little-four (now (args .bytes)) (args .at) _ _ (c .before .whole-two .ensures .0) (c .whole-two2 .ensures .0),
+      omega (arith, c .before .whole-two .ensures, c .whole-two2 .ensures),
+    )
 
 pub whole-four-spec : {M : Type 1} → statement M
 whole-four-spec =

@@ -6,7 +6,11 @@ use Rattle.records.proofs.whole_two.Tie as tie
 use Rattle.records.proofs.Reading.{little-two}
 
 returns : tie.Need-returns
-returns c = (omega (arith, little-two (now (c .before .before .before .before .before .args .bytes)) (c .before .before .before .before .before .args .at), c .before .before .usize-from .ensures, c .usize-from2 .ensures), omega (arith, c .before .before .usize-from .ensures, c .usize-from2 .ensures))
+returns c =
+    let args = c .before .before .before .before .before .args in (
+      omega (arith, little-two (now (args .bytes)) (args .at), c .before .before .usize-from .ensures, c .usize-from2 .ensures),
+      omega (arith, c .before .before .usize-from .ensures, c .usize-from2 .ensures),
+    )
 
 pub whole-two-spec : {M : Type 1} → statement M
 whole-two-spec =
