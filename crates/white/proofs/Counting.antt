@@ -24,7 +24,8 @@ pub counted-none : (s : List ℕ) → utf8 s ≡ false → 0 ≡ printingCount s
 unfolding printingCount if_then_else_
 counted-none s e = rw e
 
-pub counted-all : (s : List ℕ) (i n : ℕ) → length s ≤ i → utf8 s ≡ utf8 (drop i s) → length (printing s) ≡ n + length (printing (drop i s)) → n ≡ printingCount s
+pub counted-all : (s : List ℕ) (i n : ℕ) → length s ≤ i → utf8 s ≡ utf8 (drop i s) → length (printing s) ≡ n + length (printing (drop i s))
+    → n ≡ printingCount s
 unfolding printingCount printing if_then_else_
 counted-all s i n h e f =
     let z = drop-of-length-le s h in

@@ -88,7 +88,8 @@ found t {k} e n = go (whiteBytes (last 1 t)) (whiteBytes (last 2 t)) (whiteBytes
     is : (m : ℕ) → k ≡ suc m → whiteBytes (last m t) ≡ false → whiteBytes (last (suc m) t) ≡ true → Found t k
     is m q a b = record { bytes = rw q b; room = rw q (longer t m a b); some = omega arith }
 
-    go : (x y z : Bool) → whiteBytes (last 1 t) ≡ x → whiteBytes (last 2 t) ≡ y → whiteBytes (last 3 t) ≡ z → k ≡ if x then 1 else if y then 2 else if z then 3 else 0 → Found t k
+    go : (x y z : Bool) → whiteBytes (last 1 t) ≡ x → whiteBytes (last 2 t) ≡ y → whiteBytes (last 3 t) ≡ z
+        → k ≡ if x then 1 else if y then 2 else if z then 3 else 0 → Found t k
     go true y z p q r f = is 0 f (no-last t) p
     go false true z p q r f = is 1 f p q
     go false false true p q r f = is 2 f q r

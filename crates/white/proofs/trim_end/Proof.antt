@@ -1,3 +1,5 @@
+-- Invariant: trimming the first e bytes gives what trimming all of them gives.
+-- What falls: e.
 use mathlib.Core.Path.{_≡_, _∙_}
 use Prim.Native.Nat.{_≤_}
 use native.Mathlib.Omega.{arith}
@@ -20,16 +22,28 @@ loop-holds : tie.Need-loop-holds Inv-loop μ-loop
 loop-holds c = (omega arith, rw take-length)
 
 returns : tie.Need-returns Inv-loop μ-loop
-returns c = left-stop (now (c .before .before .before .before .before .args .s)) (c .before .before .before .loop .e) (c .before .before .before .loop .inv .0) (c .before .white-size .ensures) (c .if1 .taken) (c .before .before .before .loop .inv .1)
+returns c =
+    let loop = c .before .before .before .loop in
+    let args = c .before .before .before .before .before .args in
+    left-stop (now (args .s)) (loop .e) (loop .inv .0) (c .before .white-size .ensures) (c .if1 .taken) (loop .inv .1)
 
 sub-e : tie.Need-sub-e Inv-loop μ-loop
-sub-e c = omega (arith, left-fits (now (c .before .before .before .before .before .args .s)) (c .before .before .before .loop .e) (c .before .before .before .loop .inv .0) (c .before .white-size .ensures) (c .if1 .left))
+sub-e c =
+    let loop = c .before .before .before .loop in
+    let args = c .before .before .before .before .before .args in
+    omega (arith, left-fits (now (args .s)) (loop .e) (loop .inv .0) (c .before .white-size .ensures) (c .if1 .left))
 
 loop-less : tie.Need-loop-less Inv-loop μ-loop
-loop-less c = omega (arith, left-fits (now (c .before .before .before .before .before .args .s)) (c .before .before .before .loop .e) (c .before .before .before .loop .inv .0) (c .before .white-size .ensures) (c .if1 .left))
+loop-less c =
+    let loop = c .before .before .before .loop in
+    let args = c .before .before .before .before .before .args in
+    omega (arith, left-fits (now (args .s)) (loop .e) (loop .inv .0) (c .before .white-size .ensures) (c .if1 .left))
 
 loop-again : tie.Need-loop-again Inv-loop μ-loop
-loop-again c = (omega arith, c .before .before .before .loop .inv .1 ∙ left-next (now (c .before .before .before .before .before .args .s)) (c .before .before .before .loop .e) (c .before .before .before .loop .inv .0) (c .before .white-size .ensures) (c .if1 .left))
+loop-again c =
+    let loop = c .before .before .before .loop in
+    let args = c .before .before .before .before .before .args in
+    (omega arith, loop .inv .1 ∙ left-next (now (args .s)) (loop .e) (loop .inv .0) (c .before .white-size .ensures) (c .if1 .left))
 
 returns-2 : tie.Need-returns-2 Inv-loop μ-loop
 returns-2 c = left-none (now (c .before .before .before .args .s)) (c .before .loop .e) (c .loop-test .left) (c .before .loop .inv .1)
