@@ -11,10 +11,15 @@ returns : tie.Need-returns
 returns c = sym (part-none (now (c .before .before .args .s)) (c .before .before .args .from) (c .before .before .args .to) (c .before .if1 .taken))
 
 returns-2 : tie.Need-returns-2
-returns-2 c = sym (part-past (now (c .before .before .before .args .s)) (c .before .before .before .args .from) (c .before .before .before .args .to) (c .before .if2 .taken))
+returns-2 c =
+    let args = c .before .before .before .args in
+    sym (part-past (now (args .s)) (args .from) (args .to) (c .before .if2 .taken))
 
 returns-3 : tie.Need-returns-3
-returns-3 c = part-over (now (c .before .before .before .before .args .s)) (c .before .before .before .before .args .from) (length (now (c .before .before .before .before .args .s))) (omega arith) ∙ sym (part-over (now (c .before .before .before .before .args .s)) (c .before .before .before .before .args .from) (c .before .before .before .before .args .to) (c .before .if3 .taken))
+returns-3 c =
+    let args = c .before .before .before .before .args in
+    part-over (now (args .s)) (args .from) (length (now (args .s))) (omega arith)
+    ∙ sym (part-over (now (args .s)) (args .from) (args .to) (c .before .if3 .taken))
 
 pub get-spec : {M : Type 1} → statement M
 get-spec =

@@ -18,7 +18,8 @@ returns-2 : tie.Need-returns-2
 returns-2 c =
     let a = c .before .before .args in
     let s = now (a .s) in
-    take-all (length s - length s) (drop (length s) s) (omega (arith, length-drop (length s) s)) ∙ drop-of-length-le s (le-refl (length s)) ∙ sym (drop-of-length-le s {i = a .from} (le-of-lt (c .before .if1 .left)))
+    take-all (length s - length s) (drop (length s) s) (omega (arith, length-drop (length s) s))
+    ∙ drop-of-length-le s (le-refl (length s)) ∙ sym (drop-of-length-le s {i = a .from} (le-of-lt (c .before .if1 .left)))
 
 pub get-from-spec : {M : Type 1} → statement M
 get-from-spec =

@@ -1,3 +1,5 @@
+-- Invariant: the first i bytes of the prefix stand in s from `at` on, and whether the rest does says the answer.
+-- What falls: the bytes of the prefix after i.
 use mathlib.Core.Path.{_≡_, sym, _∙_}
 use Prim.Native.Nat.{_+_, _-_, _≤_}
 use native.Mathlib.Omega.{arith}
@@ -21,25 +23,36 @@ loop-holds : tie.Need-loop-holds Inv-loop μ-loop
 loop-holds c = (omega arith, rw add-zero)
 
 returns : tie.Need-returns Inv-loop μ-loop
-returns c = let a = c .before .before .before .args in let l = c .before .before .loop in sym (l .inv .1 ∙ starts-short (now (a .prefix)) (now (a .s)) (a .at) (l .i) (omega arith) (omega arith))
+returns c =
+    let l = c .before .before .loop in
+    let a = c .before .before .before .args in
+    sym (l .inv .1 ∙ starts-short (now (a .prefix)) (now (a .s)) (a .at) (l .i) (omega arith) (omega arith))
 
 returns-2 : tie.Need-returns-2 Inv-loop μ-loop
-returns-2 c = let a = c .before .before .before .before .args in let l = c .before .before .before .loop in sym (l .inv .1 ∙ starts-short (now (a .prefix)) (now (a .s)) (a .at) (l .i) (omega arith) (omega arith))
+returns-2 c =
+    let l = c .before .before .before .loop in
+    let a = c .before .before .before .before .args in
+    sym (l .inv .1 ∙ starts-short (now (a .prefix)) (now (a .s)) (a .at) (l .i) (omega arith) (omega arith))
 
 returns-3 : tie.Need-returns-3 Inv-loop μ-loop
 returns-3 c =
-    let a = c .before .before .before .before .before .before .before .args in
-    let l = c .before .before .before .before .before .before .loop in
+    let after-loop = c .before .before .before .before .before .before in
+    let l = after-loop .loop in
+    let a = after-loop .before .args in
     sym (l .inv .1 ∙ starts-next (now (a .prefix)) (now (a .s)) (a .at) (l .i) (omega arith) (omega arith) ∙ simp (ne-eqb _ _ (c .if3 .taken)))
 
 loop-again : tie.Need-loop-again Inv-loop μ-loop
 loop-again c =
-    let a = c .before .before .before .before .before .before .before .args in
-    let l = c .before .before .before .before .before .before .loop in
+    let after-loop = c .before .before .before .before .before .before in
+    let l = after-loop .loop in
+    let a = after-loop .before .args in
     (omega arith, l .inv .1 ∙ starts-next (now (a .prefix)) (now (a .s)) (a .at) (l .i) (omega arith) (omega arith) ∙ simp (eq-eqb _ _ (c .if3 .left)))
 
 returns-4 : tie.Need-returns-4 Inv-loop μ-loop
-returns-4 c = let a = c .before .before .args in let l = c .before .loop in sym (l .inv .1 ∙ starts-end (now (a .prefix)) (now (a .s)) (a .at) (l .i) (c .loop-test .left))
+returns-4 c =
+    let l = c .before .loop in
+    let a = c .before .before .args in
+    sym (l .inv .1 ∙ starts-end (now (a .prefix)) (now (a .s)) (a .at) (l .i) (c .loop-test .left))
 
 pub starts-with-spec : {M : Type 1} → statement M
 starts-with-spec =
