@@ -27,11 +27,13 @@ module _ {M : Type 1} (𝓤 : URA M) (H : Heap 𝓤) (A : Atoms 𝓤) (W : Given
   pub lay : ent 𝓤 (sep 𝓤 (H .at fullShare τ b o v) (sem 𝓤 H A (row T .own h (v ∷ [])))) (sem 𝓤 H A (mem (row T) .lies h b o))
   unfolding partOf
   lay =
-      qed W (‵ (fat fullShare τ b o v) ∷ ‵ (row T .own h (v ∷ [])) ∷ []) ∵ use1 W (‵ (cellAt fullShare (row T .mir) (v ∷ []) b o)) (W .laws .at-raw fullShare τ b o v) $
+      qed W (‵ (fat fullShare τ b o v) ∷ ‵ (row T .own h (v ∷ [])) ∷ []) ∵
+      use1 W (‵ (cellAt fullShare (row T .mir) (v ∷ []) b o)) (W .laws .at-raw fullShare τ b o v) $
       fjoin ! $ fpack ! (List Val) (λ vs. fsep (cellAt fullShare (row T .mir) vs b o) (row T .own h vs)) (v ∷ []) $ done !
 
   pub take : ent 𝓤 (sem 𝓤 H A (mem (row T) .lies h b o)) (sep 𝓤 (H .at fullShare τ b o v) (sem 𝓤 H A (row T .own h (v ∷ []))))
   unfolding partOf
   take =
-      qed W (‵ (mem (row T) .lies h b o) ∷ []) ∵ fpick ! (λ vs. fsplit ! $ spelt ! (row T) (Is (row T)) (shows 𝓤 H A (row T)) (LL.vals T L) (LL.tells T L) fullShare h vs b o $
+      qed W (‵ (mem (row T) .lies h b o) ∷ []) ∵
+      fpick ! (λ vs. fsplit ! $ spelt ! (row T) (Is (row T)) (shows 𝓤 H A (row T)) (LL.vals T L) (LL.tells T L) fullShare h vs b o $
       use1 W (‵ (fat fullShare τ b o v)) (W .laws .raw-at fullShare τ b o v) $ done !)
