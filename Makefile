@@ -1,8 +1,10 @@
 # Targets: test (everything that a change must pass), run (the console program on a sample page), compare (N cases beside the
 # oracle), bench (times beside the Rust), growth (times of pages from 1 to 32 KB), fuzz (SECONDS of calls on random inputs,
-# between guard pages), samples, record and upper (make samples/, the recorded lists and the upper-case table again).
-.PHONY: test run compare bench growth fuzz samples record upper clean
+# between guard pages), samples, record and upper (make samples/, the recorded lists and the upper-case table again), install and uninstall
+# (the program sefgrunn, the library and the header, under PREFIX, below DESTDIR).
+.PHONY: test run compare bench growth fuzz samples record upper install uninstall clean
 
+PREFIX ?= /usr/local
 N ?= 1000000
 SEED ?= 1
 SECONDS ?= 60
@@ -34,5 +36,11 @@ record:
 upper:
 	@cd oracle && cargo run --release --offline --quiet --example upper -- make ../crates/upper
 
+install:
+	@PREFIX='$(PREFIX)' DESTDIR='$(DESTDIR)' tools/install
+
+uninstall:
+	@PREFIX='$(PREFIX)' DESTDIR='$(DESTDIR)' tools/install uninstall
+
 clean:
-	rm -rf target oracle/target wrapper/target
+	rm -rf target oracle/target wrapper/target command/target
