@@ -1,4 +1,4 @@
--- What each renderer gives, by what is asked for.
+-- What functions below the interface promise each other: what each renderer gives, by what is asked for. No rule stands here.
 use Prim.Native.Nat.{ℕ}
 use mathlib.Core.Bool.{Bool, true, false}
 use mathlib.Core.List.{List}
