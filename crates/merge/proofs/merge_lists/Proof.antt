@@ -141,19 +141,28 @@ loop-again c =
     .before .loop .inv .key-size) (c .before .before .read-item3 .ensures))
 
 sub-put-all-3 : tie.Need-sub-put-all-3 Inv-loop μ-loop
-sub-put-all-3 c = let t =
-    take-first (c .before .before .before .before .before .before .before .before .loop .inv)
-    (c .before .before .before .before .before .before .before .loop-test .taken) in omega (arith, t .on)
+sub-put-all-3 c =
+    let t = take-first (c .before .before .before .before .before .before .before .before .loop .inv)
+    (c .before .before .before .before .before .before .before .loop-test .taken) in
+    let u = take-second (c .before .before .before .before .before .before .before .before .loop .inv)
+    (omega (arith, c .before .before .before .before .before .before .if1 .left)) in
+    omega (arith, t .on, u .on)
 
 part-put-all-start-3 : tie.Need-part-put-all-start-3 Inv-loop μ-loop
 part-put-all-start-3 c =
     let t = take-first (c .before .before .before .before .before .before .before .before .loop .inv)
-    (c .before .before .before .before .before .before .before .loop-test .taken) in omega (arith, t .inside, t .on)
+    (c .before .before .before .before .before .before .before .loop-test .taken) in
+    let u = take-second (c .before .before .before .before .before .before .before .before .loop .inv)
+    (omega (arith, c .before .before .before .before .before .before .if1 .left)) in
+    omega (arith, t .inside, t .on, u .inside, u .on)
 
 part-put-all-end-3 : tie.Need-part-put-all-end-3 Inv-loop μ-loop
 part-put-all-end-3 c =
     let t = take-first (c .before .before .before .before .before .before .before .before .loop .inv)
-    (c .before .before .before .before .before .before .before .loop-test .taken) in omega (arith, t .inside, t .on)
+    (c .before .before .before .before .before .before .before .loop-test .taken) in
+    let u = take-second (c .before .before .before .before .before .before .before .before .loop .inv)
+    (omega (arith, c .before .before .before .before .before .before .if1 .left)) in
+    omega (arith, t .inside, t .on, u .inside, u .on)
 
 loop-less-2 : tie.Need-loop-less-2 Inv-loop μ-loop
 loop-less-2 c =
