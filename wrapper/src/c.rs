@@ -159,6 +159,7 @@ extern "C" {
         start: *mut usize,
         length: *mut usize,
     ) -> u32;
+    #[allow(dead_code)] // the package builds by a draft, the oracle both ways
     pub fn sefgrunn_write(
         room: *mut u8,
         room_len: usize,
@@ -168,6 +169,7 @@ extern "C" {
         n: usize,
         place: *mut usize,
     ) -> u32;
+    #[allow(dead_code)] // the package builds by a draft, the oracle both ways
     pub fn sefgrunn_open(
         room: *mut u8,
         room_len: usize,
@@ -175,6 +177,7 @@ extern "C" {
         block: u32,
         place: *mut usize,
     ) -> u32;
+    #[allow(dead_code)] // the package builds by a draft, the oracle both ways
     pub fn sefgrunn_close(
         room: *mut u8,
         room_len: usize,
