@@ -1,6 +1,7 @@
 //! The builder's calls by a draft beside its calls without one: random sequences, each byte compared, and drafts of random numbers, after which
 //! only the bytes around the room are looked at.
 
+use crate::generate::Rng;
 use crate::port::c;
 
 /// Bytes before and after the room that no call may change.
@@ -8,20 +9,9 @@ const GUARD: usize = 64;
 /// Mismatches that are printed in full.
 const PRINTED: u64 = 20;
 
-struct Random(u64);
-
-impl Random {
-    fn next(&mut self) -> u64 {
-        self.0 = self.0.wrapping_add(0x9E37_79B9_7F4A_7C15);
-        let mut z = self.0;
-        z = (z ^ (z >> 30)).wrapping_mul(0xBF58_476D_1CE4_E5B9);
-        z = (z ^ (z >> 27)).wrapping_mul(0x94D0_49BB_1331_11EB);
-        z ^ (z >> 31)
-    }
-
-    fn below(&mut self, n: u64) -> u64 {
-        self.next() % n
-    }
+/// 0 to `n - 1`
+fn below(random: &mut Rng, n: u64) -> u64 {
+    random.next() % n
 }
 
 /// A call; numbers may be out of range.
@@ -86,19 +76,39 @@ fn resumed(room: &[u8], length: u64) -> (u32, usize, [u64; 8]) {
     let (mut draft, mut place) = ([0; 8], usize::MAX);
     // SAFETY: as above.
     let number = unsafe {
-        c::sefgrunn_draft_resume(room.as_ptr(), room.len(), length as usize, draft.as_mut_ptr(), &mut place)
+        c::sefgrunn_draft_resume(
+            room.as_ptr(),
+            room.len(),
+            length as usize,
+            draft.as_mut_ptr(),
+            &mut place,
+        )
     };
     (number, place, draft)
 }
 
-fn step(random: &mut Random) -> Step {
-    const TEXTS: [&[u8]; 9] =
-        [b"", b"a", b"port", "\u{e9}".as_bytes(), b"one two\nthree", &[0xFF], &[0xC3], "\u{1F600}x".as_bytes(), b"--verbose, and more of it"];
-    let block = if random.below(40) == 0 { random.below(300) as u32 } else { random.below(4) as u32 };
-    match random.below(10) {
+fn step(random: &mut Rng) -> Step {
+    const TEXTS: [&[u8]; 9] = [
+        b"",
+        b"a",
+        b"port",
+        "\u{e9}".as_bytes(),
+        b"one two\nthree",
+        &[0xFF],
+        &[0xC3],
+        "\u{1F600}x".as_bytes(),
+        b"--verbose, and more of it",
+    ];
+    let block =
+        if below(random, 40) == 0 { below(random, 300) as u32 } else { below(random, 4) as u32 };
+    match below(random, 10) {
         0..=4 => {
-            let style = if random.below(40) == 0 { random.below(300) as u32 } else { 1 + random.below(3) as u32 };
-            Step::Write(style, TEXTS[random.below(TEXTS.len() as u64) as usize].to_vec())
+            let style = if below(random, 40) == 0 {
+                below(random, 300) as u32
+            } else {
+                1 + below(random, 3) as u32
+            };
+            Step::Write(style, TEXTS[below(random, TEXTS.len() as u64) as usize].to_vec())
         }
         5..=7 => Step::Open(block),
         _ => Step::Close(block),
@@ -106,14 +116,14 @@ fn step(random: &mut Random) -> Step {
 }
 
 /// A draft of random numbers, small ones often.
-fn made_up(random: &mut Random, draft: [u64; 8]) -> [u64; 8] {
+fn made_up(random: &mut Rng, draft: [u64; 8]) -> [u64; 8] {
     let mut made = draft;
     for word in &mut made {
-        match random.below(6) {
-            0 => *word = random.below(8),
-            1 => *word = random.below(700),
+        match below(random, 6) {
+            0 => *word = below(random, 8),
+            1 => *word = below(random, 700),
             2 => *word = random.next(),
-            3 => *word = u64::MAX - random.below(8),
+            3 => *word = u64::MAX - below(random, 8),
             _ => {}
         }
     }
@@ -122,7 +132,7 @@ fn made_up(random: &mut Random, draft: [u64; 8]) -> [u64; 8] {
 
 /// Runs so many sequences; how many calls were compared, and how many differ.
 pub fn compare(seed: u64, cases: u64) -> (u64, u64) {
-    let mut random = Random(seed);
+    let mut random = Rng::new(seed, 0);
     let (mut calls, mut mismatches) = (0, 0);
     let say = |mismatches: &mut u64, what: &str, of: &dyn std::fmt::Debug| {
         *mismatches += 1;
@@ -131,22 +141,22 @@ pub fn compare(seed: u64, cases: u64) -> (u64, u64) {
         }
     };
     for _ in 0..cases {
-        let size = match random.below(4) {
-            0 => random.below(40),
-            1 => random.below(300),
-            _ => 300 + random.below(900),
+        let size = match below(&mut random, 4) {
+            0 => below(&mut random, 40),
+            1 => below(&mut random, 300),
+            _ => 300 + below(&mut random, 900),
         };
         let mut room: Vec<u8> = (0..size).map(|_| random.next() as u8).collect();
         let mut draft = [0; 8];
-        for _ in 0..random.below(60) {
+        for _ in 0..below(&mut random, 60) {
             let step = step(&mut random);
             let wanted = plain(&room, draft[0], &step);
             // a draft that the quick test refutes is as good as one that holds
-            if random.below(16) == 0 {
+            if below(&mut random, 16) == 0 {
                 let length = draft[0];
                 let kept = draft;
-                let at = if random.below(2) == 0 { 1 } else { 3 };
-                draft[at] = 33 + random.below(1 << 40) + length;
+                let at = if below(&mut random, 2) == 0 { 1 } else { 3 };
+                draft[at] = 33 + below(&mut random, 1 << 40) + length;
                 if length == 0 && at == 1 {
                     draft = kept;
                 }
@@ -158,7 +168,11 @@ pub fn compare(seed: u64, cases: u64) -> (u64, u64) {
             };
             calls += 1;
             if given != wanted {
-                say(&mut mismatches, "differs", &(&step, before, given.number, given.place, wanted.number, wanted.place));
+                say(
+                    &mut mismatches,
+                    "differs",
+                    &(&step, before, given.number, given.place, wanted.number, wanted.place),
+                );
             }
             if given.number != 0 && draft != before {
                 say(&mut mismatches, "refused, and another draft", &(&step, before, draft));
@@ -178,11 +192,17 @@ pub fn compare(seed: u64, cases: u64) -> (u64, u64) {
             }
         }
         // and of any bytes: the check's refusals
-        let length = random.below(size + 20);
+        let length = below(&mut random, size + 20);
         let (number, place, _) = resumed(&room, length);
         let probe = plain(&room, length, &Step::Write(1, Vec::new()));
-        if probe.number != 13 && (number, place) != (probe.number, if probe.number == 0 { 0 } else { probe.place }) {
-            say(&mut mismatches, "resume refuses otherwise", &(length, number, place, probe.number, probe.place));
+        if probe.number != 13
+            && (number, place) != (probe.number, if probe.number == 0 { 0 } else { probe.place })
+        {
+            say(
+                &mut mismatches,
+                "resume refuses otherwise",
+                &(length, number, place, probe.number, probe.place),
+            );
         }
     }
     (calls, mismatches)

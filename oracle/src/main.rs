@@ -243,7 +243,9 @@ fn run_drafts(arguments: &Arguments) -> Parsed<ExitCode> {
     #[cfg(feature = "linked")]
     {
         let (calls, mismatches) = oracle::drafts::compare(seed, cases);
-        println!("{cases} sequences, {calls} calls by a draft and without, {mismatches} mismatches");
+        println!(
+            "{cases} sequences, {calls} calls by a draft and without, {mismatches} mismatches"
+        );
         Ok(status(mismatches == 0))
     }
     #[cfg(not(feature = "linked"))]
