@@ -14,7 +14,8 @@
 //! - [`kept`]: the kept Rust run beside `rules`; every disagreement is reported.
 //! - [`cases`]: one type for a call of any public function, one for its answer, and their list form.
 //! - [`generate`]: seeded documents, settings, rooms and builder calls.
-//! - [`bench`]: port and kept Rust timed side by side.
+//! - [`bench`]: port and kept Rust timed side by side; [`timing`] has the clock, [`bars`] what is asked of the port.
+//! - [`worst`]: pages that cost a renderer much for each byte.
 //! - [`port`]: the C interface of the port, where it is linked.
 //! - [`worthless`]: the worthless versions that 01 lists, each as a port.
 //!
@@ -29,6 +30,7 @@ mod bpaf;
 use bpaf::buffer;
 use bpaf::buffer::Doc;
 
+pub mod bars;
 pub mod bench;
 pub mod cases;
 #[cfg(feature = "linked")]
@@ -45,5 +47,7 @@ pub mod readback;
 pub mod rules;
 pub mod shape;
 pub mod stored;
+pub mod timing;
+pub mod worst;
 pub mod worthless;
 pub mod writes;

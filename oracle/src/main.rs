@@ -24,8 +24,8 @@ usage: oracle answer console|html|html_strict|markdown|roff
        oracle compare --seed S --cases N [--only SUBJECT,..]
        oracle selfcheck --seed S --cases N [--only SUBJECT,..]
        oracle reach --seed S --cases N
-       oracle bench DOCUMENT..
-       oracle growth DOCUMENT
+       oracle bench [--bar 0|1] DOCUMENT..
+       oracle growth [--bar 0|1] DOCUMENT
        oracle drafts --seed S --cases N
        oracle notes < notes > document
        oracle bundle DOCUMENT.. > bundle
@@ -38,9 +38,9 @@ const PROGRAM_WIDTH: u64 = 100;
 /// Mismatches that are printed in full.
 const PRINTED: u64 = 20;
 
-/// What follows a command: its operand, and `--name value` pairs.
+/// What follows a command: its operands, and `--name value` pairs.
 struct Arguments {
-    operand: Option<String>,
+    operands: Vec<String>,
     options: Vec<(String, String)>,
 }
 
@@ -48,7 +48,7 @@ type Parsed<T> = Result<T, String>;
 
 impl Arguments {
     fn read(mut arguments: impl Iterator<Item = String>, known: &[&str]) -> Parsed<Self> {
-        let mut read = Arguments { operand: None, options: Vec::new() };
+        let mut read = Arguments { operands: Vec::new(), options: Vec::new() };
         while let Some(argument) = arguments.next() {
             if let Some(name) = argument.strip_prefix("--") {
                 let value = arguments.next().ok_or(format!("--{name} needs a value"))?;
@@ -56,8 +56,8 @@ impl Arguments {
                     return Err(format!("--{name} is unknown here or given twice"));
                 }
                 read.options.push((name.to_string(), value));
-            } else if read.operand.replace(argument).is_some() {
-                return Err("more than one operand".into());
+            } else {
+                read.operands.push(argument);
             }
         }
         Ok(read)
@@ -84,11 +84,15 @@ impl Arguments {
     }
 
     fn operand(&self) -> Parsed<&str> {
-        self.operand.as_deref().ok_or("an operand is missing".into())
+        match &self.operands[..] {
+            [operand] => Ok(operand),
+            [] => Err("an operand is missing".into()),
+            _ => Err("more than one operand".into()),
+        }
     }
 
     fn no_operand(&self) -> Parsed<()> {
-        self.operand.as_ref().map_or(Ok(()), |operand| Err(format!("{operand}: not expected")))
+        self.operands.first().map_or(Ok(()), |operand| Err(format!("{operand}: not expected")))
     }
 
     /// The subjects named by `--only`, or all.
@@ -121,8 +125,8 @@ fn main() -> ExitCode {
             }
             "selfcheck" => Arguments::read(arguments, &["seed", "cases", "only"])
                 .and_then(|a| run_selfcheck(&a)),
-            "bench" => Ok(run_bench(arguments)),
-            "growth" => Arguments::read(arguments, &[]).and_then(|a| run_growth(&a)),
+            "bench" => Arguments::read(arguments, &["bar"]).and_then(|a| run_bench(&a)),
+            "growth" => Arguments::read(arguments, &["bar"]).and_then(|a| run_growth(&a)),
             "drafts" => Arguments::read(arguments, &["seed", "cases"]).and_then(|a| run_drafts(&a)),
             "bundle" => Ok(run_bundle(arguments)),
             "figures" => Arguments::read(arguments, &[]).and_then(|a| run_figures(&a)),
@@ -188,7 +192,7 @@ fn run_bundle(paths: impl Iterator<Item = String>) -> ExitCode {
 }
 
 /// Runs a benchmark on the document at a path; says whether it was read and accepted.
-fn timed(path: &str, run: impl Fn(&str, &[u8]) -> Option<()>) -> bool {
+fn timed(path: &str, run: impl FnOnce(&str, &[u8]) -> Option<()>) -> bool {
     let name = path.rsplit('/').next().unwrap_or(path);
     let outcome = match std::fs::read(path) {
         Ok(document) => run(name, &document).ok_or("refused".to_string()),
@@ -208,34 +212,41 @@ fn status(fine: bool) -> ExitCode {
     }
 }
 
-/// Times of the port and of the Rust on stored documents: rendering, then building.
-fn run_bench(documents: impl Iterator<Item = String>) -> ExitCode {
-    let documents: Vec<String> = documents.collect();
-    bench::head();
-    let mut fine = true;
-    for path in &documents {
-        fine &= timed(path, bench::page);
+/// Where bars are asked for, prints what is over them; whether that is nothing, or they are not asked for.
+fn barred(bar: bool, faults: &[String]) -> bool {
+    if bar {
+        println!();
+        for fault in faults {
+            println!("{fault}");
+        }
+        println!("{} over their bars", faults.len());
     }
-    let pages: Vec<Vec<u8>> =
-        documents.iter().filter_map(|path| std::fs::read(path).ok()).collect();
-    bench::bundles(&pages);
-    bench::headings();
-    bench::paging();
-    bench::noting();
-    bench::merging();
-    bench::building_head();
-    for path in &documents {
-        fine &= timed(path, bench::building);
-    }
-    status(fine)
+    !bar || faults.is_empty()
 }
 
-/// Times on pages of 1 to 32 KB that are made from one stored document.
+/// Times of the port and of the Rust on stored documents: rendering, then building. With `--bar 1` it fails
+/// where one is over its bar.
+fn run_bench(arguments: &Arguments) -> Parsed<ExitCode> {
+    let bar = arguments.flag("bar", false)?;
+    let mut pages = Vec::new();
+    let read = |path: &String| {
+        timed(path, |name, document| {
+            bench::accepts(document).then(|| pages.push((name.to_string(), document.to_vec())))
+        })
+    };
+    let refused = arguments.operands.iter().map(read).filter(|read| !read).count();
+    let faults = bench::five_pages(&pages);
+    Ok(status(barred(bar, &faults) && refused == 0))
+}
+
+/// Times on pages of 1 to 32 KB that are made from one stored document, then on the worst pages. With `--bar 1`
+/// it fails where one of these is over its bar.
 fn run_growth(arguments: &Arguments) -> Parsed<ExitCode> {
-    Ok(status(timed(arguments.operand()?, |_, document| bench::growth(document))))
+    let bar = arguments.flag("bar", false)?;
+    let fine = timed(arguments.operand()?, bench::growth);
+    Ok(status(barred(bar, &bench::worst_pages()) && fine))
 }
 
-/// The text of one document, or the refusal line of 01's program.
 /// Random sequences of builder calls, by a draft and without one.
 fn run_drafts(arguments: &Arguments) -> Parsed<ExitCode> {
     arguments.no_operand()?;
@@ -252,6 +263,7 @@ fn run_drafts(arguments: &Arguments) -> Parsed<ExitCode> {
     unreachable!("{seed} {cases}")
 }
 
+/// The text of one document, or the refusal line of 01's program.
 fn run_answer(arguments: &Arguments) -> Parsed<ExitCode> {
     let width = arguments.number("width", Some(PROGRAM_WIDTH))?;
     let full = arguments.flag("full", true)?;
