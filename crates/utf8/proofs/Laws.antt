@@ -16,7 +16,6 @@ use lib.Seq.{drop-cons, drop-drop}
 use Rattle.base.specs.Choice.{if_then_else_}
 use Rattle.base.proofs.Choice.{le-or-lt, and-right}
 use Rattle.utf8.specs.Utf8.{Range, _to_, within, continues, table, rowOf, fits, characters, never, begins, sizeOf}
-use Rattle.utf8.specs.Parts.{Ran, AtMost}
 
 pub count-step : (s : List ℕ) (i : ℕ) → i < length s
     → characters (drop i s) ≡ (if continues (getD s i 0) then 0 else 1) + characters (drop (i + 1) s)
@@ -203,21 +202,12 @@ pub most-more : (s : List ℕ) (a i m n : ℕ) → ((k : ℕ) → k < i → getD
     → (k : ℕ) → k < i + 1 → getD s (a + k) 0 ≤ n
 most-more s a i m n h l g = below-more (λ k. getD s (a + k) 0 ≤ n) i (λ k q. let w = h k q in omega arith) g
 
-pub ran-none : (s : List ℕ) (a e i k : ℕ) → fits [] (drop a s) ≡ fits [] (drop i s) → i < length s → k ≡ sizeOf (drop i s) → k ≡ 0 → Ran s a e 0
-ran-none s a e i k p h q z = record { none = λ _. p ∙ sym (stop-at s i h q z); on = λ n. absurd (n refl) }
-
-pub ran-on : (s : List ℕ) (a e i : ℕ) → a < e → e ≤ i → i ≤ length s → fits [] (drop a s) ≡ fits [] (drop i s) → Ran s a e i
-ran-on s a e i h l r p = record { none = λ z. let w : ⊥ = omega arith in absurd w; on = λ n. (l, r, p) }
-
 -- a run of ASCII
 pub ascii-run : (s : List ℕ) (i n : ℕ) → i + n ≤ length s → ((k : ℕ) → k < n → getD s (i + k) 0 < 0x80) → fits [] (drop i s) ≡ fits [] (drop (i + n) s)
 ascii-run s i zero h l = rw add-zero
 ascii-run s i (suc n) h l =
     let q : i + n + 1 ≡ i + suc n = omega arith in
     ascii-run s i n (omega arith) (λ k g. l k (omega arith)) ∙ one-at s (i + n) (omega arith) (l n (omega arith)) ∙ ap (λ (k : ℕ). fits [] (drop k s)) q
-
-pub block-run : (s : List ℕ) (i m : ℕ) → i + 64 ≤ length s → AtMost s i 64 m → m < 0x80 → fits [] (drop i s) ≡ fits [] (drop (i + 64) s)
-block-run s i m h t l = ascii-run s i 64 h (λ k g. let w = t .each k g in omega arith)
 
 -- a byte shifted by 6 tells whether it starts a character
 pub adds-by : (b : ℕ) → (b / 64 ≡ 2 → ⊥) → adds b ≡ 1

@@ -1,4 +1,5 @@
 pub mod Laws
+pub mod Neighbours
 pub mod Text
 pub mod Scalars
 pub mod Characters

@@ -3,9 +3,10 @@ ghost use mathlib.Core.Path.{_≡_};
 ghost use mathlib.Core.List.{[], _∷_};
 ghost use Prim.Native.Nat.{_<_, _≤_, _+_, _-_, _*_, _^_};
 ghost use lib.ListN.{length, drop, getD};
-ghost use Rattle.base.specs.Choice.{if_then_else_};
+ghost use Rattle.base.specs.Choice.{if_then_else_, among};
 ghost use Rattle.utf8.specs.Utf8.{_to_, utf8, characters, begins, sizeOf, characterAt};
-ghost use Rattle.utf8.specs.Parts.{Ran, Counted, AtMost, Plain, Skipped};
+ghost use Rattle.utf8.specs.Neighbours.{asks, low, high, beside};
+ghost use Rattle.utf8.specs.Parts.{AtMost, Ascii, Passed, Plain, Begun, Counted};
 
 // Whether a byte from lo to hi stands at `at`.
 fn next1(s: &[u8], at: usize, lo: u8, hi: u8) -> bool
@@ -119,14 +120,14 @@ fn size(s: &[u8], i: usize) -> usize
     0
 }
 
-// The largest of the 64 bytes from a.
-fn top(s: &[u8], a: usize) -> u8
-    requires { ⌜ a + 64 ≤ length (now s) ⌝ }
-    ensures { λ r. ⌜ AtMost (now (s .entry)) a 64 r ⌝ }
+// The largest of the w bytes from a.
+fn top(s: &[u8], a: usize, w: usize) -> u8
+    requires { ⌜ a + w ≤ length (now s) ⌝ }
+    ensures { λ r. ⌜ AtMost (now (s .entry)) a w r ⌝ }
 {
     let mut m: u8 = 0;
     let mut i: usize = 0;
-    while i < 64 {
+    while i < w {
         let b = s[a + i];
         if m < b {
             m = b;
@@ -136,15 +137,15 @@ fn top(s: &[u8], a: usize) -> u8
     m
 }
 
-// Goes on from a by ASCII until another byte or e is reached, and returns where it stands.
-fn past_ascii(s: &[u8], a: usize, e: usize) -> usize
-    requires { ⌜ (a < e) × (e ≤ length (now s)) ⌝ }
-    ensures { λ r. ⌜ Skipped (now (s .entry)) a e r ⌝ }
+// Goes on from a by blocks of w bytes while they are ASCII, and returns where it stands.
+fn past_ascii(s: &[u8], a: usize, w: usize) -> usize
+    requires { ⌜ (1 ≤ w) × Ascii (now s) a ⌝ }
+    ensures { λ r. ⌜ Ascii (now (s .entry)) r ⌝ }
 {
     let mut i: usize = a;
-    while i < e {
-        if s[i] < 0x80 {
-            i += 1;
+    while w <= s.len() - i {
+        if top(s, i, w) < 0x80 {
+            i += w;
         } else {
             return i;
         }
@@ -152,66 +153,206 @@ fn past_ascii(s: &[u8], a: usize, e: usize) -> usize
     i
 }
 
-// Goes on from a by characters until e is reached, and returns where it stands, or 0 where no character stands. ASCII at the start has a loop of its own: most
-// text is nothing else, and the loop over characters of any size is the slower for it.
-fn chars(s: &[u8], a: usize, e: usize) -> usize
-    requires { ⌜ (a < e) × (e ≤ length (now s)) ⌝ }
-    ensures { λ r. ⌜ Ran (now (s .entry)) a e r ⌝ }
+// Whether s is well-formed from a on, by characters.
+fn chars(s: &[u8], a: usize) -> bool
+    requires { ⌜ a ≤ length (now s) ⌝ }
+    ensures { λ r. ⌜ r ≡ utf8 (drop a (now (s .entry))) ⌝ }
 {
-    let mut i: usize = past_ascii(s, a, e);
-    while i < e {
+    let mut i: usize = a;
+    while i < s.len() {
         if s[i] < 0x80 {
             i += 1;
         } else {
             let k = size(s, i);
             if k == 0 {
-                return 0;
+                return false;
             }
             i += k;
         }
     }
-    i
+    true
 }
 
-// Whether 64 bytes stand from a on, all of them ASCII.
+// The functions from here to `wide` are well-formedness by each byte and the three before it, r, q and p: the same few tests for every byte, which the
+// compiler makes for 16 bytes at a time.
+
+// Whether one of the three starts a character that the next byte has to go on with.
+fn asks(r: u8, q: u8, p: u8) -> bool
+    ensures { λ x. ⌜ x ≡ asks r q p ⌝ }
+{
+    if 0xC0 <= p {
+        return true;
+    }
+    if 0xE0 <= q {
+        return true;
+    }
+    0xF0 <= r
+}
+
+// The least and the largest byte that may go on with a character after p.
+fn low(p: u8) -> u8
+    ensures { λ x. ⌜ x ≡ low p ⌝ }
+{
+    if p == 0xE0 {
+        return 0xA0;
+    }
+    if p == 0xF0 {
+        return 0x90;
+    }
+    0x80
+}
+
+fn high(p: u8) -> u8
+    ensures { λ x. ⌜ x ≡ high p ⌝ }
+{
+    if p == 0xED {
+        return 0x9F;
+    }
+    if p == 0xF4 {
+        return 0x8F;
+    }
+    0xBF
+}
+
+// 0 where b lies from lo to hi, else 1.
+fn outside(b: u8, lo: u8, hi: u8) -> u8
+    ensures { λ x. ⌜ x ≡ if among lo hi b then 0 else 1 ⌝ }
+{
+    if b < lo {
+        return 1;
+    }
+    if hi < b {
+        return 1;
+    }
+    0
+}
+
+// 0 where b may stand after the three, else 1.
+fn fault(r: u8, q: u8, p: u8, b: u8) -> u8
+    ensures { λ x. ⌜ x ≡ if beside r q p b then 0 else 1 ⌝ }
+{
+    if asks(r, q, p) {
+        return outside(b, low(p), high(p));
+    }
+    if b < 0x80 {
+        return 0;
+    }
+    outside(b, 0xC2, 0xF4)
+}
+
+// How many of the 32 bytes from a may not stand after the three before them.
+fn faults(s: &[u8], a: usize) -> u8
+    requires { ⌜ (3 ≤ a) × (a + 32 ≤ length (now s)) ⌝ }
+    ensures { λ r. ⌜ Passed (now (s .entry)) a 32 r ⌝ }
+{
+    let mut m: u8 = 0;
+    let mut i: usize = 0;
+    while i < 32 {
+        m += fault(s[a + i - 3], s[a + i - 2], s[a + i - 1], s[a + i]);
+        i += 1;
+    }
+    m
+}
+
+// Whether a character is open before n.
+fn cut_off(s: &[u8], n: usize) -> bool
+    requires { ⌜ (3 ≤ n) × (n ≤ length (now s)) ⌝ }
+    ensures { λ r. ⌜ r ≡ asks (getD (now (s .entry)) (n - 3) 0) (getD (now (s .entry)) (n - 2) 0) (getD (now (s .entry)) (n - 1) 0) ⌝ }
+{
+    asks(s[n - 3], s[n - 2], s[n - 1])
+}
+
+// Whether 64 bytes of ASCII stand from a on, with no character open before them.
 fn plain(s: &[u8], a: usize) -> bool
-    requires { ⌜ a ≤ length (now s) ⌝ }
+    requires { ⌜ (3 ≤ a) × (a ≤ length (now s)) ⌝ }
     ensures { λ r. ⌜ Plain (now (s .entry)) a r ⌝ }
 {
     if s.len() - a < 64 {
         return false;
     }
-    top(s, a) < 0x80
-}
-
-// Where the 64 bytes from a on end, or s where there are fewer.
-fn stretch(s: &[u8], a: usize) -> usize
-    requires { ⌜ a < length (now s) ⌝ }
-    ensures { λ r. ⌜ (a < r) × (r ≤ length (now (s .entry))) ⌝ }
-{
-    if s.len() - a < 64 {
-        return s.len();
+    if cut_off(s, a) {
+        return false;
     }
-    a + 64
+    top(s, a, 64) < 0x80
 }
 
-// Whether s is well-formed UTF-8: by blocks of 64 where they are ASCII, else by characters. `chars` has this one caller, and is part of its loop.
-pub fn valid(s: &[u8]) -> bool
+// Where to start: each byte tested after it has three before it. 0 where the first three are no text.
+fn begin(s: &[u8], from: usize) -> usize
+    requires { ⌜ (3 ≤ length (now s)) × Ascii (now s) from ⌝ }
+    ensures { λ r. ⌜ Begun (now (s .entry)) r ⌝ }
+{
+    if 3 <= from {
+        return from;
+    }
+    if fault(0, 0, 0, s[0]) != 0 {
+        return 0;
+    }
+    if fault(0, 0, s[0], s[1]) != 0 {
+        return 0;
+    }
+    if fault(0, s[0], s[1], s[2]) != 0 {
+        return 0;
+    }
+    3
+}
+
+// Whether s, of which all before `from` is ASCII, is well-formed: by blocks of 64 that are ASCII, else of 32. The last block ends where s does, and may
+// have been tested in part.
+fn wide(s: &[u8], from: usize) -> bool
+    requires { ⌜ (35 ≤ length (now s)) × Ascii (now s) from ⌝ }
     ensures { λ r. ⌜ r ≡ utf8 (now (s .entry)) ⌝ }
 {
-    let mut i: usize = 0;
-    while i < s.len() {
+    let n = s.len();
+    let mut i: usize = begin(s, from);
+    if i == 0 {
+        return false;
+    }
+    while 32 <= n - i {
         if plain(s, i) {
             i += 64;
         } else {
-            let k = chars(s, i, stretch(s, i));
-            if k == 0 {
+            if faults(s, i) != 0 {
                 return false;
             }
-            i = k;
+            i += 32;
         }
     }
-    true
+    if i < n {
+        if faults(s, n - 32) != 0 {
+            return false;
+        }
+    }
+    !cut_off(s, n)
+}
+
+// Whether s, of which all before `from` is ASCII, is well-formed. `valid` calls it twice, so that the compiler puts `valid` into its callers and not this
+// into `valid`: most texts are short and ASCII, and a call with a slice made for it costs more than they do.
+fn valid_from(s: &[u8], from: usize) -> bool
+    requires { ⌜ Ascii (now s) from ⌝ }
+    ensures { λ r. ⌜ r ≡ utf8 (now (s .entry)) ⌝ }
+{
+    if s.len() < 35 {
+        return chars(s, from);
+    }
+    let i = past_ascii(s, past_ascii(s, past_ascii(s, from, 64), 8), 1);
+    if i == s.len() {
+        return true;
+    }
+    wide(s, i)
+}
+
+// Whether s is well-formed UTF-8.
+pub fn valid(s: &[u8]) -> bool
+    ensures { λ r. ⌜ r ≡ utf8 (now (s .entry)) ⌝ }
+{
+    if 64 <= s.len() {
+        return valid_from(s, 0);
+    }
+    let i = past_ascii(s, past_ascii(s, 0, 8), 1);
+    if i == s.len() {
+        return true;
+    }
+    valid_from(s, i)
 }
 
 // How many of the bytes from a to e start a character.

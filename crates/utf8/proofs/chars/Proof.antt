@@ -1,51 +1,57 @@
-use mathlib.Core.Path.{_≡_, _∙_}
-use mathlib.Core.List.{[]}
-use Prim.Native.Nat.{_≤_, _-_}
+use mathlib.Core.Path.{_≡_, refl, _∙_, ap, sym}
+use Prim.Native.Nat.{ℕ, _≤_, _-_}
 use native.Mathlib.Omega.{arith}
 use borrow.Author.Needs.{needs}
 use lib.ListN.{length, drop}
-use Rattle.utf8.specs.Utf8.{fits}
-use Rattle.utf8.proofs.Laws.{Went, next-at, one-at, ran-none, ran-on}
+use lib.Seq.{drop-length}
+use Rattle.utf8.specs.Utf8.{utf8}
+use Rattle.utf8.proofs.Laws.{Went, next-at, one-at, stop-at}
 use Rattle.utf8.proofs.chars.Statement.{statement}
 use Rattle.utf8.proofs.chars.Tie as tie
 
 -- The invariant: from a on the bytes are UTF-8 exactly where they are so from i on.
--- What falls: the bytes up to e.
+-- What falls: the bytes from i on.
 abbrev Inv-loop : tie.InvT-loop
-Inv-loop s a e i₀ i = (a ≤ i) × (i ≤ length s) × (fits [] (drop a s) ≡ fits [] (drop i s))
+Inv-loop s a i₀ i = (i ≤ length s) × (utf8 (drop a s) ≡ utf8 (drop i s))
 
 abbrev μ-loop : tie.MeasureT-loop
-μ-loop s a e i₀ i = e - i
+μ-loop s a i₀ i = length s - i
 
 loop-holds : tie.Need-loop-holds Inv-loop μ-loop
-loop-holds c = let g = c .past-ascii .ensures in (g .low, omega (arith, g .high), g .same)
+loop-holds c = (omega arith, refl)
 
 loop-again : tie.Need-loop-again Inv-loop μ-loop
 loop-again c =
-    (omega arith, omega arith, c .before .before .before .loop .inv .2 ∙ one-at _ (c .before .before .before .loop .i) (omega arith) (c .if1 .taken))
+    let v = c .before .before .before .loop in
+    (omega arith, v .inv .1 ∙ one-at _ (v .i) (omega arith) (c .if1 .taken))
 
 returns : tie.Need-returns Inv-loop μ-loop
 returns c =
-    let v = c .before .before .before .before .before .loop in
-    ran-none _ _ _ (v .i) _ (v .inv .2) (omega arith) (c .before .size .ensures) (c .if2 .taken)
+    let v = c .before .before .before .before .before in
+    let s = v .before .before .args .s .now in
+    stop-at s (v .loop .i) (omega arith) (c .before .size .ensures) (c .if2 .taken) ∙ sym (v .loop .inv .1)
 
 step : (c : tie.Else2 Inv-loop μ-loop)
-    → Went (c .before .before .before .before .before .before .before .before .args .s .now) (c .before .before .before .before .before .loop .i) (c .before .size .result)
+    → Went (c .before .before .before .before .before .before .before .args .s .now) (c .before .before .before .before .before .loop .i) (c .before .size .result)
 step c =
-    let a = c .before .before .before .before .before .before .before .before .args in
-    next-at (a .s .now) (c .before .before .before .before .before .loop .i) (omega arith) (c .before .size .ensures) (c .if2 .left)
+    let v = c .before .before .before .before .before in
+    next-at (v .before .before .args .s .now) (v .loop .i) (omega arith) (c .before .size .ensures) (c .if2 .left)
 
 add-i-2 : tie.Need-add-i-2 Inv-loop μ-loop
 add-i-2 c = omega (arith, step c .within-s)
 
 loop-less-2 : tie.Need-loop-less-2 Inv-loop μ-loop
-loop-less-2 c = omega arith
+loop-less-2 c = omega (arith, step c .within-s)
 
 loop-again-2 : tie.Need-loop-again-2 Inv-loop μ-loop
-loop-again-2 c = (omega arith, step c .within-s, c .before .before .before .before .before .loop .inv .2 ∙ step c .same)
+loop-again-2 c = (step c .within-s, c .before .before .before .before .before .loop .inv .1 ∙ step c .same)
 
 returns-2 : tie.Need-returns-2 Inv-loop μ-loop
-returns-2 c = ran-on _ _ _ _ (c .before .before .before .before .pre .0) (c .loop-test .left) (c .before .loop .inv .1) (c .before .loop .inv .2)
+returns-2 c =
+    let v = c .before .loop in
+    let s = c .before .before .before .args .s .now in
+    let e : v .i ≡ length s = omega arith in
+    sym (v .inv .1 ∙ ap (λ (k : ℕ). utf8 (drop k s)) e ∙ ap utf8 (drop-length s))
 
 pub chars-spec : {M : Type 1} → statement M
 chars-spec =
@@ -53,7 +59,6 @@ chars-spec =
     (tie.spec
     Inv-loop
     μ-loop
-    (λ c κs. search needs)
     loop-holds
     (λ c. search needs)
     (λ c. search needs)
