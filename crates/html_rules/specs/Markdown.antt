@@ -1,12 +1,12 @@
 -- Markdown (01, 'Port order', src/buffer/html.rs): the text of a document, in a room of some bytes.
 use Prim.Native.Nat.{ℕ, _+_, _-_}
-use mathlib.Core.Bool.{Bool, true, false, _||_}
+use mathlib.Core.Bool.{Bool, true, false}
 use mathlib.Core.List.{List, [], _∷_, _++_}
 use lib.Dec.{ltb, eqb}
 use Rattle.base.specs.Choice.{if_then_else_}
 use Rattle.base.specs.Result.{Result, gives, refused, _>>=_}
 use Rattle.utf8.specs.Utf8.{bytes}
-use Rattle.records.specs.Records.{Token, index, tokens, isEnd}
+use Rattle.records.specs.Records.{Token, tokens, isEnd}
 use Rattle.document.specs.Document.{check}
 use Rattle.records.specs.declared.Style.{Style}
 use Rattle.records.specs.declared.Style.the-variants as style
@@ -79,101 +79,68 @@ unfoldable pub termEnds : List Token → Bool
 termEnds [] = false
 termEnds (t ∷ ts) = isEnd 4 (t .kind)
 
--- Blocks that start (render_markdown, `Token::BlockStart`): what goes out at once, the mark of a line of its own, and what goes out
--- then.
+-- What a block's start does: a text that goes out at once, the mark of a line of its own (blank_markdown_line, new_markdown_line), where an
+-- empty mark separates nothing, the text after that, and the numbers and flags then.
+pub record AtStart : Type 0 where
+  pub lead : List ℕ
+  pub line : List ℕ
+  pub text : List ℕ
+  pub after : Markdown
 
--- an ItemBody where a DefinitionList was opened and none closed since
-abbrev pub startLead : Markdown → Block → List ℕ
-startLead l block.Header = bytes ""
-startLead l block.Section2 = bytes ""
-startLead l block.Section3 = bytes ""
-startLead l block.Section4 = bytes ""
-startLead l block.ItemTerm = bytes ""
-startLead l block.ItemBody = if l .listed then if l .bare then bytes " " else bytes " &mdash; " else bytes ""
-startLead l block.DefinitionList = bytes ""
-startLead l block.Block = bytes ""
-startLead l block.InlineBlock = bytes ""
-startLead l block.TermRef = bytes ""
-startLead l block.Meta = bytes ""
-startLead l block.Mono = bytes ""
+abbrev pub starting : List ℕ → List ℕ → List ℕ → Markdown → Result AtStart
+starting lead line text l = gives (record { lead = lead; line = line; text = text; after = l })
 
--- blank_markdown_line, new_markdown_line; an empty mark separates nothing
-abbrev pub startLine : Block → List ℕ
-startLine block.Header = bytes "\n\n"
-startLine block.Section2 = bytes ""
-startLine block.Section3 = bytes ""
-startLine block.Section4 = bytes "\n"
-startLine block.ItemTerm = bytes "\n"
-startLine block.ItemBody = bytes "\n"
-startLine block.DefinitionList = bytes ""
-startLine block.Block = bytes ""
-startLine block.InlineBlock = bytes ""
-startLine block.TermRef = bytes ""
-startLine block.Meta = bytes ""
-startLine block.Mono = bytes ""
+abbrev pub onLine : List ℕ → List ℕ → Markdown → Result AtStart
+onLine line text l = starting [] line text l
 
-abbrev pub startText : Markdown → Block → List ℕ
-startText l block.Header = if l .titled then bytes "## " else bytes "# "
-startText l block.Section2 = bytes ""
-startText l block.Section3 = bytes "### "
-startText l block.Section4 = if l .bare then bytes "  " else bytes "- "
-startText l block.ItemTerm = if l .bare then bytes "  " else bytes "- "
-startText l block.ItemBody = bytes "  "
-startText l block.DefinitionList = bytes ""
-startText l block.Block = bytes "\n"
-startText l block.InlineBlock = bytes ""
-startText l block.TermRef = bytes ""
-startText l block.Meta = bytes ""
-startText l block.Mono = bytes ""
+abbrev pub pushing : List ℕ → Markdown → Result AtStart
+pushing text l = starting [] [] text l
 
--- `empty_term = ..` at an ItemTerm or a Section4, before its text
-unfoldable pub metTerm : Block → List Token → Markdown → Markdown
-metTerm b ts l = if eqb (index b) 3 || eqb (index b) 4 then bare (termEnds ts) l else l
+-- after a term, in a DefinitionList that was opened with none closed since; before a term
+abbrev pub dash : Markdown → List ℕ
+dash l = if l .listed then if l .bare then bytes " " else bytes " &mdash; " else []
 
--- `app_name_seen = true`, `def_list = true`, `skip.push()`, `mono += 1`
-abbrev pub startLay : Block → Markdown → Markdown
-startLay block.Header l = titled l
-startLay block.Section2 l = l
-startLay block.Section3 l = l
-startLay block.Section4 l = l
-startLay block.ItemTerm l = l
-startLay block.ItemBody l = l
-startLay block.DefinitionList l = listed true l
-startLay block.Block l = l
-startLay block.InlineBlock l = skip (skipStart block.InlineBlock (l .skip)) l
-startLay block.TermRef l = l
-startLay block.Meta l = l
-startLay block.Mono l = mono (l .mono + 1) l
+abbrev pub bullet : Bool → List ℕ
+bullet empty = if empty then bytes "  " else bytes "- "
 
--- Blocks that end (`Token::BlockEnd`): what goes out, and `def_list = false`, `skip.pop()`, `mono -= 1`.
+-- `Token::BlockStart` of the block at place p, with `empty_term` for a term: also `app_name_seen = true`, `def_list = true`, `skip.push()`,
+-- `mono += 1`; 11, 'Meta in .. Markdown'
+unfoldable pub started : ℕ → Block → Bool → Markdown → Result AtStart
+started p block.Header empty l = onLine (bytes "\n\n") (if l .titled then bytes "## " else bytes "# ") (titled l)
+started p block.Section2 empty l = pushing [] l
+started p block.Section3 empty l = pushing (bytes "### ") l
+started p block.Section4 empty l = onLine (bytes "\n") (bullet empty) (bare empty l)
+started p block.ItemTerm empty l = onLine (bytes "\n") (bullet empty) (bare empty l)
+started p block.ItemBody empty l = starting (dash l) (bytes "\n") (bytes "  ") l
+started p block.DefinitionList empty l = pushing [] (listed true l)
+started p block.Block empty l = pushing (bytes "\n") l
+started p block.InlineBlock empty l = pushing [] (skip (skipStart block.InlineBlock (l .skip)) l)
+started p block.TermRef empty l = pushing [] l
+started p block.Meta empty l = refused 11 p
+started p block.Mono empty l = pushing [] (mono (l .mono + 1) l)
 
-abbrev pub endText : Markdown → Block → List ℕ
-endText l block.Header = bytes "\n"
-endText l block.Section2 = bytes "\n"
-endText l block.Section3 = bytes "\n"
-endText l block.Section4 = bytes "\n"
-endText l block.ItemTerm = bytes ""
-endText l block.ItemBody = if l .listed then bytes "\n" else bytes ""
-endText l block.DefinitionList = bytes "\n"
-endText l block.Block = bytes "\n"
-endText l block.InlineBlock = bytes ""
-endText l block.TermRef = bytes ""
-endText l block.Meta = bytes ""
-endText l block.Mono = bytes ""
+-- What a block's end does: the text that goes out, and the numbers and flags then.
+pub record AtEnd : Type 0 where
+  pub text : List ℕ
+  pub after : Markdown
 
-abbrev pub endLay : Block → Markdown → Markdown
-endLay block.Header l = l
-endLay block.Section2 l = l
-endLay block.Section3 l = l
-endLay block.Section4 l = l
-endLay block.ItemTerm l = l
-endLay block.ItemBody l = l
-endLay block.DefinitionList l = listed false l
-endLay block.Block l = l
-endLay block.InlineBlock l = skip (skipEnd block.InlineBlock (l .skip)) l
-endLay block.TermRef l = l
-endLay block.Meta l = l
-endLay block.Mono l = mono (l .mono - 1) l
+abbrev pub ending : List ℕ → Markdown → Result AtEnd
+ending text l = gives (record { text = text; after = l })
+
+-- `Token::BlockEnd`: also `def_list = false`, `skip.pop()`, `mono -= 1`
+unfoldable pub ended : ℕ → Block → Markdown → Result AtEnd
+ended p block.Header l = ending (bytes "\n") l
+ended p block.Section2 l = ending (bytes "\n") l
+ended p block.Section3 l = ending (bytes "\n") l
+ended p block.Section4 l = ending (bytes "\n") l
+ended p block.ItemTerm l = ending [] l
+ended p block.ItemBody l = ending (if l .listed then bytes "\n" else []) l
+ended p block.DefinitionList l = ending (bytes "\n") (listed false l)
+ended p block.Block l = ending (bytes "\n") l
+ended p block.InlineBlock l = ending [] (skip (skipEnd block.InlineBlock (l .skip)) l)
+ended p block.TermRef l = ending [] l
+ended p block.Meta l = refused 11 p
+ended p block.Mono l = ending [] (mono (l .mono - 1) l)
 
 -- Text (`Token::Text`).
 
@@ -206,18 +173,12 @@ module _ (room : ℕ) where
   unfoldable pub separate : List ℕ → State → Result State
   separate mark s = separated room mark (s .out) >>= λ y. gives (withOut y s)
 
-  -- a block at a place starts, and ends: refusal 11, 'Meta in .. Markdown'
-  unfoldable pub begun : Block → State → Result State
-  begun b s =
-      write room (startLead (s .lay) b) s >>=
-      separate (startLine b) >>= λ s₁.
-      write room (startText (s₁ .lay) b) (withLay (startLay b) s₁)
+  -- a block starts, and ends
+  unfoldable pub begin : AtStart → State → Result State
+  begin o s = write room (o .lead) s >>= separate (o .line) >>= λ s₁. write room (o .text) (withLay (λ _. o .after) s₁)
 
-  unfoldable pub started : ℕ → Block → List Token → State → Result State
-  started p b ts s = if eqb (index b) 10 then refused 11 p else begun b (withLay (metTerm b ts) s)
-
-  unfoldable pub ended : ℕ → Block → State → Result State
-  ended p b s = if eqb (index b) 10 then refused 11 p else write room (endText (s .lay) b) (withLay (endLay b) s)
+  unfoldable pub close : AtEnd → State → Result State
+  close o s = write room (o .text) (withLay (λ _. o .after) s)
 
   -- `Chunk::Raw`: a line in ticks (`Chunk::TICKED_CODE`), a code line (`Chunk::CODE`), or a word
   unfoldable pub rawChunk : List ℕ → ℕ → State → Result State
@@ -244,8 +205,8 @@ module _ (room : ℕ) where
     -- a record: 'It hides text only'
     unfoldable pub turn : Turn State
     turn p q (kind.Text st) x ts s = if hides (s .lay .skip) then gives s else (change st s >>= body full (anywhere chunk) (split x) >>= bodyEnds)
-    turn p q (kind.Start b) x ts s = change style.Text s >>= started p b ts
-    turn p q (kind.End b) x ts s = change style.Text s >>= ended p b
+    turn p q (kind.Start b) x ts s = change style.Text s >>= λ s₁. started p b (termEnds ts) (s₁ .lay) >>= λ o. begin o s₁
+    turn p q (kind.End b) x ts s = change style.Text s >>= λ s₁. ended p b (s₁ .lay) >>= λ o. close o s₁
     turn p q kind.Unknown x ts s = gives s
 
     -- the text of some records, whatever form they are stored in

@@ -5,12 +5,13 @@ use mathlib.Core.Bool.{Bool}
 use mathlib.Core.List.{List}
 use Rattle.records.specs.Records.{Token}
 use Rattle.records.specs.declared.Block.{Block}
+use Rattle.records.specs.declared.Block.the-variants as block
 use Rattle.records.specs.declared.Style.{Style}
 use Rattle.records.specs.declared.Style.the-variants as style
 use Rattle.records.specs.declared.Kind.the-variants as kind
 use Rattle.splitter.specs.Split.{Chunk, raw, paragraph, lineBreak}
 use Rattle.html_rules.specs.declared.Markdown.{Markdown}
-use Rattle.html_rules.specs.Markdown.{State, initial, change, separate, begun, started, ended, rawChunk, bodyEnds, termEnds, metTerm, finish}
+use Rattle.html_rules.specs.Markdown.{State, AtStart, AtEnd, initial, change, separate, started, ended, begin, close, rawChunk, bodyEnds, termEnds, finish}
 use Rattle.html_rules.specs.Markdown.{chunk, turn, markdownOn}
 use Rattle.joined_rules.proofs.Alike.{Alike, given, alike-bind, alike-if, write-alike}
 use Rattle.joined_rules.proofs.Alike.{twin, Twins, none, more, AtPlace, Meets, Blind, walk-alike}
@@ -24,10 +25,6 @@ unfolding termEnds
 twins-term none = refl
 twins-term (more (twin p q a b k x) ws) = refl
 
-twins-met : (b : Block) {ts us : List Token} → Twins ts us → (l : Markdown) → metTerm b ts l ≡ metTerm b us l
-unfolding metTerm
-twins-met b ws l = rw (twins-term ws)
-
 -- Chunks and blocks
 
 module _ (R : ℕ → ℕ → ℕ → Type 0) (room : ℕ) where
@@ -39,19 +36,13 @@ module _ (R : ℕ → ℕ → ℕ → Type 0) (room : ℕ) where
   unfolding separate
   separate-alike mark s = alike-bind R _ _ (separated-alike R room _ _) λ y. given _
 
-  begun-alike : (b : Block) (s : State) → Alike R (begun room b s) (begun room b s)
-  unfolding begun
-  begun-alike b s = alike-bind R _ _ (alike-bind R _ _ (write-alike R room _ s) λ s₁. separate-alike _ s₁) λ s₂. write-alike R room _ _
+  begin-alike : (o : AtStart) (s : State) → Alike R (begin room o s) (begin room o s)
+  unfolding begin
+  begin-alike o s = alike-bind R _ _ (alike-bind R _ _ (write-alike R room _ s) λ s₁. separate-alike _ s₁) λ s₂. write-alike R room _ _
 
-  -- 11 at places that belong together
-  started-alike : (p q : ℕ) → R 11 p q → (b : Block) {ts us : List Token} → Twins ts us → (s : State)
-      → Alike R (started room p b ts s) (started room q b us s)
-  unfolding started
-  started-alike p q h b ws s = alike-if R _ (formless-alike R p q h) (rw (twins-met b ws (s .lay)) (begun-alike b _))
-
-  ended-alike : (p q : ℕ) → R 11 p q → (b : Block) (s : State) → Alike R (ended room p b s) (ended room q b s)
-  unfolding ended
-  ended-alike p q h b s = alike-if R _ (formless-alike R p q h) (write-alike R room _ _)
+  close-alike : (o : AtEnd) (s : State) → Alike R (close room o s) (close room o s)
+  unfolding close
+  close-alike o s = write-alike R room _ _
 
   raw-alike : (x : List ℕ) (w : ℕ) (s : State) → Alike R (rawChunk room x w s) (rawChunk room x w s)
   unfolding rawChunk
@@ -74,6 +65,38 @@ module _ (R : ℕ → ℕ → ℕ → Type 0) (room : ℕ) where
   chunk-alike full lineBreak s = write-alike R room _ s
   chunk-alike full paragraph s = alike-if R full (write-alike R room _ s) (given _)
 
+-- 11 at places that belong together
+module _ (R : ℕ → ℕ → ℕ → Type 0) (p q : ℕ) (h : R 11 p q) where
+  started-alike : (b : Block) (empty : Bool) (l : Markdown) → Alike R (started p b empty l) (started q b empty l)
+  unfolding started
+  started-alike block.Header empty l = given _
+  started-alike block.Section2 empty l = given _
+  started-alike block.Section3 empty l = given _
+  started-alike block.Section4 empty l = given _
+  started-alike block.ItemTerm empty l = given _
+  started-alike block.ItemBody empty l = given _
+  started-alike block.DefinitionList empty l = given _
+  started-alike block.Block empty l = given _
+  started-alike block.InlineBlock empty l = given _
+  started-alike block.TermRef empty l = given _
+  started-alike block.Meta empty l = formless-alike R p q h
+  started-alike block.Mono empty l = given _
+
+  ended-alike : (b : Block) (l : Markdown) → Alike R (ended p b l) (ended q b l)
+  unfolding ended
+  ended-alike block.Header l = given _
+  ended-alike block.Section2 l = given _
+  ended-alike block.Section3 l = given _
+  ended-alike block.Section4 l = given _
+  ended-alike block.ItemTerm l = given _
+  ended-alike block.ItemBody l = given _
+  ended-alike block.DefinitionList l = given _
+  ended-alike block.Block l = given _
+  ended-alike block.InlineBlock l = given _
+  ended-alike block.TermRef l = given _
+  ended-alike block.Meta l = formless-alike R p q h
+  ended-alike block.Mono l = given _
+
 module _ (room : ℕ) (full : Bool) where
   markdown-blind : Blind AtPlace (turn room full)
   unfolding turn
@@ -84,9 +107,12 @@ module _ (room : ℕ) (full : Bool) where
       split-alike (AtPlace _ _) full _ _ x (λ c s₂ l. chunk-alike (AtPlace _ _) room full (c .chunk) s₂) s₁)
       λ s₂. bodyEnds-alike (AtPlace _ _) room s₂)
   markdown-blind t u ts us s (twin p q a b (kind.Start c) x) ws =
-      alike-bind (AtPlace _ _) _ _ (change-alike (AtPlace _ _) room style.Text s) λ s₁. started-alike (AtPlace _ _) room p q (at-record _ _) c ws s₁
+      alike-bind (AtPlace _ _) _ _ (change-alike (AtPlace _ _) room style.Text s) λ s₁.
+      alike-bind (AtPlace _ _) _ _ (rw (twins-term ws) (started-alike (AtPlace _ _) p q (at-record _ _) c _ (s₁ .lay))) λ o.
+      begin-alike (AtPlace _ _) room o s₁
   markdown-blind t u ts us s (twin p q a b (kind.End c) x) ws =
-      alike-bind (AtPlace _ _) _ _ (change-alike (AtPlace _ _) room style.Text s) λ s₁. ended-alike (AtPlace _ _) room p q (at-record _ _) c s₁
+      alike-bind (AtPlace _ _) _ _ (change-alike (AtPlace _ _) room style.Text s) λ s₁.
+      alike-bind (AtPlace _ _) _ _ (ended-alike (AtPlace _ _) p q (at-record _ _) c (s₁ .lay)) λ o. close-alike (AtPlace _ _) room o s₁
   markdown-blind t u ts us s (twin p q a b kind.Unknown x) ws = given s
 
   pub markdownOn-alike : {ts us : List Token} → Twins ts us → Alike (Meets AtPlace ts us) (markdownOn room full ts) (markdownOn room full us)

@@ -20,39 +20,44 @@ use Rattle.splitter.specs.Split.{Chunk, raw, paragraph, lineBreak, split}
 use Rattle.renderer.specs.Walk.{withOut, withLay, page, write, last, anywhere, body}
 use Rattle.skip.specs.Counter.{hides}
 use Rattle.html_rules.specs.Marks.{separated}
-use Rattle.html_rules.specs.Markdown.{State, styled, skip, fenced, startLead, startLine, startText, metTerm, startLay, endText, endLay, codeBegins}
-use Rattle.html_rules.specs.Markdown.{codeStops, lineText, wordText, change, separate, begun, started, ended, rawChunk, bodyEnds, finish, chunk, turn}
+use Rattle.html_rules.specs.Markdown.{State, AtStart, AtEnd, styled, skip, fenced, termEnds, started, ended, codeBegins, codeStops, lineText, wordText}
+use Rattle.html_rules.specs.Markdown.{change, separate, begin, close, rawChunk, bodyEnds, finish, chunk, turn}
 use Rattle.html_rules.specs.declared.Markdown.{Markdown}
 use Rattle.html_rules.proofs.Lifts.{lift, lift-then, lift-lay}
-use Rattle.markdown_marks.specs.Parts.{closed, startRule}
+use Rattle.markdown_marks.specs.Parts.{metTerm, startOf, endOf, closed, startRule}
+use Rattle.markdown_marks.proofs.Flags.{start-told, end-told}
 use Rattle.markdown_chunks.specs.Parts.{rawRule, chunkRule, fenceAfter}
 
-module _ (limit p : ℕ) (b : Block) where
-  begun-is : (s : State) → begun limit b s ≡ lift (startRule limit (s .lay) b) (withLay (startLay b) s)
-  unfolding begun separate write startRule
-  begun-is s =
-      ap (λ (r : Result State). r >>= λ s₁. lift (extended limit (startText (s₁ .lay) b)) (withLay (startLay b) s₁))
-      (lift-then (extended limit (startLead (s .lay) b)) s (separated limit (startLine b)))
-      ∙ lift-lay (λ x. extended limit (startLead (s .lay) b) x >>= separated limit (startLine b)) s (λ l. extended limit (startText l b)) (startLay b)
+-- the texts of a start as one rule
+begin-is : (limit : ℕ) (o : AtStart) (s : State) → begin limit o s
+    ≡ lift (λ x. extended limit (o .lead) x >>= separated limit (o .line) >>= extended limit (o .text)) (withLay (λ _. o .after) s)
+unfolding begin separate write
+begin-is limit o s =
+    ap (λ (r : Result State). r >>= λ s₁. lift (extended limit (o .text)) (withLay (λ _. o .after) s₁))
+    (lift-then (extended limit (o .lead)) s (separated limit (o .line)))
+    ∙ lift-lay (λ x. extended limit (o .lead) x >>= separated limit (o .line)) s (λ _. extended limit (o .text)) (λ _. o .after)
 
+module _ (limit p : ℕ) (b : Block) where
   module _ (st : Style) (s : State) where
     -- a block that is not Meta
-    started-is : (ts : List Token) → (index b ≡ 10 → ⊥) → (lift (closed limit st) s >>= started limit p b ts)
-        ≡ lift (λ x. closed limit st x >>= startRule limit (metTerm b ts (s .lay)) b) (withLay (λ l. startLay b (metTerm b ts l)) s)
-    unfolding started
-    started-is ts n =
-        bind-same (lift (closed limit st) s) (started limit p b ts) (λ s₁. lift (startRule limit (metTerm b ts (s₁ .lay)) b)
-        (withLay (λ l. startLay b (metTerm b ts l)) s₁))
-        (λ t. if-false _ _ (ne-eqb (index b) 10 n) ∙ begun-is (withLay (metTerm b ts) t))
-        ∙ lift-lay (closed limit st) s (λ l. startRule limit (metTerm b ts l) b) (λ l. startLay b (metTerm b ts l))
+    started-is : (e : Bool) → (index b ≡ 10 → ⊥) → (lift (closed limit st) s >>= λ s₁. started p b e (s₁ .lay) >>= λ o. begin limit o s₁)
+        ≡ lift (λ x. closed limit st x >>= startRule limit (metTerm b e (s .lay)) b) (withLay (λ l. (startOf (metTerm b e l) b) .after) s)
+    unfolding startRule _>>=_
+    started-is e n =
+        bind-same (lift (closed limit st) s) (λ s₁. started p b e (s₁ .lay) >>= λ o. begin limit o s₁)
+        (λ s₁. lift (startRule limit (metTerm b e (s₁ .lay)) b) (withLay (λ l. (startOf (metTerm b e l) b) .after) s₁))
+        (λ t. ap (λ (r : Result AtStart). r >>= λ o. begin limit o t) (start-told p b e (t .lay) ∙ if-false _ _ (ne-eqb (index b) 10 n))
+        ∙ begin-is limit (startOf (metTerm b e (t .lay)) b) t)
+        ∙ lift-lay (closed limit st) s (λ l. startRule limit (metTerm b e l) b) (λ l. (startOf (metTerm b e l) b) .after)
 
-    ended-is : (index b ≡ 10 → ⊥) → (lift (closed limit st) s >>= ended limit p b)
-        ≡ lift (λ x. closed limit st x >>= extended limit (endText (s .lay) b)) (withLay (endLay b) s)
-    unfolding ended write
+    ended-is : (index b ≡ 10 → ⊥) → (lift (closed limit st) s >>= λ s₁. ended p b (s₁ .lay) >>= λ o. close limit o s₁)
+        ≡ lift (λ x. closed limit st x >>= extended limit ((endOf (s .lay) b) .text)) (withLay (λ l. (endOf l b) .after) s)
+    unfolding close write _>>=_
     ended-is n =
-        bind-same (lift (closed limit st) s) (ended limit p b) (λ s₁. lift (extended limit (endText (s₁ .lay) b)) (withLay (endLay b) s₁))
-        (λ t. if-false _ _ (ne-eqb (index b) 10 n))
-        ∙ lift-lay (closed limit st) s (λ l. extended limit (endText l b)) (endLay b)
+        bind-same (lift (closed limit st) s) (λ s₁. ended p b (s₁ .lay) >>= λ o. close limit o s₁)
+        (λ s₁. lift (extended limit ((endOf (s₁ .lay) b) .text)) (withLay (λ l. (endOf l b) .after) s₁))
+        (λ t. ap (λ (r : Result AtEnd). r >>= λ o. close limit o t) (end-told p b (t .lay) ∙ if-false _ _ (ne-eqb (index b) 10 n)))
+        ∙ lift-lay (closed limit st) s (λ l. extended limit ((endOf l b) .text)) (λ l. (endOf l b) .after)
 
     -- Meta
     refused-is : (f : State → Result State) → ((t : State) → f t ≡ refused 11 p) → (lift (closed limit st) s >>= f)
@@ -68,26 +73,30 @@ module _ (limit : ℕ) (full : Bool) (p q : ℕ) (y : List ℕ) (ts : List Token
 
   -- the flags with the style closed, and with the term that is met
   abbrev pub met : Block → Markdown
-  met b = metTerm b ts (styled style.Text lay)
+  met b = metTerm b (termEnds ts) (styled style.Text lay)
 
   module _ (b : Block) where
     pub start-is : (index b ≡ 10 → ⊥) → turn limit full p q (kind.Start b) y ts here
-        ≡ (closed limit (lay .style) x >>= startRule limit (met b) b >>= λ z. gives (page kept (startLay b (met b)) z))
+        ≡ (closed limit (lay .style) x >>= startRule limit (met b) b >>= λ z. gives (page kept ((startOf (met b) b) .after) z))
     unfolding turn change write
-    start-is n = started-is limit p b (lay .style) (withLay (styled style.Text) here) ts n
+    start-is n = started-is limit p b (lay .style) (withLay (styled style.Text) here) (termEnds ts) n
 
     pub end-is : (index b ≡ 10 → ⊥) → turn limit full p q (kind.End b) y ts here
-        ≡ (closed limit (lay .style) x >>= extended limit (endText (styled style.Text lay) b) >>= λ z. gives (page kept (endLay b (styled style.Text lay)) z))
+        ≡ (closed limit (lay .style) x >>= extended limit ((endOf (styled style.Text lay) b) .text) >>= λ z. gives (page kept ((endOf (styled style.Text lay) b) .after) z))
     unfolding turn change write
     end-is n = ended-is limit p b (lay .style) (withLay (styled style.Text) here) n
 
     pub start-meta : index b ≡ 10 → turn limit full p q (kind.Start b) y ts here ≡ (closed limit (lay .style) x >>= λ _. refused 11 p)
-    unfolding turn change write started
-    start-meta e = refused-is limit p b (lay .style) (withLay (styled style.Text) here) (started limit p b ts) (λ t. if-true _ _ (eq-eqb (index b) 10 e))
+    unfolding turn change write _>>=_
+    start-meta e =
+        refused-is limit p b (lay .style) (withLay (styled style.Text) here) (λ s. started p b (termEnds ts) (s .lay) >>= λ o. begin limit o s)
+        (λ t. ap (λ (r : Result AtStart). r >>= λ o. begin limit o t) (start-told p b (termEnds ts) (t .lay) ∙ if-true _ _ (eq-eqb (index b) 10 e)))
 
     pub end-meta : index b ≡ 10 → turn limit full p q (kind.End b) y ts here ≡ (closed limit (lay .style) x >>= λ _. refused 11 p)
-    unfolding turn change write ended
-    end-meta e = refused-is limit p b (lay .style) (withLay (styled style.Text) here) (ended limit p b) (λ t. if-true _ _ (eq-eqb (index b) 10 e))
+    unfolding turn change write _>>=_
+    end-meta e =
+        refused-is limit p b (lay .style) (withLay (styled style.Text) here) (λ s. ended p b (s .lay) >>= λ o. close limit o s)
+        (λ t. ap (λ (r : Result AtEnd). r >>= λ o. close limit o t) (end-told p b (t .lay) ∙ if-true _ _ (eq-eqb (index b) 10 e)))
 
   pub unknown-is : turn limit full p q kind.Unknown y ts here ≡ gives here
   unfolding turn

@@ -10,7 +10,7 @@ use Rattle.base.specs.Bytes.{part}
 use Rattle.base.specs.Result.{Result, gives, refused, _>>=_}
 use Rattle.base.proofs.Results.{bind-assoc, bind-same, bind-end}
 use Rattle.room.specs.Room.{extended, seen}
-use Rattle.records.specs.Records.{Token, index, tokens, tokensFrom}
+use Rattle.records.specs.Records.{index, tokens, tokensFrom}
 use Rattle.document.specs.Document.{check}
 use Rattle.records.specs.Answers.{Read}
 use Rattle.records.specs.declared.Style.{Style}
@@ -31,11 +31,11 @@ use Rattle.renderer.specs.Walk.{page, withLay, write, shown, last, anywhere, wa
 use Rattle.skip.specs.Counter.{hides, skipParagraph}
 use Rattle.renderer.proofs.Shown.{shown-in, shown-then, shown-by, shown-write, shown-changed}
 use Rattle.renderer.proofs.Leads.{Leads, leads-start, leads-on, chunksThen}
-use Rattle.html_rules.specs.Markdown.{State, plain, initial, styled, skip, fenced, opening, closing, metTerm, startLay, endLay, codeEnds, change}
+use Rattle.html_rules.specs.Markdown.{State, plain, initial, styled, skip, fenced, opening, closing, termEnds, codeEnds, change}
 use Rattle.html_rules.specs.Markdown.{bodyEnds, finish, chunk, turn}
 use Rattle.html_rules.specs.declared.Markdown.{Markdown}
 use Rattle.html_marks.specs.Parts.{isMeta}
-use Rattle.markdown_marks.specs.Parts.{tags as allTags, closed, startRule, startedText, endedText, Few}
+use Rattle.markdown_marks.specs.Parts.{tags as allTags, metTerm, startOf, endOf, closed, startRule, startedText, endedText, Few}
 use Rattle.html_rules.proofs.Rest as walking
 use Rattle.html_rules.proofs.Rest.{chunks-on, chunks-stop, chunks-done}
 use Rattle.markdown_chunks.specs.Parts.{chunkRule, fenceAfter}
@@ -179,23 +179,23 @@ module _ (limit : ℕ) (full : Bool) (tags document : List ℕ) where
               meta told (λ x. by-kind (kind.End b) e (page [] lay x) ∙ end-meta limit full at _ _ _ [] lay x b (eqb-true (index b) 10 t)) w
           go kind.Unknown e t = cc
 
-      -- the records after this one
-      abbrev next : List Token
-      next = tokensFrom document (h .next)
+      -- whether the record after this one is the end of a term
+      abbrev empty : Bool
+      empty = termEnds (tokensFrom document (h .next))
 
       module _ {b : Block} (new : List ℕ) (k : ℕ) (lay′ : Markdown) where
         -- another block starts
-        pub on-started : (met : Markdown) → h .kind ≡ kind.Start b → isMeta (h .kind) ≡ false → length new ≡ length room → met ≡ metTerm b next lay
-            → (tags ≡ allTags → seen new k ≡ (seen room len >>= startedText (length room) met b)) → (Few met → lay′ ≡ startLay b (styled style.Text met))
+        pub on-started : (met : Markdown) → h .kind ≡ kind.Start b → isMeta (h .kind) ≡ false → length new ≡ length room → met ≡ metTerm b empty lay
+            → (tags ≡ allTags → seen new k ≡ (seen room len >>= startedText (length room) met b)) → (Few met → lay′ ≡ (startOf (styled style.Text met) b) .after)
             → On new (h .next) k lay′
         on-started met e m s t w f =
             let few : Few lay = record { skipped = omega (arith, o .few, o .short); opened = omega (arith, o .open-few, o .short) } in
-            let u : styled style.Text met ≡ metTerm b next (styled style.Text lay) = ap (styled style.Text) t ∙ sym (met-styled b next lay style.Text) in
-            let v : met .style ≡ lay .style = ap (λ (l : Markdown). l .style) t ∙ met-style b next lay in
-            let z : lay′ ≡ startLay b (styled style.Text met) = f (rw t (met-few b next lay few)) in
+            let u : styled style.Text met ≡ metTerm b empty (styled style.Text lay) = ap (styled style.Text) t ∙ sym (met-styled b empty lay style.Text) in
+            let v : met .style ≡ lay .style = ap (λ (l : Markdown). l .style) t ∙ met-style b empty lay in
+            let z : lay′ ≡ (startOf (styled style.Text met) b) .after = f (rw t (met-few b empty lay few)) in
             let x = start-few b (styled style.Text met) in
-            let x₁ = ap (λ (l : Markdown). l .skip) t ∙ met-skip b next lay in
-            let x₂ = ap (λ (l : Markdown). l .mono) t ∙ met-mono b next lay in
+            let x₁ = ap (λ (l : Markdown). l .skip) t ∙ met-skip b empty lay in
+            let x₂ = ap (λ (l : Markdown). l .mono) t ∙ met-mono b empty lay in
             let y₁ = ap (λ (l : Markdown). l .skip) z in
             let y₂ = ap (λ (l : Markdown). l .mono) z in
             record {
@@ -205,7 +205,7 @@ module _ (limit : ℕ) (full : Bool) (tags document : List ℕ) where
               open-few = omega (arith, o .open-few, further);
               short = o .short;
               leads = rw (z, u)
-                  (turn-leads (λ x. closed limit (lay .style) x >>= startRule limit (metTerm b next (styled style.Text lay)) b) new k _
+                  (turn-leads (λ x. closed limit (lay .style) x >>= startRule limit (metTerm b empty (styled style.Text lay)) b) new k _
                   (λ x. by-kind (kind.Start b) e (page [] lay x) ∙ start-is limit full at _ _ _ [] lay x b (eqb-false (index b) 10 (ap isMeta (sym e) ∙ m)))
                   (w (o .table) ∙ ap (λ (c : ℕ). seen room len >>= startedText c met b) (o .same)
                   ∙ ap (λ (st : Style). seen room len >>= λ x. closed limit st x >>= startRule limit (styled style.Text met) b) v
@@ -214,8 +214,8 @@ module _ (limit : ℕ) (full : Bool) (tags document : List ℕ) where
 
         -- it ends
         pub on-ended : h .kind ≡ kind.End b → isMeta (h .kind) ≡ false → length new ≡ length room
-            → (tags ≡ allTags → seen new k ≡ (seen room len >>= endedText (length room) lay b)) → lay′ ≡ endLay b (styled style.Text lay) → On new (h .next) k
-            lay′
+            → (tags ≡ allTags → seen new k ≡ (seen room len >>= endedText (length room) lay b)) → lay′ ≡ (endOf (styled style.Text lay) b) .after
+            → On new (h .next) k lay′
         on-ended e m s w f =
             let x = end-few b (styled style.Text lay) in
             let y₁ = ap (λ (l : Markdown). l .skip) f in

@@ -11,9 +11,10 @@ ghost use Rattle.records.specs.Records.{tokensFrom};
 ghost use Rattle.records.specs.declared.Style.the-variants as style;
 ghost use Rattle.skip.specs.Answers.{held};
 ghost use Rattle.renderer.specs.Rendered.{standing, Inside};
-ghost use Rattle.html_rules.specs.Markdown.{styled as withStyle, opening, closing, termEnds, metTerm, startLead, startLine, startText, startLay, endText, endLay};
+ghost use Rattle.html_rules.specs.Markdown.{styled as withStyle, opening, closing, termEnds};
+ghost use Rattle.html_rules.specs.declared.Markdown.{Markdown as State};
 ghost use Rattle.html_marks.specs.Parts.{spanned};
-ghost use Rattle.markdown_marks.specs.Parts.{tags as allTags, closed, startRule, startedText, endedText, Few};
+ghost use Rattle.markdown_marks.specs.Parts.{tags as allTags, metTerm, startOf, endOf, closed, startRule, startedText, endedText, Few};
 use html_marks::Span;
 use html_rules::Markdown;
 use records::Block;
@@ -77,7 +78,7 @@ pub fn styled(l: Markdown, st: Style) -> Markdown
 
 // Where the text stands that goes out at a block's start at once.
 fn lead_span(b: Block, l: Markdown) -> Span
-    ensures { λ r. ⌜ spanned allTags r ≡ startLead l b ⌝ }
+    ensures { λ r. ⌜ spanned allTags r ≡ (startOf l b) .lead ⌝ }
 {
     match b {
         Block::Header => Span(0, 0),
@@ -102,7 +103,7 @@ fn lead_span(b: Block, l: Markdown) -> Span
 
 // Where the mark of its own line stands.
 fn line_span(b: Block) -> Span
-    ensures { λ r. ⌜ spanned allTags r ≡ startLine b ⌝ }
+    ensures { λ r. ⌜ ((l : State) → spanned allTags r ≡ (startOf l b) .line) ⌝ }
 {
     match b {
         Block::Header => Span(14, 16),
@@ -122,7 +123,7 @@ fn line_span(b: Block) -> Span
 
 // And the text after that.
 fn text_span(b: Block, l: Markdown) -> Span
-    ensures { λ r. ⌜ spanned allTags r ≡ startText l b ⌝ }
+    ensures { λ r. ⌜ spanned allTags r ≡ (startOf l b) .text ⌝ }
 {
     match b {
         Block::Header => if l.titled { Span(9, 12) } else { Span(10, 12) },
@@ -159,7 +160,7 @@ pub fn put_start(room: &mut [u8], len: usize, tags: &[u8], l: Markdown, b: Block
 
 // Where the text of a block's end stands.
 fn end_span(b: Block, l: Markdown) -> Span
-    ensures { λ r. ⌜ spanned allTags r ≡ endText l b ⌝ }
+    ensures { λ r. ⌜ spanned allTags r ≡ (endOf l b) .text ⌝ }
 {
     match b {
         Block::Header => Span(14, 15),
@@ -209,7 +210,7 @@ fn term_ends(document: &[u8], at: usize) -> bool
 
 // At the start of an ItemTerm or a Section4: whether its term is empty.
 pub fn met_term(document: &[u8], next: usize, b: Block, l: Markdown) -> Markdown
-    ensures { λ r. ⌜ r ≡ metTerm b (tokensFrom (now (document .entry)) next) l ⌝ }
+    ensures { λ r. ⌜ r ≡ metTerm b (termEnds (tokensFrom (now (document .entry)) next)) l ⌝ }
 {
     let i = records::index_of(b);
     if i < 3 {
@@ -235,7 +236,7 @@ fn one_more(n: usize) -> usize
 
 // The numbers and flags after a block's start.
 fn start_lay(b: Block, l: Markdown) -> Markdown
-    ensures { λ r. ⌜ (Few l → r ≡ startLay b l) ⌝ }
+    ensures { λ r. ⌜ (Few l → r ≡ (startOf l b) .after) ⌝ }
 {
     let mut m = l;
     match b {
@@ -265,14 +266,14 @@ fn start_lay(b: Block, l: Markdown) -> Markdown
 
 // The state after a block's start, of which the style is closed.
 pub fn after_start(b: Block, l: Markdown) -> Markdown
-    ensures { λ r. ⌜ (Few l → r ≡ startLay b (withStyle style.Text l)) ⌝ }
+    ensures { λ r. ⌜ (Few l → r ≡ (startOf (withStyle style.Text l) b) .after) ⌝ }
 {
     start_lay(b, styled(l, Style::Text))
 }
 
 // The numbers and flags after a block's end.
 fn end_lay(b: Block, l: Markdown) -> Markdown
-    ensures { λ r. ⌜ r ≡ endLay b l ⌝ }
+    ensures { λ r. ⌜ r ≡ (endOf l b) .after ⌝ }
 {
     let mut m = l;
     match b {
@@ -300,7 +301,7 @@ fn end_lay(b: Block, l: Markdown) -> Markdown
 
 // The state after a block's end, of which the style is closed.
 pub fn after_end(b: Block, l: Markdown) -> Markdown
-    ensures { λ r. ⌜ r ≡ endLay b (withStyle style.Text l) ⌝ }
+    ensures { λ r. ⌜ r ≡ (endOf (withStyle style.Text l) b) .after ⌝ }
 {
     end_lay(b, styled(l, Style::Text))
 }

@@ -3,11 +3,11 @@ use Prim.Native.Nat.{_-_}
 use borrow.Author.Needs.{needs}
 use Rattle.markdown_marks.proofs.after_end.Statement.{statement}
 use Rattle.markdown_marks.proofs.after_end.Tie as tie
-use Rattle.html_rules.specs.Markdown.{endLay}
 use Rattle.html_rules.specs.declared.Markdown.{Markdown}
+use Rattle.markdown_marks.specs.Parts.{endOf}
 
 returns : tie.Need-returns
-returns c = c .end-lay .ensures ∙ ap (λ (x : Markdown). endLay (c .before .before .args .b) x) (c .before .styled .ensures)
+returns c = c .end-lay .ensures ∙ ap (λ (x : Markdown). (endOf x (c .before .before .args .b)) .after) (c .before .styled .ensures)
 
 pub after-end-spec : {M : Type 1} → statement M
 after-end-spec =

@@ -16,7 +16,7 @@ returns c =
     (c .before .before .before .before .before .before .before .before .line-span .result) (c .before .before .before .text-span .result) _ _ _
     (q .kept .0 ∙ p .kept .0) e
     (c .before .before .before .before .before .before .before .before .before .before .before .before .before .lead-span .ensures)
-    (c .before .before .before .before .before .before .before .before .line-span .ensures) (c .before .before .before .text-span .ensures) (p .ensures)
+    (c .before .before .before .before .before .before .before .before .line-span .ensures _) (c .before .before .before .text-span .ensures) (p .ensures)
     (q .ensures) (c .before .before .put-span2 .ensures)
 
 pub put-texts-spec : {M : Type 1} → statement M

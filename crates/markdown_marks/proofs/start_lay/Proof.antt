@@ -2,47 +2,22 @@ use Prim.Native.Nat.{_-_}
 use borrow.Author.Needs.{needs}
 use Rattle.markdown_marks.proofs.start_lay.Statement.{statement}
 use Rattle.markdown_marks.proofs.start_lay.Tie as tie
+use Rattle.html_rules.specs.Markdown.{started}
+use Rattle.markdown_marks.specs.Parts.{startOf}
 use Rattle.markdown_marks.proofs.Flags.{inline-start, mono-start}
-
-returns : tie.Need-returns
-returns c = λ f. rw (c .enum-told .given .1)
-
-returns-2 : tie.Need-returns-2
-returns-2 c = λ f. search needs
-
-returns-3 : tie.Need-returns-3
-returns-3 c = λ f. search needs
-
-returns-4 : tie.Need-returns-4
-returns-4 c = λ f. search needs
-
-returns-5 : tie.Need-returns-5
-returns-5 c = λ f. search needs
-
-returns-6 : tie.Need-returns-6
-returns-6 c = λ f. search needs
-
-returns-7 : tie.Need-returns-7
-returns-7 c = λ f. rw (c .enum-told7 .given .1)
-
-returns-8 : tie.Need-returns-8
-returns-8 c = λ f. search needs
 
 returns-9 : tie.Need-returns-9
 returns-9 c =
-    λ f. inline-start (c .before .before .before .args .b) (c .before .before .before .args .l) f _ (c .before .enum-told9 .given .1) (c .skip-start .ensures)
-
-returns-10 : tie.Need-returns-10
-returns-10 c = λ f. search needs
-
-returns-11 : tie.Need-returns-11
-returns-11 c = λ f. search needs
+    let a = c .before .before .before .args in
+    λ f. inline-start (a .b) (a .l) f _ (c .before .enum-told9 .given .1) (c .skip-start .ensures)
 
 returns-12 : tie.Need-returns-12
 returns-12 c =
-    λ f. mono-start (c .before .before .before .args .b) (c .before .before .before .args .l) f _ (c .before .enum-told12 .given .1) (c .one-more .ensures)
+    let a = c .before .before .before .args in
+    λ f. mono-start (a .b) (a .l) f _ (c .before .enum-told12 .given .1) (c .one-more .ensures)
 
 pub start-lay-spec : {M : Type 1} → statement M
+unfolding startOf started
 start-lay-spec =
     tie.close
     (tie.spec
@@ -60,15 +35,15 @@ start-lay-spec =
     (λ c. search needs)
     (λ c. search needs)
     (λ c κs. search needs)
-    returns
-    returns-2
-    returns-3
-    returns-4
-    returns-5
-    returns-6
-    returns-7
-    returns-8
+    (λ c f. rw (c .enum-told .given .1))
+    (λ c f. rw (c .enum-told2 .given .1))
+    (λ c f. rw (c .enum-told3 .given .1))
+    (λ c f. rw (c .enum-told4 .given .1))
+    (λ c f. rw (c .enum-told5 .given .1))
+    (λ c f. rw (c .enum-told6 .given .1))
+    (λ c f. rw (c .enum-told7 .given .1))
+    (λ c f. rw (c .enum-told8 .given .1))
     returns-9
-    returns-10
-    returns-11
+    (λ c f. rw (c .enum-told10 .given .1))
+    (λ c f. rw (c .enum-told11 .given .1))
     returns-12)
