@@ -82,7 +82,8 @@ module _ (limit : ℕ) (full : Bool) (p q : ℕ) (y : List ℕ) (ts : List Token
     start-is n = started-is limit p b (lay .style) (withLay (styled style.Text) here) (termEnds ts) n
 
     pub end-is : (index b ≡ 10 → ⊥) → turn limit full p q (kind.End b) y ts here
-        ≡ (closed limit (lay .style) x >>= extended limit ((endOf (styled style.Text lay) b) .text) >>= λ z. gives (page kept ((endOf (styled style.Text lay) b) .after) z))
+        ≡ (closed limit (lay .style) x >>= extended limit ((endOf (styled style.Text lay) b) .text)
+        >>= λ z. gives (page kept ((endOf (styled style.Text lay) b) .after) z))
     unfolding turn change write
     end-is n = ended-is limit p b (lay .style) (withLay (styled style.Text) here) n
 

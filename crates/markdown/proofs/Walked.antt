@@ -186,8 +186,8 @@ module _ (limit : ℕ) (full : Bool) (tags document : List ℕ) where
       module _ {b : Block} (new : List ℕ) (k : ℕ) (lay′ : Markdown) where
         -- another block starts
         pub on-started : (met : Markdown) → h .kind ≡ kind.Start b → isMeta (h .kind) ≡ false → length new ≡ length room → met ≡ metTerm b empty lay
-            → (tags ≡ allTags → seen new k ≡ (seen room len >>= startedText (length room) met b)) → (Few met → lay′ ≡ (startOf (styled style.Text met) b) .after)
-            → On new (h .next) k lay′
+            → (tags ≡ allTags → seen new k ≡ (seen room len >>= startedText (length room) met b))
+            → (Few met → lay′ ≡ (startOf (styled style.Text met) b) .after) → On new (h .next) k lay′
         on-started met e m s t w f =
             let few : Few lay = record { skipped = omega (arith, o .few, o .short); opened = omega (arith, o .open-few, o .short) } in
             let u : styled style.Text met ≡ metTerm b empty (styled style.Text lay) = ap (styled style.Text) t ∙ sym (met-styled b empty lay style.Text) in

@@ -9,7 +9,8 @@ use Rattle.markdown_marks.specs.Parts.{startOf}
 returns : tie.Need-returns
 returns c =
     let e = c .before .styled .ensures in
-    λ f. c .start-lay .ensures (rw e (record { skipped = f .skipped; opened = f .opened })) ∙ ap (λ (x : Markdown). (startOf x (c .before .before .args .b)) .after) e
+    λ f. c .start-lay .ensures (rw e (record { skipped = f .skipped; opened = f .opened }))
+    ∙ ap (λ (x : Markdown). (startOf x (c .before .before .args .b)) .after) e
 
 pub after-start-spec : {M : Type 1} → statement M
 after-start-spec =

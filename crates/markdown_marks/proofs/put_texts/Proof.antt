@@ -7,17 +7,18 @@ use Rattle.markdown_marks.proofs.Texts.{start-wrote}
 
 returns : tie.Need-returns
 returns c =
-    let a = c .before .before .before .before .before .before .before .before .before .before .before .before .before .before .before .before .before .args in
-    let p = c .before .before .before .before .before .before .before .before .before .before .before .before .put-span in
-    let q = c .before .before .before .before .before .before .before .separate-span in
+    let text = c .before .before .before in
+    let line = text .before .before .before .before in
+    let line-at = line .before in
+    let lead = line-at .before .before .before .before in
+    let lead-at = lead .before in
+    let a = lead-at .before .before .before .before .args in
+    let p = lead .put-span in
+    let q = line .separate-span in
     λ e.
-    start-wrote _ _ _ _ _ _ _ _ (p .kept .0) _ (a .b) (a .l)
-    (c .before .before .before .before .before .before .before .before .before .before .before .before .before .lead-span .result)
-    (c .before .before .before .before .before .before .before .before .line-span .result) (c .before .before .before .text-span .result) _ _ _
-    (q .kept .0 ∙ p .kept .0) e
-    (c .before .before .before .before .before .before .before .before .before .before .before .before .before .lead-span .ensures)
-    (c .before .before .before .before .before .before .before .before .line-span .ensures _) (c .before .before .before .text-span .ensures) (p .ensures)
-    (q .ensures) (c .before .before .put-span2 .ensures)
+    start-wrote _ _ _ _ _ _ _ _ (p .kept .0) _ (a .b) (a .l) (lead-at .lead-span .result) (line-at .line-span .result) (text .text-span .result) _ _ _
+    (q .kept .0 ∙ p .kept .0) e (lead-at .lead-span .ensures) (line-at .line-span .ensures _) (text .text-span .ensures) (p .ensures) (q .ensures)
+    (c .before .before .put-span2 .ensures)
 
 pub put-texts-spec : {M : Type 1} → statement M
 put-texts-spec =
