@@ -252,16 +252,18 @@ uint32_t sefgrunn_em_doc(uint8_t *room, size_t room_len, size_t *length, const u
  * As long as nobody but these calls changes the draft and the bytes of the document, each call answers as the one above with the length draft[0] does:
  * the same number, the same place, the same bytes. An accepted call makes the draft that of the new document; a refused one leaves room and draft as they
  * were. If the room was changed meanwhile, call sefgrunn_draft_resume. Where that was forgotten, a call may notice it (the length passes the room, no record
- * ends there, more than 32 blocks are open), and then checks the document first; or it may not, and then it accepts or refuses something: nothing outside
- * the room is touched, and every renderer checks the whole document in any case. */
+ * ends there, more than 32 blocks are open), and then checks the document first; or it may not, and then it accepts, or refuses with a number from 1 to 13:
+ * nothing outside the room, the draft and *place is touched, and every renderer checks the whole document in any case. */
 
 /* The draft of the document in the first `length` bytes of the room, by one check: 13 where length passes the room, then 1 to 7. */
 uint32_t sefgrunn_draft_resume(const uint8_t *room, size_t room_len, size_t length, uint64_t draft[8], size_t *place);
 
-/* As sefgrunn_write, sefgrunn_open and sefgrunn_close. */
+/* As sefgrunn_write, sefgrunn_open, sefgrunn_close, sefgrunn_doc and sefgrunn_em_doc. The last two take time by the added document, which they check. */
 uint32_t sefgrunn_draft_write(uint8_t *room, size_t room_len, uint64_t draft[8], uint32_t style, const uint8_t *text, size_t n, size_t *place);
 uint32_t sefgrunn_draft_open(uint8_t *room, size_t room_len, uint64_t draft[8], uint32_t block, size_t *place);
 uint32_t sefgrunn_draft_close(uint8_t *room, size_t room_len, uint64_t draft[8], uint32_t block, size_t *place);
+uint32_t sefgrunn_draft_doc(uint8_t *room, size_t room_len, uint64_t draft[8], const uint8_t *added, size_t n, size_t *place);
+uint32_t sefgrunn_draft_em_doc(uint8_t *room, size_t room_len, uint64_t draft[8], const uint8_t *added, size_t n, size_t *place);
 
 #ifdef __cplusplus
 }

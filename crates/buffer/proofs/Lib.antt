@@ -3,3 +3,4 @@ pub mod Written
 pub mod Answering
 pub mod Records
 pub mod Blocks
+pub mod Numbers

@@ -1,5 +1,5 @@
 -- What the builder's functions answer, and what they leave in the room, by the rules' result.
-use Prim.Native.Nat.{ℕ}
+use Prim.Native.Nat.{ℕ, _≤_}
 use mathlib.Core.List.{List, _++_}
 use lib.ListN.{length, drop}
 use Rattle.base.specs.Result.{Result, gives, refused}
@@ -17,3 +17,8 @@ builtAs (built.Refused r) = refused (refusalNumber r) (refusalPlace r)
 abbrev pub kept : List ℕ → Result (List ℕ) → List ℕ
 kept room (gives x) = x ++ drop (length x) room
 kept room (refused n p) = room
+
+-- a length, or a refusal of 01, whose numbers end at 13
+abbrev pub Of01 : Result ℕ → Type 0
+Of01 (gives n) = Unit {0}
+Of01 (refused k p) = k ≤ 13

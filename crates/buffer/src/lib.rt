@@ -13,7 +13,7 @@ ghost use Rattle.document.specs.Answers.{openedAs};
 ghost use Rattle.records.specs.Stored.{stored, text};
 ghost use Rattle.records.specs.declared.Style.the-variants as style;
 ghost use Rattle.buffer.specs.Builder.{isText, soFar, fit, writes, opensBlock, closesBlock};
-ghost use Rattle.buffer.specs.Answers.{builtAs, kept};
+ghost use Rattle.buffer.specs.Answers.{builtAs, kept, Of01};
 ghost use Rattle.buffer.specs.Parts.{longer, Accepted, Goes};
 use document::Checked;
 use document::Opened;
@@ -102,7 +102,8 @@ fn last_text(document: &[u8], style: Style) -> usize
 // Text in the record that starts at `last`, which is lengthened, or new where `last` is the document's length. Free are the answer and the
 // room where `last` passes the length, or that the room or 32,768 bytes.
 pub fn put_text(room: &mut [u8], len: usize, last: usize, kind: usize, text: &[u8]) -> Built
-    ensures { λ r. ⌜ ((last ≤ len) × (len ≤ length (now (room .entry))) × (len ≤ 32768) → (builtAs r ≡ measured (fit (now (room .entry)) (longer (take len (now (room .entry))) last kind (now (text .entry))))) × (now (room .exit) ≡ kept (now (room .entry)) (fit (now (room .entry)) (longer (take len (now (room .entry))) last kind (now (text .entry)))))) ⌝ }
+    ensures numbers { λ r. ⌜ Of01 (builtAs r) ⌝ }
+    ensures does { λ r. ⌜ ((last ≤ len) × (len ≤ length (now (room .entry))) × (len ≤ 32768) → (builtAs r ≡ measured (fit (now (room .entry)) (longer (take len (now (room .entry))) last kind (now (text .entry))))) × (now (room .exit) ≡ kept (now (room .entry)) (fit (now (room .entry)) (longer (take len (now (room .entry))) last kind (now (text .entry)))))) ⌝ }
 {
     if 32768 < last {
         return Built::Refused(Refusal::NoRoom);
@@ -138,7 +139,8 @@ pub fn write_str(room: &mut [u8], len: usize, style: Style, text: &[u8]) -> Buil
 
 // A block's record after the document. Free are the answer and the room where the length passes the room.
 pub fn put_block(room: &mut [u8], len: usize, kind: usize) -> Built
-    ensures { λ r. ⌜ (len ≤ length (now (room .entry)) → (builtAs r ≡ measured (fit (now (room .entry)) (take len (now (room .entry)) ++ stored kind []))) × (now (room .exit) ≡ kept (now (room .entry)) (fit (now (room .entry)) (take len (now (room .entry)) ++ stored kind [])))) ⌝ }
+    ensures numbers { λ r. ⌜ Of01 (builtAs r) ⌝ }
+    ensures does { λ r. ⌜ (len ≤ length (now (room .entry)) → (builtAs r ≡ measured (fit (now (room .entry)) (take len (now (room .entry)) ++ stored kind []))) × (now (room .exit) ≡ kept (now (room .entry)) (fit (now (room .entry)) (take len (now (room .entry)) ++ stored kind [])))) ⌝ }
 {
     if !has_room(room, len, 6) {
         return Built::Refused(Refusal::NoRoom);

@@ -1,14 +1,14 @@
 -- Records in a block added to the document so far: what is read of them, what is written, and what comes before. Assumes nothing.
 use Prim.Native.Nat.{ℕ, _+_, _≤_, _<_}
 use mathlib.Core.Path.{_≡_, sym, ap, ap₂, _∙_, subst}
-use mathlib.Core.Bool.{true, false, _&&_}
+use mathlib.Core.Bool.{Bool, true, false, _&&_}
 use mathlib.Core.List.{List, [], _∷_, _++_, append-assoc, append-nil}
 use lib.Dec.{leb}
-use lib.ListN.{length, take, drop, length-append}
+use lib.ListN.{length, take, drop, replicate, length-append, length-replicate}
 use lib.Seq.{length-take-le}
 use native.Mathlib.Omega.{arith}
 use borrow.Author.Tests.{le-leb, lt-leb, lt-ltb, le-ltb, eq-eqb}
-use Rattle.base.specs.Result.{Result, gives, refused, _>>=_}
+use Rattle.base.specs.Result.{Result, gives, refused, _>>=_, measured}
 use Rattle.base.specs.Stack.{top, pushed, popped}
 use Rattle.base.proofs.Choice.{if-true, if-false, and-both}
 use Rattle.base.proofs.Stack.{length-pushed}
@@ -31,11 +31,13 @@ use Rattle.buffer.specs.declared.Built.{Built}
 use Rattle.buffer.specs.declared.Built.the-variants as built
 use Rattle.base.specs.Bytes.{pasted, overwritten}
 use Rattle.base.proofs.Pasting.{overwritten-fits}
-use Rattle.buffer_doc.specs.Parts.{Nests, Ready, Adds}
+use Rattle.buffer_doc.specs.Parts.{Nests, Ready, Adds, Joins, madeOf}
 use Rattle.buffer.proofs.Pasting.{length-stored, stored-none, pasted-next, length-pasted, set-fits}
 use Rattle.buffer.proofs.Records.{reads-opening, reads-finish, reads-append, reads-before}
 use Rattle.buffer_doc.proofs.Nesting.{top-over, popped-over}
-use Rattle.buffer.proofs.Answering.{So-far, so-far-given, says-refused, says-length, fit-in, fit-out}
+use Rattle.buffer.proofs.Answering.{so-far-accepted, so-far-refused, so-far-on, says-refused, says-same, says-length, fit-in, fit-out}
+use Rattle.buffer.proofs.Numbers.{low-bind, low-check, low-add, of-01}
+use Rattle.buffer.specs.Answers.{builtAs, kept, Of01}
 use Rattle.buffer.proofs.Blocks.{add-refused, add-given}
 
 -- What is read
@@ -170,64 +172,49 @@ adds-same {len} {depth} {room} {new} {r} e a = subst (λ (x : List ℕ). Adds x 
 
 -- What comes before
 
-verdict-over : (k : Checked) (stack : List ℕ) {r : Result (List ℕ)} → verdictOf k [] ≡ r → verdictOf k stack ≡ (r >>= λ _. gives stack)
+-- the added document is refused, or its records are added
+pub joins-refused : (x records room : List ℕ) (len depth : ℕ) {a : Refusal} (k : Checked) → verdictOf k [] ≡ check x → k ≡ checked.Refused a
+    → Joins x records len depth room room (built.Refused a)
 unfolding _>>=_
-verdict-over checked.Accepted stack e = ap (λ (r : Result (List ℕ)). r >>= λ _. gives stack) e
-verdict-over (checked.Refused a) stack e = ap (λ (r : Result (List ℕ)). r >>= λ _. gives stack) e
+joins-refused x records room len depth {a} k e f = record {
+  does = λ stack _. says-refused room a
+      (ap (λ (r : Result (List ℕ)). r >>= λ _. add room (take len room) stack (around block.InlineBlock records)) (verdict-refused [] e f));
+}
 
-module _ (o : Opened) {r : Result (List ℕ)} (e : openedAs o ≡ r) where
-  pub admitted-refused : {a : Refusal} (rule : List ℕ → Result (List ℕ)) → o .verdict ≡ checked.Refused a
-      → refused (refusalNumber a) (refusalPlace a) ≡ (r >>= rule)
-  unfolding _>>=_
-  admitted-refused rule v = sym (ap (λ (x : Result (List ℕ)). x >>= rule) (verdict-refused _ e v))
-
-  pub admitted-checked : (k : Checked) (added : Result (List ℕ)) → verdictOf k [] ≡ added → o .verdict ≡ checked.Accepted
-      → verdictOf k (take (o .depth) (o .stack)) ≡ (r >>= λ stack. added >>= λ _. gives stack)
-  unfolding _>>=_
-  admitted-checked k added f v =
-      verdict-over k (take (o .depth) (o .stack)) f ∙ sym (ap (λ (x : Result (List ℕ)). x >>= λ stack. added >>= λ _. gives stack) (verdict-gives _ e v))
-
-through-added : (r : Result (List ℕ)) (stack : List ℕ) (x : Result (List ℕ)) {n p : ℕ} → (r >>= λ _. gives stack) ≡ refused n p → (r >>= λ _. x) ≡ refused n p
+pub joins-added : {x records old new : List ℕ} {len depth : ℕ} {r : Built} → check x ≡ gives [] → Adds records len depth old new r
+    → Joins x records len depth old new r
 unfolding _>>=_
-through-added (gives y) stack x e = absurd (refused-gives (sym e))
-through-added (refused m q) stack x e = e
+joins-added {records} {old} {new} {len} c a = record {
+  does = λ stack e. says-same old new
+      (sym (ap (λ (r : Result (List ℕ)). r >>= λ _. add old (take len old) stack (around block.InlineBlock records)) c)) (a .does stack e);
+}
 
-through-open : (r added : Result (List ℕ)) (rule : List ℕ → Result (List ℕ)) {n p : ℕ} → (r >>= λ stack. added >>= λ _. gives stack) ≡ refused n p
-    → (r >>= λ stack. added >>= λ _. rule stack) ≡ refused n p
-unfolding _>>=_
-through-open (gives stack) added rule e = through-added added stack (rule stack) e
-through-open (refused m q) added rule e = e
+-- what is made of it
+pub joins-made : {x old new : List ℕ} {len depth : ℕ} {r : Built} {em is : Bool} → em ≡ is → Joins x (madeOf is x) len depth old new r
+    → Joins x (madeOf em x) len depth old new r
+joins-made {x} {old} {new} {len} {depth} {r} e j = subst (λ (is : Bool). Joins x (madeOf is x) len depth old new r) (sym e) j
 
-through : (r added : Result (List ℕ)) (rule : List ℕ → List ℕ → Result (List ℕ)) {n p : ℕ}
-    → (r >>= openBlocks >>= λ stack. added >>= λ _. gives stack) ≡ refused n p
-    → (r >>= λ doc. openBlocks doc >>= λ stack. added >>= λ _. rule doc stack) ≡ refused n p
-unfolding _>>=_
-through (gives doc) added rule e = through-open (openBlocks doc) added (rule doc) e
-through (refused m q) added rule e = e
+-- its refusal is of 01
+pub joins-numbers : {x records old new : List ℕ} {len depth : ℕ} {r : Built} → Joins x records len depth old new r → Of01 (builtAs r)
+joins-numbers {x} {records} {old} {len} {depth} j =
+    let stack : List ℕ = replicate depth 0 in
+    of-01 _ (j .does stack (length-replicate depth 0) .0)
+    (low-bind (check x) _ (low-check x) (λ _. low-add old (take len old) stack (around block.InlineBlock records)))
 
-module _ (room : List ℕ) (n : ℕ) (x : List ℕ) (o : Opened) (e : openedAs o ≡ (soFar room n >>= openBlocks >>= λ stack. check x >>= λ _. gives stack)) where
-  pub adds-refused : {a : Refusal} (records : List ℕ) → o .verdict ≡ checked.Refused a → addsAs room n x records ≡ refused (refusalNumber a) (refusalPlace a)
+-- the document so far is refused, or it is added to
+module _ (room : List ℕ) (n : ℕ) (o : Opened) (e : openedAs o ≡ (soFar room n >>= openBlocks)) (x records : List ℕ) where
+  pub adds-refused : {a : Refusal} → o .verdict ≡ checked.Refused a
+      → (builtAs (built.Refused a) ≡ measured (addsAs room n x records)) × (room ≡ kept room (addsAs room n x records))
   unfolding addsAs
-  adds-refused records v =
-      through (soFar room n) (check x) (λ doc stack. add room doc stack (around block.InlineBlock records)) (verdict-refused _ e v)
+  adds-refused {a} v =
+      says-refused room a (so-far-refused room n o e (λ doc stack. check x >>= λ _. add room doc stack (around block.InlineBlock records)) v)
 
-  pub record Admitted : Type 0 where
-    pub so : So-far room n (take (o .depth) (o .stack))
-    pub checks : check x ≡ gives []
-
-  pub admits : o .verdict ≡ checked.Accepted → Admitted
-  admits v =
-      let f = bind-gives (soFar room n >>= openBlocks) _ (take (o .depth) (o .stack)) (verdict-gives _ e v) in
-      let g = bind-gives (check x) _ (take (o .depth) (o .stack)) (f .2) in
-      record {
-        so = so-far-given room n (take (o .depth) (o .stack)) (f .1 ∙ ap gives (gives-same (g .2)));
-        checks = g .1 ∙ ap gives (check-gives x (g .0) (g .1) .2);
-      }
-
-  pub admits-ready : o .depth ≤ 32 → Admitted → Ready room n (o .depth)
-  admits-ready h a = record { inside = a .so .inside; small = a .so .small; shallow = h }
-
-  pub adds-on : (a : Admitted) (records : List ℕ)
-      → add room (take n room) (take (o .depth) (o .stack)) (around block.InlineBlock records) ≡ addsAs room n x records
-  unfolding addsAs _>>=_
-  adds-on a records = sym (rw (a .so .is, a .so .opened, a .checks))
+  pub adds-joined : {new : List ℕ} {r : Built} → o .verdict ≡ checked.Accepted → (o .depth ≤ 32) × (length (o .stack) ≡ 32)
+      → (Ready room n (o .depth) → Joins x records n (o .depth) room new r)
+      → (builtAs r ≡ measured (addsAs room n x records)) × (new ≡ kept room (addsAs room n x records))
+  unfolding addsAs
+  adds-joined {new} v h j =
+      let s = so-far-accepted room n o e v in
+      let ready : Ready room n (o .depth) = record { inside = s .inside; small = s .small; shallow = h .0 } in
+      says-same room new (sym (so-far-on s (λ doc stack. check x >>= λ _. add room doc stack (around block.InlineBlock records))))
+      (j ready .does (take (o .depth) (o .stack)) (length-take-le (o .depth) (o .stack) (omega (arith, h))))

@@ -7,15 +7,15 @@ use mathlib.Core.Logic.{_⊎_, inl, inr, ⊎-elim}
 use lib.Dec.{leb, eqb}
 use lib.ListN.{length, take, drop, length-append}
 use native.Mathlib.Omega.{arith}
-use borrow.Author.Tests.{leb-true, eqb-true}
+use borrow.Author.Tests.{leb-true, eqb-true, lt-leb}
 use Rattle.base.specs.Bytes.{part}
 use Rattle.base.specs.Result.{Result, gives, refused, _>>=_}
 use Rattle.base.specs.Stack.{pushed, popped}
-use Rattle.base.proofs.Choice.{and-left, and-right, if-true, pick, le-or-lt, eq-or-not}
+use Rattle.base.proofs.Choice.{and-left, and-right, if-true, if-false, pick, le-or-lt, eq-or-not}
 use Rattle.base.proofs.Stack.{length-pushed}
 use Rattle.base.proofs.Results.{refused-gives, bind-gives, if-gives, gives-same}
 use Rattle.records.specs.Records.{Token, number, index, size, tokenAt, tokens, joined, textOf}
-use Rattle.document.specs.Document.{bodiless, accept, first, reads, openBlocks, check}
+use Rattle.document.specs.Document.{opens, bodiless, accept, first, reads, openBlocks, check}
 use Rattle.records.specs.Stored.{stored, text, start, end, around}
 use Rattle.records.specs.Answers.{Read}
 use Rattle.records.specs.declared.Head.{Head}
@@ -26,7 +26,7 @@ use Rattle.utf8.specs.Utf8.{utf8}
 use Rattle.utf8.proofs.Text.{valid-both}
 use Rattle.splitter.specs.Split.{line}
 use Rattle.base.specs.Choice.{if_then_else_}
-use Rattle.buffer_doc.specs.Parts.{Lines, titled}
+use Rattle.buffer_doc.specs.Parts.{Lines, titled, madeOf}
 use Rattle.buffer.proofs.Written.{text-sane, text-after, written-pass}
 use Rattle.buffer_doc.proofs.Titles.{length-text, length-title, length-more, text-alone, em-not, em-valid, em-short, em-line, em-lines, em-parts}
 use Rattle.records.specs.declared.Block.{Block}
@@ -39,7 +39,7 @@ use Rattle.document.proofs.Walks.{openAfter, accept-gives, first-gives, check-g
 use Rattle.buffer.specs.Builder.{isText, oneText, written, writes, soFar, fit, add, emphasised, opensBlock, closesBlock, addsAs, addsDoc, addsEmDoc}
 use Rattle.buffer.proofs.Pasting.{length-stored}
 use Rattle.buffer.proofs.Records.{Holds, Holds-kind, Holds-size, number-small, reads-text, same-size, same-token, same-first, size-before}
-use Rattle.buffer.proofs.Records.{token-before, stored-body, stored-after, reads-before, reads-start, reads-finish}
+use Rattle.buffer.proofs.Records.{token-before, stored-body, stored-after, reads-before, reads-opening, reads-start, reads-finish}
 use Rattle.buffer.proofs.Answering.{soFar-gives}
 use Rattle.buffer_doc.proofs.Nesting.{accept-over, accept-deep}
 use Rattle.buffer_doc.proofs.Adding.{around-shut, around-deep, around-given}
@@ -170,7 +170,7 @@ over (b ∷ s) base p q zero inner left h e =
     (le-or-lt (length base + length (openAfter k inner)) 32)
 
 -- records that are read so, whichever blocks are open
-abbrev Nested : List ℕ → Type 0
+abbrev pub Nested : List ℕ → Type 0
 Nested x = (q : ℕ) (stack : List ℕ) → length stack ≤ 32 → (reads q 0 stack x ≡ gives stack) ⊎ ((i : ℕ) × (reads q 0 stack x ≡ refused 7 i))
 
 nested-doc : (x : List ℕ) (p : ℕ) → reads p 0 [] x ≡ gives [] → Nested x
@@ -191,7 +191,7 @@ around-either b x n p stack =
 
 -- and a block around them is accepted
 module _ (p : ℕ) (b : Block) (x stack after : List ℕ) (n : Nested x) (e : reads p 0 stack (around b x) ≡ gives after) where
-  around-leaves : after ≡ stack
+  pub around-leaves : after ≡ stack
   around-leaves =
       ⊎-elim
       (λ (g : reads p 0 stack (around b x) ≡ gives stack). gives-same (sym e ∙ g))
@@ -206,6 +206,21 @@ module _ (p : ℕ) (b : Block) (x stack after : List ℕ) (n : Nested x) (e : re
       ⊎-elim
       (λ (g : reads (p + 6) 0 (pushed (index b) stack) x ≡ gives (pushed (index b) stack)).
       text-around b x (p + 6) (pushed (index b) stack) (pushed (index b) stack) g)
+      (λ (g : (i : ℕ) × (reads (p + 6) 0 (pushed (index b) stack) x ≡ refused 7 i)). absurd (refused-gives (sym (around-deep p b x stack h (g .0) (g .1)) ∙ e)))
+      (n (p + 6) (pushed (index b) stack) (omega (arith, length-pushed (index b) stack))))
+      (le-or-lt 32 (length stack))
+
+  -- and so is what comes before its end
+  pub around-front : reads p 0 stack (start b ++ x) ≡ gives (pushed (index b) stack)
+  unfolding opens _>>=_
+  around-front =
+      ⊎-elim
+      (λ (h : 32 ≤ length stack). absurd (refused-gives (sym (around-shut p b x stack h) ∙ e)))
+      (λ (h : length stack < 32).
+      ⊎-elim
+      (λ (g : reads (p + 6) 0 (pushed (index b) stack) x ≡ gives (pushed (index b) stack)).
+      reads-opening p b x stack
+      ∙ ap (λ (r : Result (List ℕ)). r >>= λ after. reads (p + 6) 0 after x) (if-false _ _ (lt-leb 32 (length stack) h)) ∙ g)
       (λ (g : (i : ℕ) × (reads (p + 6) 0 (pushed (index b) stack) x ≡ refused 7 i)). absurd (refused-gives (sym (around-deep p b x stack h (g .0) (g .1)) ∙ e)))
       (n (p + 6) (pushed (index b) stack) (omega (arith, length-pushed (index b) stack))))
       (le-or-lt 32 (length stack))
@@ -260,10 +275,6 @@ after-adds room n x records new h e =
       says = a .says ∙ ap (λ (l : List ℕ). textOf (take n room) ++ l) (around-says _ block.InlineBlock records (m .stack) (a .after) g (a .read));
     }
 
-pub after-doc : (room : List ℕ) (n : ℕ) (x new : List ℕ) → addsDoc room n x ≡ gives new → After (take n room) new (λ stack. stack) (textOf x)
-unfolding addsDoc openBlocks
-after-doc room n x new e = after-adds room n x x new (λ c. nested-doc x 0 (check-gives x [] c .1)) e
-
 nested-titled : {s : List ℕ} {line next : ℕ} → Lines s line next → Nested (titled s line next)
 unfolding titled
 nested-titled {s} {line} {next} l q stack h =
@@ -301,9 +312,19 @@ first-head (b ∷ s) c =
     let w = fits-room (b ∷ s) (first-gives 0 [] (b ∷ s) (f .0) (f .1) .0) in
     (_, read-whole (b ∷ s) 0 _ (omega arith) refl (size (b ∷ s)) refl (omega arith) (omega arith))
 
+-- what is added of an accepted document
+pub made-nested : (em : Bool) (x : List ℕ) → check x ≡ gives [] → Nested (madeOf em x)
+unfolding openBlocks
+made-nested true x c = let h = first-head x c in nested-em x (h .0) (h .1) c
+made-nested false x c = nested-doc x 0 (check-gives x [] c .1)
+
+pub after-doc : (room : List ℕ) (n : ℕ) (x new : List ℕ) → addsDoc room n x ≡ gives new → After (take n room) new (λ stack. stack) (textOf x)
+unfolding addsDoc
+after-doc room n x new e = after-adds room n x x new (made-nested false x) e
+
 pub after-em-doc : (room : List ℕ) (n : ℕ) (x new : List ℕ) → addsEmDoc room n x ≡ gives new → After (take n room) new (λ stack. stack) (textOf (emphasised x))
 unfolding addsEmDoc
-after-em-doc room n x new e = after-adds room n x (emphasised x) new (λ c. let h = first-head x c in nested-em x (h .0) (h .1) c) e
+after-em-doc room n x new e = after-adds room n x (emphasised x) new (made-nested true x) e
 
 -- text was written
 

@@ -5,22 +5,20 @@ ghost use mathlib.Core.Bool.{true};
 ghost use mathlib.Core.List.{[], _++_};
 ghost use Prim.Native.Nat.{_+_, _-_, _≤_, _<_};
 ghost use lib.ListN.{length, drop};
-ghost use Rattle.base.specs.Result.{gives, measured, _>>=_ as bind};
+ghost use Rattle.base.specs.Result.{gives, measured};
 ghost use Rattle.utf8.specs.Utf8.{utf8};
 ghost use Rattle.splitter.specs.Split.{line};
-ghost use Rattle.document.specs.Document.{openBlocks, check, reads};
-ghost use Rattle.document.specs.Answers.{openedAs};
+ghost use Rattle.document.specs.Document.{check, reads};
 ghost use Rattle.records.specs.Stored.{text, start};
 ghost use Rattle.records.specs.declared.Style.the-variants as style;
 ghost use Rattle.records.specs.declared.Block.the-variants as block;
-ghost use Rattle.buffer.specs.Builder.{soFar, emphasised, addsDoc, addsEmDoc};
-ghost use Rattle.buffer.specs.Answers.{builtAs, kept};
+ghost use Rattle.buffer.specs.Builder.{emphasised, addsAs, addsDoc, addsEmDoc};
+ghost use Rattle.buffer.specs.Answers.{builtAs, kept, Of01};
 ghost use Rattle.base.specs.Bytes.{pasted};
 ghost use Rattle.buffer.specs.Parts.{Accepted};
-ghost use Rattle.buffer_doc.specs.Parts.{countAfter, section, titled, Nests, Ready, Lines, Adds};
+ghost use Rattle.buffer_doc.specs.Parts.{countAfter, section, titled, Nests, Ready, Lines, Adds, Joins, madeOf};
 use buffer::Built;
 use document::Checked;
-use document::Opened;
 use records::Kind;
 use records::Style;
 use refusal::Refusal;
@@ -62,32 +60,6 @@ fn too_deep(document: &[u8], from: usize, depth: usize) -> usize
     at
 }
 
-// 13 when the length so far passes the room, 1 and 2 to 7 of the document so far, then 1 to 8 of an added document.
-fn admitted(room: &[u8], len: usize, added: &[u8]) -> Opened
-    ensures open { λ r. ⌜ openedAs r ≡ bind (bind (soFar (now (room .entry)) len) openBlocks) (λ stack. bind (check (now (added .entry))) (λ _. gives stack)) ⌝ }
-    ensures shallow { λ r. ⌜ (r .depth ≤ 32) × (length (r .stack) ≡ 32) ⌝ }
-{
-    let o = buffer::so_far(room, len);
-    let verdict = o.verdict;
-    let stack = o.stack;
-    let depth = o.depth;
-    match verdict {
-        Checked::Refused(r) => Opened {
-            verdict: Checked::Refused(r),
-            stack,
-            depth,
-        },
-        Checked::Accepted => {
-            let verdict = document::check(added);
-            Opened {
-                verdict,
-                stack,
-                depth,
-            }
-        }
-    }
-}
-
 // A document in InlineBlock after the document so far, where `depth` blocks are open.
 fn put_doc(room: &mut [u8], len: usize, depth: usize, added: &[u8]) -> Built
     requires { ⌜ Ready (now room) len depth × (check (now added) ≡ gives []) ⌝ }
@@ -107,20 +79,6 @@ fn put_doc(room: &mut [u8], len: usize, depth: usize, added: &[u8]) -> Built
     base::copy_from_slice(room, len + 6, added);
     record_writer::set_head(room, len + 6 + added.len(), 0, 0x0208);
     Built::Length(len + 12 + added.len())
-}
-
-// A document, as `Doc::doc` adds it.
-pub fn doc(room: &mut [u8], len: usize, added: &[u8]) -> Built
-    ensures answer { λ r. ⌜ builtAs r ≡ measured (addsDoc (now (room .entry)) len (now (added .entry))) ⌝ }
-    ensures room { λ r. ⌜ now (room .exit) ≡ kept (now (room .entry)) (addsDoc (now (room .entry)) len (now (added .entry))) ⌝ }
-{
-    let o = admitted(room, len, added);
-    let verdict = o.verdict;
-    let depth = o.depth;
-    match verdict {
-        Checked::Refused(r) => Built::Refused(r),
-        Checked::Accepted => put_doc(room, len, depth, added),
-    }
 }
 
 // How many bytes stand before the first `\n`.
@@ -223,16 +181,59 @@ fn put_em_doc(room: &mut [u8], len: usize, depth: usize, added: &[u8]) -> Built
     put_lines(room, len, depth, added, 6 + n, next)
 }
 
+// A document's records in InlineBlock, or what `Doc::em_doc` makes of them, where 1 to 7 accept the document so far and `depth` of its blocks are open:
+// 1 to 8 of the added document, then 7 and 13. Free are the answer and the room where the length passes the room or 32,768 bytes, or the depth 32.
+pub fn add(room: &mut [u8], len: usize, depth: usize, added: &[u8], em: bool) -> Built
+    ensures numbers { λ r. ⌜ Of01 (builtAs r) ⌝ }
+    ensures does { λ r. ⌜ (Ready (now (room .entry)) len depth → Joins (now (added .entry)) (madeOf em (now (added .entry))) len depth (now (room .entry)) (now (room .exit)) r) ⌝ }
+{
+    if room.len() < len {
+        return Built::Refused(Refusal::NoRoom);
+    }
+    if 32768 < len {
+        return Built::Refused(Refusal::NoRoom);
+    }
+    if 32 < depth {
+        return Built::Refused(Refusal::NoRoom);
+    }
+    let verdict = document::check(added);
+    match verdict {
+        Checked::Refused(a) => Built::Refused(a),
+        Checked::Accepted => {
+            if em {
+                return put_em_doc(room, len, depth, added);
+            }
+            put_doc(room, len, depth, added)
+        }
+    }
+}
+
+// 13 when the length so far passes the room, 1 and 2 to 7 of the document so far, then as above.
+fn joined(room: &mut [u8], len: usize, added: &[u8], em: bool) -> Built
+    ensures answer { λ r. ⌜ builtAs r ≡ measured (addsAs (now (room .entry)) len (now (added .entry)) (madeOf em (now (added .entry)))) ⌝ }
+    ensures room { λ r. ⌜ now (room .exit) ≡ kept (now (room .entry)) (addsAs (now (room .entry)) len (now (added .entry)) (madeOf em (now (added .entry)))) ⌝ }
+{
+    let o = buffer::so_far(room, len);
+    let verdict = o.verdict;
+    let depth = o.depth;
+    match verdict {
+        Checked::Refused(r) => Built::Refused(r),
+        Checked::Accepted => add(room, len, depth, added, em),
+    }
+}
+
+// A document, as `Doc::doc` adds it.
+pub fn doc(room: &mut [u8], len: usize, added: &[u8]) -> Built
+    ensures answer { λ r. ⌜ builtAs r ≡ measured (addsDoc (now (room .entry)) len (now (added .entry))) ⌝ }
+    ensures room { λ r. ⌜ now (room .exit) ≡ kept (now (room .entry)) (addsDoc (now (room .entry)) len (now (added .entry))) ⌝ }
+{
+    joined(room, len, added, false)
+}
+
 // A document, as `Doc::em_doc` adds it.
 pub fn em_doc(room: &mut [u8], len: usize, added: &[u8]) -> Built
     ensures answer { λ r. ⌜ builtAs r ≡ measured (addsEmDoc (now (room .entry)) len (now (added .entry))) ⌝ }
     ensures room { λ r. ⌜ now (room .exit) ≡ kept (now (room .entry)) (addsEmDoc (now (room .entry)) len (now (added .entry))) ⌝ }
 {
-    let o = admitted(room, len, added);
-    let verdict = o.verdict;
-    let depth = o.depth;
-    match verdict {
-        Checked::Refused(r) => Built::Refused(r),
-        Checked::Accepted => put_em_doc(room, len, depth, added),
-    }
+    joined(room, len, added, true)
 }

@@ -26,7 +26,7 @@ use Rattle.refusal.specs.Numbers.{refusalNumber, refusalPlace}
 use Rattle.refusal.specs.declared.Refusal.{Refusal}
 use Rattle.utf8.specs.Utf8.{utf8}
 use Rattle.buffer.specs.Builder.{soFar, fit, writes, opensBlock, closesBlock}
-use Rattle.buffer.specs.Answers.{builtAs, kept}
+use Rattle.buffer.specs.Answers.{builtAs, kept, Of01}
 use Rattle.buffer.specs.Parts.{longer}
 use Rattle.buffer.specs.declared.Built.{Built}
 use Rattle.buffer.specs.declared.Built.the-variants as built
@@ -88,7 +88,8 @@ module _ {d r : Draft} {k : Kind} {next : ℕ} where
     long = a;
     last = b;
     style = c ∙ ap styleIn (sym e);
-    opens = λ p body stack left t o. subst (Opens r) (sym (accept-gives p k body stack left t .2 ∙ ap (λ (k : Kind). openAfter k stack) e)) (opens-same o f g h);
+    opens = λ p body stack left t o.
+        subst (Opens r) (sym (accept-gives p k body stack left t .2 ∙ ap (λ (k : Kind). openAfter k stack) e)) (opens-same o f g h);
   }
 
   pub turned-unknown : k ≡ kind.Unknown → r .length ≡ next → r .last ≡ d .length → r .style ≡ 0 → Turned d k next r
@@ -100,7 +101,8 @@ module _ {d r : Draft} {k : Kind} {next : ℕ} where
   }
 
   module _ (q : (r .length ≡ next) × (r .last ≡ d .length) × (r .style ≡ 0)) where
-    pub turned-start : {b : Block} → k ≡ kind.Start b → ((stack : List ℕ) → length stack < 32 → Opens d stack → Opens r (pushed (index b) stack)) → Turned d k next r
+    pub turned-start : {b : Block} → k ≡ kind.Start b → ((stack : List ℕ) → length stack < 32 → Opens d stack → Opens r (pushed (index b) stack))
+        → Turned d k next r
     turned-start e f = record {
       long = q .0;
       last = q .1;
@@ -135,7 +137,15 @@ resumed-next {room} {n} {r} s o =
 
 -- A call's promise
 
-pub does-refused : (room : List ℕ) (a : Refusal) {rule : Result (List ℕ)} → rule ≡ refused (refusalNumber a) (refusalPlace a) → Does rule room room (drafted.Refused a)
+-- a refusal that is handed on keeps its number
+pub of-drafted : {s : Drafted} {a : Refusal} → s ≡ drafted.Refused a → Of01 (draftedAs s) → refusalNumber a ≤ 13
+of-drafted e h = subst (λ (s : Drafted). Of01 (draftedAs s)) e h
+
+pub of-built : {b : Built} {a : Refusal} → b ≡ built.Refused a → Of01 (builtAs b) → refusalNumber a ≤ 13
+of-built e h = subst (λ (b : Built). Of01 (builtAs b)) e h
+
+pub does-refused : (room : List ℕ) (a : Refusal) {rule : Result (List ℕ)} → rule ≡ refused (refusalNumber a) (refusalPlace a)
+    → Does rule room room (drafted.Refused a)
 does-refused room a e = record { answer = sym (ap measured e); room = sym (ap (kept room) e); holds = tt }
 
 -- the document so far is refused
@@ -156,10 +166,10 @@ measured-gives (refused k p) e = absurd (refused-gives (sym e))
 
 -- what the builder's own functions did
 module _ (room new : List ℕ) (b : Built) {rule : Result (List ℕ)} (said : (builtAs b ≡ measured rule) × (new ≡ kept room rule)) where
-  built-refused : {a : Refusal} → b ≡ built.Refused a → Does rule room new (drafted.Refused a)
+  pub built-refused : {a : Refusal} → b ≡ built.Refused a → Does rule room new (drafted.Refused a)
   built-refused e = record { answer = sym (ap builtAs e) ∙ said .0; room = said .1; holds = tt }
 
-  built-length : {n : ℕ} {r : Draft} → b ≡ built.Length n → r .length ≡ n
+  pub built-length : {n : ℕ} {r : Draft} → b ≡ built.Length n → r .length ≡ n
       → ((x : List ℕ) → rule ≡ gives x → n ≡ length x → Holds r (kept room (gives x))) → Does rule room new (drafted.Next r)
   built-length {n} {r} e l f =
       let g = measured-gives rule (sym (ap builtAs e) ∙ said .0) in

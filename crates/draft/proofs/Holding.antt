@@ -31,7 +31,8 @@ use Rattle.buffer.specs.Builder.{fit, add, writes, opensBlock, closesBlock}
 use Rattle.buffer.specs.Answers.{kept}
 use Rattle.buffer.specs.Parts.{longer, Accepted}
 use Rattle.buffer.proofs.Pasting.{length-stored}
-use Rattle.buffer.proofs.Records.{Holds-kind, Holds-size, number-small, stored-size, stored-kind, same-size, same-token, same-first, reads-before, reads-start, reads-finish}
+use Rattle.buffer.proofs.Records.{Holds-kind, Holds-size, number-small, stored-size, stored-kind, same-size, same-token, same-first}
+use Rattle.buffer.proofs.Records.{reads-before, reads-start, reads-finish}
 use Rattle.buffer.proofs.Answering.{So-far, so-far-given, so-far-on, soFar-in, writes-in}
 use Rattle.buffer.proofs.Blocks.{add-refused, add-given}
 use Rattle.buffer_doc.proofs.Laws.{fit-gives, after-write}
@@ -44,7 +45,7 @@ use Rattle.draft.proofs.Places.{one-long, Placed, placed}
 -- One more record
 
 -- it is the last one
-ends-one : (a x before : List ℕ) (k : Kind) {at style : ℕ} → openBlocks a ≡ gives before → oneRecord x ≡ true → (tokenAt 0 x) .kind ≡ k
+pub ends-one : (a x before : List ℕ) (k : Kind) {at style : ℕ} → openBlocks a ≡ gives before → oneRecord x ≡ true → (tokenAt 0 x) .kind ≡ k
     → at ≡ length a → style ≡ styleIn k → Last (a ++ x) at style
 unfolding tokenAt
 ends-one a x before k {at} {style} o one e f g =
@@ -63,7 +64,7 @@ reads-one p stack x left one e =
     let same : f .0 ≡ left = gives-same (ap (λ (l : List ℕ). reads (p + (6 + size x)) 0 (f .0) l) (sym z) ∙ f .2) in
     first-gives p stack x (f .0) (f .1) .1 ∙ ap gives same
 
-one-accepted : {d : Draft} {s : List ℕ} (o : Of d s) (x left : List ℕ) → reads (length s) 0 (o .stack) x ≡ gives left → openBlocks (s ++ x) ≡ gives left
+pub one-accepted : {d : Draft} {s : List ℕ} (o : Of d s) (x left : List ℕ) → reads (length s) 0 (o .stack) x ≡ gives left → openBlocks (s ++ x) ≡ gives left
 unfolding openBlocks
 one-accepted {s} o x left f =
     let z : 0 + length s ≡ length s = omega arith in

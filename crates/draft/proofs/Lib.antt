@@ -3,3 +3,4 @@ pub mod Places
 pub mod Holding
 pub mod Calls
 pub mod Sequence
+pub mod Documents

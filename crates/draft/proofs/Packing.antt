@@ -125,7 +125,8 @@ module _ {d : Draft} {stack : List ℕ} (o : Opens d stack) where
       → r .outer ≡ d .outer % 0x1000_0000_0000_0000 * 16 + d .inner / 0x1000_0000_0000_0000 → Opens r (pushed b stack)
   opens-more b {r} h l e f g =
       let k : d .depth ≤ 31 = omega (arith, opens-length) in
-      let j : d .outer < 0x1000_0000_0000_0000 = outer-low 0x1_0000_0000_0000_0000 _ (d .inner) (d .outer) (2 ^ (4 * d .depth)) (o .low) (power-less (d .depth) k) in
+      let j : d .outer < 0x1000_0000_0000_0000 =
+      outer-low 0x1_0000_0000_0000_0000 _ (d .inner) (d .outer) (2 ^ (4 * d .depth)) (o .low) (power-less (d .depth) k) in
       let n : digits r ≡ 16 * digits d + b = ap₂ (λ (i q : ℕ). i + 0x1_0000_0000_0000_0000 * q) f g ∙ words-up (d .inner) (d .outer) b j in
       let s : r .depth ≡ suc (d .depth) = omega arith in
       record {

@@ -107,7 +107,8 @@ module _ (st : Style) {s : List ℕ} {at style : ℕ} where
   goes-last (none e f) g = let z : ⊥ = omega (arith, number-there st) in absurd z
   goes-last (stands before e one f) g =
       let n = one-long (drop at s) one in
-      let t : isText st ((tokenAt 0 (drop at s)) .kind) ≡ true = style-is st ((tokenAt 0 (drop at s)) .kind) (ap styleIn (sym (same-kind at (drop at s))) ∙ sym f ∙ g) in
+      let k = (tokenAt 0 (drop at s)) .kind in
+      let t : isText st k ≡ true = style-is st k (ap styleIn (sym (same-kind at (drop at s))) ∙ sym f ∙ g) in
       record {
         inside = omega (arith, length-drop at s);
         writes = λ x.
@@ -121,7 +122,8 @@ module _ (st : Style) {s : List ℕ} {at style : ℕ} where
   goes-new (none e f) g = record { inside = omega arith; writes = λ x. written-empty st x s e ∙ sym (longer-new st x s) }
   goes-new (stands before e one f) g =
       let n = one-long (drop at s) one in
-      let t : isText st ((tokenAt 0 (drop at s)) .kind) ≡ false = style-is-not st ((tokenAt 0 (drop at s)) .kind) (λ q. g (f ∙ ap styleIn (same-kind at (drop at s)) ∙ q)) in
+      let k = (tokenAt 0 (drop at s)) .kind in
+      let t : isText st k ≡ false = style-is-not st k (λ q. g (f ∙ ap styleIn (same-kind at (drop at s)) ∙ q)) in
       record {
         inside = omega arith;
         writes = λ x.

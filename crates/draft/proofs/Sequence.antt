@@ -6,7 +6,7 @@ use Rattle.base.specs.Result.{Result, gives, refused, measured}
 use Rattle.base.proofs.Results.{refused-gives}
 use Rattle.records.specs.declared.Style.{Style}
 use Rattle.records.specs.declared.Block.{Block}
-use Rattle.buffer.specs.Builder.{writes, opensBlock, closesBlock}
+use Rattle.buffer.specs.Builder.{writes, opensBlock, closesBlock, addsDoc, addsEmDoc}
 use Rattle.buffer.specs.Answers.{kept}
 use Rattle.refusal.specs.declared.Refusal.{Refusal}
 use Rattle.refusal.specs.Numbers.{refusalNumber, refusalPlace}
@@ -21,11 +21,14 @@ use Rattle.draft.proofs.Holding.{Nothing, of-none}
 pub data Call : Type 0 where
   writing : Style → List ℕ → Call
   opening closing : Block → Call
+  adding emphasising : List ℕ → Call
 
 abbrev pub ruleOf : Call → List ℕ → ℕ → Result (List ℕ)
 ruleOf (writing st x) room n = writes room n st x
 ruleOf (opening b) room n = opensBlock room n b
 ruleOf (closing b) room n = closesBlock room n b
+ruleOf (adding x) room n = addsDoc room n x
+ruleOf (emphasising x) room n = addsEmDoc room n x
 
 -- the room and the length after calls of the builder
 abbrev pub lengthAfter : ℕ → Result ℕ → ℕ

@@ -1,14 +1,16 @@
 // A page built in linear time: a draft stands beside the document in a lent room, and the builder's calls (`buffer`, `buffer_doc`) read it instead
 // of the document. A refused call changes no byte of the room.
 ghost use mathlib.Core.Path.{_≡_};
-ghost use Prim.Native.Nat.{ℕ, _+_, _*_, _/_, _%_, _≤_, _<_};
+ghost use Prim.Native.Nat.{ℕ, _+_, _-_, _*_, _/_, _%_, _≤_, _<_};
 ghost use mathlib.Core.List.{List};
 ghost use lib.ListN.{length};
 ghost use Rattle.base.specs.Stack.{pushed, popped};
 ghost use Rattle.records.specs.Records.{number, index};
-ghost use Rattle.buffer.specs.Builder.{writes, opensBlock, closesBlock};
+ghost use Rattle.buffer.specs.Builder.{writes, opensBlock, closesBlock, addsAs, addsDoc, addsEmDoc};
+ghost use Rattle.buffer.specs.Answers.{Of01};
 ghost use Rattle.buffer.specs.Parts.{Accepted};
-ghost use Rattle.draft.specs.Draft.{draftIn, Opens, Of, Holds, plausible, Sound, Resumed, Does};
+ghost use Rattle.buffer_doc.specs.Parts.{madeOf};
+ghost use Rattle.draft.specs.Draft.{draftIn, Opens, Of, Holds, plausible, Sound, draftedAs, Resumed, Does};
 ghost use Rattle.draft.specs.Parts.{Turned, textAt};
 use buffer::Built;
 use document::Checked;
@@ -183,7 +185,8 @@ fn found(document: &[u8]) -> Draft
 
 // The draft of the document in the first bytes of a room: one check.
 pub fn resume(room: &[u8], len: usize) -> Drafted
-    ensures { λ r. ⌜ Resumed (now (room .entry)) len r ⌝ }
+    ensures numbers { λ r. ⌜ Of01 (draftedAs r) ⌝ }
+    ensures does { λ r. ⌜ Resumed (now (room .entry)) len r ⌝ }
 {
     let o = buffer::so_far(room, len);
     let verdict = o.verdict;
@@ -195,7 +198,8 @@ pub fn resume(room: &[u8], len: usize) -> Drafted
 
 // The draft itself, or that of one check where it cannot hold.
 fn settled(room: &[u8], d: Draft) -> Drafted
-    ensures { λ r. ⌜ (Sound (now (room .entry)) d → Resumed (now (room .entry)) (d .length) r) ⌝ }
+    ensures numbers { λ r. ⌜ Of01 (draftedAs r) ⌝ }
+    ensures does { λ r. ⌜ (Sound (now (room .entry)) d → Resumed (now (room .entry)) (d .length) r) ⌝ }
 {
     let length = d.length;
     if plausible(room, d) {
@@ -218,7 +222,8 @@ fn text_at(d: Draft, style: Style) -> usize
 
 // Text in a style, where the draft holds.
 fn add_text(room: &mut [u8], d: Draft, style: Style, text: &[u8]) -> Drafted
-    ensures { λ r. ⌜ (Holds d (now (room .entry)) → Does (writes (now (room .entry)) (d .length) style (now (text .entry))) (now (room .entry)) (now (room .exit)) r) ⌝ }
+    ensures numbers { λ r. ⌜ Of01 (draftedAs r) ⌝ }
+    ensures does { λ r. ⌜ (Holds d (now (room .entry)) → Does (writes (now (room .entry)) (d .length) style (now (text .entry))) (now (room .entry)) (now (room .exit)) r) ⌝ }
 {
     if !utf8::valid(text) {
         return Drafted::Refused(Refusal::NotUtf8(0));
@@ -245,7 +250,8 @@ fn add_text(room: &mut [u8], d: Draft, style: Style, text: &[u8]) -> Drafted
 
 // Text in a style.
 pub fn write_str(room: &mut [u8], d: Draft, style: Style, text: &[u8]) -> Drafted
-    ensures { λ r. ⌜ (Sound (now (room .entry)) d → Does (writes (now (room .entry)) (d .length) style (now (text .entry))) (now (room .entry)) (now (room .exit)) r) ⌝ }
+    ensures numbers { λ r. ⌜ Of01 (draftedAs r) ⌝ }
+    ensures does { λ r. ⌜ (Sound (now (room .entry)) d → Does (writes (now (room .entry)) (d .length) style (now (text .entry))) (now (room .entry)) (now (room .exit)) r) ⌝ }
 {
     let s = settled(room, d);
     match s {
@@ -256,7 +262,8 @@ pub fn write_str(room: &mut [u8], d: Draft, style: Style, text: &[u8]) -> Drafte
 
 // A block's start, where the draft holds.
 fn add_start(room: &mut [u8], d: Draft, b: Block) -> Drafted
-    ensures { λ r. ⌜ (Holds d (now (room .entry)) → Does (opensBlock (now (room .entry)) (d .length) b) (now (room .entry)) (now (room .exit)) r) ⌝ }
+    ensures numbers { λ r. ⌜ Of01 (draftedAs r) ⌝ }
+    ensures does { λ r. ⌜ (Holds d (now (room .entry)) → Does (opensBlock (now (room .entry)) (d .length) b) (now (room .entry)) (now (room .exit)) r) ⌝ }
 {
     let length = d.length;
     let depth = d.depth;
@@ -272,7 +279,8 @@ fn add_start(room: &mut [u8], d: Draft, b: Block) -> Drafted
 
 // A block's start.
 pub fn open_block(room: &mut [u8], d: Draft, b: Block) -> Drafted
-    ensures { λ r. ⌜ (Sound (now (room .entry)) d → Does (opensBlock (now (room .entry)) (d .length) b) (now (room .entry)) (now (room .exit)) r) ⌝ }
+    ensures numbers { λ r. ⌜ Of01 (draftedAs r) ⌝ }
+    ensures does { λ r. ⌜ (Sound (now (room .entry)) d → Does (opensBlock (now (room .entry)) (d .length) b) (now (room .entry)) (now (room .exit)) r) ⌝ }
 {
     let s = settled(room, d);
     match s {
@@ -283,7 +291,8 @@ pub fn open_block(room: &mut [u8], d: Draft, b: Block) -> Drafted
 
 // A block's end, where the draft holds.
 fn add_end(room: &mut [u8], d: Draft, b: Block) -> Drafted
-    ensures { λ r. ⌜ (Holds d (now (room .entry)) → Does (closesBlock (now (room .entry)) (d .length) b) (now (room .entry)) (now (room .exit)) r) ⌝ }
+    ensures numbers { λ r. ⌜ Of01 (draftedAs r) ⌝ }
+    ensures does { λ r. ⌜ (Holds d (now (room .entry)) → Does (closesBlock (now (room .entry)) (d .length) b) (now (room .entry)) (now (room .exit)) r) ⌝ }
 {
     let length = d.length;
     let depth = d.depth;
@@ -304,13 +313,75 @@ fn add_end(room: &mut [u8], d: Draft, b: Block) -> Drafted
 
 // A block's end.
 pub fn close_block(room: &mut [u8], d: Draft, b: Block) -> Drafted
-    ensures { λ r. ⌜ (Sound (now (room .entry)) d → Does (closesBlock (now (room .entry)) (d .length) b) (now (room .entry)) (now (room .exit)) r) ⌝ }
+    ensures numbers { λ r. ⌜ Of01 (draftedAs r) ⌝ }
+    ensures does { λ r. ⌜ (Sound (now (room .entry)) d → Does (closesBlock (now (room .entry)) (d .length) b) (now (room .entry)) (now (room .exit)) r) ⌝ }
 {
     let s = settled(room, d);
     match s {
         Drafted::Refused(a) => Drafted::Refused(a),
         Drafted::Next(e) => add_end(room, e, b),
     }
+}
+
+// Where the last record starts of a document of n bytes, if it is a block's.
+fn end_at(n: usize) -> usize
+    ensures { λ r. ⌜ r ≡ n - 6 ⌝ }
+{
+    if n < 6 {
+        return 0;
+    }
+    n - 6
+}
+
+// A document's records in InlineBlock, or what `Doc::em_doc` makes of them, where the draft holds.
+fn add_doc(room: &mut [u8], d: Draft, added: &[u8], em: bool) -> Drafted
+    ensures numbers { λ r. ⌜ Of01 (draftedAs r) ⌝ }
+    ensures does { λ r. ⌜ (Holds d (now (room .entry)) → Does (addsAs (now (room .entry)) (d .length) (now (added .entry)) (madeOf em (now (added .entry)))) (now (room .entry)) (now (room .exit)) r) ⌝ }
+{
+    let length = d.length;
+    let depth = d.depth;
+    let inner = d.inner;
+    let outer = d.outer;
+    let built = buffer_doc::add(room, length, depth, added, em);
+    match built {
+        Built::Refused(a) => Drafted::Refused(a),
+        Built::Length(n) => Drafted::Next(Draft {
+            length: n,
+            last: end_at(n),
+            style: 0,
+            depth,
+            inner,
+            outer,
+        }),
+    }
+}
+
+// The same by any draft.
+fn joined(room: &mut [u8], d: Draft, added: &[u8], em: bool) -> Drafted
+    ensures numbers { λ r. ⌜ Of01 (draftedAs r) ⌝ }
+    ensures does { λ r. ⌜ (Sound (now (room .entry)) d → Does (addsAs (now (room .entry)) (d .length) (now (added .entry)) (madeOf em (now (added .entry)))) (now (room .entry)) (now (room .exit)) r) ⌝ }
+{
+    let s = settled(room, d);
+    match s {
+        Drafted::Refused(a) => Drafted::Refused(a),
+        Drafted::Next(e) => add_doc(room, e, added, em),
+    }
+}
+
+// A document, as `Doc::doc` adds it.
+pub fn doc(room: &mut [u8], d: Draft, added: &[u8]) -> Drafted
+    ensures numbers { λ r. ⌜ Of01 (draftedAs r) ⌝ }
+    ensures does { λ r. ⌜ (Sound (now (room .entry)) d → Does (addsDoc (now (room .entry)) (d .length) (now (added .entry))) (now (room .entry)) (now (room .exit)) r) ⌝ }
+{
+    joined(room, d, added, false)
+}
+
+// A document, as `Doc::em_doc` adds it.
+pub fn em_doc(room: &mut [u8], d: Draft, added: &[u8]) -> Drafted
+    ensures numbers { λ r. ⌜ Of01 (draftedAs r) ⌝ }
+    ensures does { λ r. ⌜ (Sound (now (room .entry)) d → Does (addsEmDoc (now (room .entry)) (d .length) (now (added .entry))) (now (room .entry)) (now (room .exit)) r) ⌝ }
+{
+    joined(room, d, added, true)
 }
 
 // A draft in the eight words of the C interface; the last two are not used.

@@ -4,13 +4,14 @@ use mathlib.Core.Path.{_≡_, refl, sym, ap, _∙_, subst}
 use mathlib.Core.List.{List}
 use lib.ListN.{length, take}
 use lib.Seq.{length-take-le}
+use native.Mathlib.Omega.{arith}
 use Rattle.base.specs.Result.{Result, gives, refused, _>>=_, measured}
 use Rattle.base.proofs.Results.{refused-gives, gives-same}
 use Rattle.refusal.specs.Numbers.{refusalNumber, refusalPlace}
 use Rattle.refusal.specs.declared.Refusal.{Refusal}
 use Rattle.document.specs.Document.{openBlocks}
 use Rattle.buffer.specs.Builder.{soFar}
-use Rattle.buffer.specs.Answers.{kept}
+use Rattle.buffer.specs.Answers.{kept, Of01}
 use Rattle.buffer.proofs.Answering.{stops, so-far-on}
 use Rattle.draft.specs.Draft.{draftIn, draftedAs, HoldsAfter, Holds, Sound, Resumed, Does}
 use Rattle.draft.specs.declared.Draft.{Draft}
@@ -47,18 +48,33 @@ pub drafted-refused : (r : Drafted) (a : Refusal) (words : List ℕ) (k p : ℕ)
     → DraftTold r words words k p
 drafted-refused r a words k p e g h = record { says = subst (λ (r : Drafted). ToldBy r words words k p) (sym e) (refl, g, h) }
 
+-- its number is one of 01's
+told-numbers : (r : Drafted) (words words′ : List ℕ) (k p : ℕ) → ToldBy r words words′ k p → Of01 (draftedAs r) → k ≤ 13
+told-numbers (drafted.Next d) words words′ k p t h = omega (arith, t .1)
+told-numbers (drafted.Refused a) words words′ k p t h = omega (arith, t .1, h)
+
 -- a call by the draft that the words are
-pub call-draft : (r : Drafted) (d : Draft) (room new words words′ : List ℕ) (k p : ℕ) (rule : ℕ → Result (List ℕ)) (whole : Result (List ℕ)) → d ≡ draftIn words
-    → whole ≡ rule ((draftIn words) .length) → DraftTold r words words′ k p → (Sound room d → Does (rule (d .length)) room new r)
-    → Sound room (draftIn words) → Drafts whole room new words words′ k p
-call-draft r d room new words words′ k p rule whole e f t g s =
-    let h : Does (rule ((draftIn words) .length)) room new r = subst (λ (d : Draft). Sound room d → Does (rule (d .length)) room new r) e g s in
-    subst (λ (x : Result (List ℕ)). Drafts x room new words words′ k p) (sym f) (told-draft r (rule ((draftIn words) .length)) room new words words′ k p (t .says) h)
+pub call-draft : (r : Drafted) (d : Draft) (room new words words′ : List ℕ) (k p : ℕ) (rule : ℕ → Result (List ℕ)) (whole : Result (List ℕ))
+    → d ≡ draftIn words → whole ≡ rule ((draftIn words) .length) → DraftTold r words words′ k p
+    → Of01 (draftedAs r) × (Sound room d → Does (rule (d .length)) room new r)
+    → (k ≤ 13) × (Sound room (draftIn words) → Drafts whole room new words words′ k p)
+call-draft r d room new words words′ k p rule whole e f t g = (
+  told-numbers r words words′ k p (t .says) (g .0),
+  λ s.
+      let h : Does (rule ((draftIn words) .length)) room new r = subst (λ (d : Draft). Sound room d → Does (rule (d .length)) room new r) e (g .1) s in
+      subst (λ (x : Result (List ℕ)). Drafts x room new words words′ k p) (sym f)
+      (told-draft r (rule ((draftIn words) .length)) room new words words′ k p (t .says) h),
+)
 
 -- a style or block number that is out of range
-pub draft-out : (rule : Result (List ℕ)) (room words : List ℕ) (k p : ℕ) → rule ≡ refused 3 0 → k ≡ 3 → p ≡ 0 → Drafts rule room room words words k p
-draft-out rule room words k p e f g =
-    subst (λ (r : Result (List ℕ)). Drafts r room room words words k p) (sym e) (record { number = f; place = g; room = refl; draft = refl })
+pub draft-out : {S : Type 0} (rule : Result (List ℕ)) (room words : List ℕ) (k p : ℕ) → rule ≡ refused 3 0 → (k ≡ 3) × (p ≡ 0)
+    → (k ≤ 13) × (S → Drafts rule room room words words k p)
+draft-out rule room words k p e f = (
+  omega (arith, f .0),
+  λ _.
+      subst (λ (r : Result (List ℕ)). Drafts r room room words words k p) (sym e)
+      (record { number = f .0; place = f .1; room = refl; draft = refl }),
+)
 
 -- one check
 pub told-resumed : (r : Drafted) (room words words′ : List ℕ) (n k p : ℕ) → ToldBy r words words′ k p → Resumed room n r

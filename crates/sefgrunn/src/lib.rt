@@ -674,7 +674,8 @@ pub extern "C" fn sefgrunn_draft_write(
     text: &[u8],
     place: &mut usize,
 ) -> u32
-    ensures { λ r. ⌜ (Sound (now (room .entry)) (draftIn (now (draft .entry))) → Drafts (writesIn (now (room .entry)) ((draftIn (now (draft .entry))) .length) style (now (text .entry))) (now (room .entry)) (now (room .exit)) (now (draft .entry)) (now (draft .exit)) r (now (place .exit))) ⌝ }
+    ensures numbers { λ r. ⌜ r ≤ 13 ⌝ }
+    ensures does { λ r. ⌜ (Sound (now (room .entry)) (draftIn (now (draft .entry))) → Drafts (writesIn (now (room .entry)) ((draftIn (now (draft .entry))) .length) style (now (text .entry))) (now (room .entry)) (now (room .exit)) (now (draft .entry)) (now (draft .exit)) r (now (place .exit))) ⌝ }
 {
     let kind = records::kind_of(style as usize);
     match kind {
@@ -697,7 +698,8 @@ pub extern "C" fn sefgrunn_draft_open(
     block: u32,
     place: &mut usize,
 ) -> u32
-    ensures { λ r. ⌜ (Sound (now (room .entry)) (draftIn (now (draft .entry))) → Drafts (opensIn (now (room .entry)) ((draftIn (now (draft .entry))) .length) block) (now (room .entry)) (now (room .exit)) (now (draft .entry)) (now (draft .exit)) r (now (place .exit))) ⌝ }
+    ensures numbers { λ r. ⌜ r ≤ 13 ⌝ }
+    ensures does { λ r. ⌜ (Sound (now (room .entry)) (draftIn (now (draft .entry))) → Drafts (opensIn (now (room .entry)) ((draftIn (now (draft .entry))) .length) block) (now (room .entry)) (now (room .exit)) (now (draft .entry)) (now (draft .exit)) r (now (place .exit))) ⌝ }
 {
     let kind = records::kind_of(0x0100 + block as usize);
     match kind {
@@ -720,7 +722,8 @@ pub extern "C" fn sefgrunn_draft_close(
     block: u32,
     place: &mut usize,
 ) -> u32
-    ensures { λ r. ⌜ (Sound (now (room .entry)) (draftIn (now (draft .entry))) → Drafts (closesIn (now (room .entry)) ((draftIn (now (draft .entry))) .length) block) (now (room .entry)) (now (room .exit)) (now (draft .entry)) (now (draft .exit)) r (now (place .exit))) ⌝ }
+    ensures numbers { λ r. ⌜ r ≤ 13 ⌝ }
+    ensures does { λ r. ⌜ (Sound (now (room .entry)) (draftIn (now (draft .entry))) → Drafts (closesIn (now (room .entry)) ((draftIn (now (draft .entry))) .length) block) (now (room .entry)) (now (room .exit)) (now (draft .entry)) (now (draft .exit)) r (now (place .exit))) ⌝ }
 {
     let kind = records::kind_of(0x0100 + block as usize);
     match kind {
@@ -733,4 +736,36 @@ pub extern "C" fn sefgrunn_draft_close(
         Kind::End(_) => out_of_range(place),
         Kind::Unknown => out_of_range(place),
     }
+}
+
+// `sefgrunn_doc` by a draft.
+#[no_mangle]
+pub extern "C" fn sefgrunn_draft_doc(
+    room: &mut [u8],
+    draft: &mut [u64; 8],
+    added: &[u8],
+    place: &mut usize,
+) -> u32
+    ensures numbers { λ r. ⌜ r ≤ 13 ⌝ }
+    ensures does { λ r. ⌜ (Sound (now (room .entry)) (draftIn (now (draft .entry))) → Drafts (addsDoc (now (room .entry)) ((draftIn (now (draft .entry))) .length) (now (added .entry))) (now (room .entry)) (now (room .exit)) (now (draft .entry)) (now (draft .exit)) r (now (place .exit))) ⌝ }
+{
+    let d = draft::draft_of(draft);
+    let answer = draft::doc(room, d, added);
+    drafted(answer, draft, place)
+}
+
+// `sefgrunn_em_doc` by a draft.
+#[no_mangle]
+pub extern "C" fn sefgrunn_draft_em_doc(
+    room: &mut [u8],
+    draft: &mut [u64; 8],
+    added: &[u8],
+    place: &mut usize,
+) -> u32
+    ensures numbers { λ r. ⌜ r ≤ 13 ⌝ }
+    ensures does { λ r. ⌜ (Sound (now (room .entry)) (draftIn (now (draft .entry))) → Drafts (addsEmDoc (now (room .entry)) ((draftIn (now (draft .entry))) .length) (now (added .entry))) (now (room .entry)) (now (room .exit)) (now (draft .entry)) (now (draft .exit)) r (now (place .exit))) ⌝ }
+{
+    let d = draft::draft_of(draft);
+    let answer = draft::em_doc(room, d, added);
+    drafted(answer, draft, place)
 }

@@ -57,7 +57,7 @@ returns-4 c =
     let o = so-far .result in
     let s = so-far-accepted (now (a .room)) (a .len) o (so-far .ensures .0) (enum-told .given .1) in
     says-same (now (a .room)) _ (closes-in (o .stack) (o .depth) s (so-far .ensures .1) (a .b) (omega arith)
-    (if2 .left ∙ index-of .ensures) _ (ap (λ (i : ℕ). 0x0200 + i) (index-of .ensures))) (c .before .before .put-block .ensures (s .inside))
+    (if2 .left ∙ index-of .ensures) _ (ap (λ (i : ℕ). 0x0200 + i) (index-of .ensures))) (c .before .before .put-block .ensures .1 (s .inside))
 
 pub close-block-spec : {M : Type 1} → statement M
 close-block-spec =

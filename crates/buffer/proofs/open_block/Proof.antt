@@ -40,7 +40,7 @@ returns-3 c =
     let o = so-far .result in
     let s = so-far-accepted (now (a .room)) (a .len) o (so-far .ensures .0) (enum-told .given .1) in
     says-same (now (a .room)) _ (opens-in (o .stack) (o .depth) s (so-far .ensures .1) (a .b) (if1 .left) _
-    (ap (λ (i : ℕ). 0x0100 + i) (index-of .ensures))) (c .before .before .put-block .ensures (s .inside))
+    (ap (λ (i : ℕ). 0x0100 + i) (index-of .ensures))) (c .before .before .put-block .ensures .1 (s .inside))
 
 pub open-block-spec : {M : Type 1} → statement M
 open-block-spec =

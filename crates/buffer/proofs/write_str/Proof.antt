@@ -58,7 +58,7 @@ returns-3 c =
     let number-of = c .before .before .before .number-of in
     let s = so-far-accepted (now (a .room)) (a .len) (so-far .result) (so-far .ensures .0) (enum-told .given .1) in
     says-same (now (a .room)) _ (writes-in s (a .style) (now (a .text)) (sym (valid .ensures) ∙ not-false _ (if1 .left)) (last-text .ensures)
-    (number-of .ensures)) (c .before .before .put-text .ensures
+    (number-of .ensures)) (c .before .before .put-text .ensures .1
     (omega (arith, last-text .ensures .inside, length-take-le (a .len) (now (a .room)) (s .inside)), s .inside, s .small))
 
 pub write-str-spec : {M : Type 1} → statement M

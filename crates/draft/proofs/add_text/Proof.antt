@@ -1,35 +1,50 @@
-use mathlib.Core.Path.{_≡_, refl, sym, ap, _∙_, subst}
-use mathlib.Core.List.{List, [], _∷_, _++_}
-use mathlib.Core.Bool.{Bool, true, false, not, _&&_, _||_}
-use mathlib.Core.Logic.{⊎-elim}
-use Prim.Native.Nat.{ℕ, suc, _+_, _-_, _*_, _≤_, _<_, max}
-use native.Mathlib.Omega.{arith}
-use native.Mathlib.Numerals.{add-one}
 use borrow.Author.Needs.{needs}
-use borrow.Author.Tests.{ltb-true, ltb-false, leb-true, leb-false, eqb-true, not-true, not-false, lt-ltb, le-ltb, le-leb, lt-leb, eq-eqb, ne-eqb}
-use denote.Ref.{now}
-use lib.Dec.{leb, ltb, eqb}
-use lib.ListN.{length, take, drop, getD, set, replicate, length-set}
 use Rattle.draft.proofs.add_text.Statement.{statement}
 use Rattle.draft.proofs.add_text.Tie as tie
+use denote.Ref.{now}
+use mathlib.Core.Path.{sym, _∙_}
+use native.Mathlib.Omega.{arith}
+use borrow.Author.Tests.{not-true, not-false}
 use Rattle.refusal.specs.declared.Refusal.the-variants as refusal
-use Rattle.draft.proofs.Calls.{does-refused, text-not, text-refused, text-given}
+use Rattle.draft.proofs.Calls.{does-refused, of-built, text-not, text-refused, text-given}
 
 returns : tie.Need-returns
 returns c =
-    λ o. does-refused (now (c .before .before .before .before .args .room)) (refusal.NotUtf8 0) (text-not o (c .before .before .before .before .args .style) (now (c .before .before .before .before .args .text)) (sym (c .before .valid .ensures) ∙ not-true _ (c .if1 .taken)))
+    let a = c .before .before .before .before .args in
+    let valid = c .before .valid in
+    let if1 = c .if1 in (
+      omega arith,
+      λ o. does-refused (now (a .room)) (refusal.NotUtf8 0)
+          (text-not o (a .style) (now (a .text)) (sym (valid .ensures) ∙ not-true _ (if1 .taken))),
+    )
 
 returns-2 : tie.Need-returns-2
 returns-2 c =
+    let built = c .before .built in
+    let put-text = c .before .before .before .before .before .put-text in
     let a = c .before .before .before .before .before .before .before .before .before .before .before .before .before .args in
-    λ o. text-refused o (a .style) (now (a .text)) _ (c .before .before .before .before .before .put-text .result) (sym (c .before .before .before .before .before .before .before .before .before .before .valid .ensures) ∙ not-false _ (c .before .before .before .before .before .before .before .before .before .if1 .left)) (c .before .before .before .before .before .before .before .before .text-at .ensures)
-    (c .before .before .before .before .before .before .before .number-of .ensures) (c .before .before .before .before .before .put-text .ensures) (c .before .built .given .1)
+    let valid = c .before .before .before .before .before .before .before .before .before .before .valid in
+    let if1 = c .before .before .before .before .before .before .before .before .before .if1 in
+    let text-at = c .before .before .before .before .before .before .before .before .text-at in
+    let number-of = c .before .before .before .before .before .before .before .number-of in (
+      of-built (built .given .1) (put-text .ensures .0),
+      λ o. text-refused o (a .style) (now (a .text)) _ (put-text .result) (sym (valid .ensures) ∙ not-false _ (if1 .left)) (text-at .ensures)
+          (number-of .ensures) (put-text .ensures .1) (built .given .1),
+    )
 
 returns-3 : tie.Need-returns-3
 returns-3 c =
     let a = c .before .before .before .before .before .before .before .before .before .before .before .before .before .args in
-    λ o. text-given o (a .style) (now (a .text)) _ (c .before .before .before .before .before .put-text .result) (sym (c .before .before .before .before .before .before .before .before .before .before .valid .ensures) ∙ not-false _ (c .before .before .before .before .before .before .before .before .before .if1 .left)) (c .before .before .before .before .before .before .before .before .text-at .ensures)
-    (c .before .before .before .before .before .before .before .number-of .ensures) (c .before .before .before .before .before .put-text .ensures) (c .before .built2 .given .1)
+    let put-text = c .before .before .before .before .before .put-text in
+    let valid = c .before .before .before .before .before .before .before .before .before .before .valid in
+    let if1 = c .before .before .before .before .before .before .before .before .before .if1 in
+    let text-at = c .before .before .before .before .before .before .before .before .text-at in
+    let number-of = c .before .before .before .before .before .before .before .number-of in
+    let built2 = c .before .built2 in (
+      tt,
+      λ o. text-given o (a .style) (now (a .text)) _ (put-text .result) (sym (valid .ensures) ∙ not-false _ (if1 .left)) (text-at .ensures)
+          (number-of .ensures) (put-text .ensures .1) (built2 .given .1),
+    )
 
 pub add-text-spec : {M : Type 1} → statement M
 add-text-spec =

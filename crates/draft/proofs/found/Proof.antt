@@ -1,15 +1,7 @@
-use mathlib.Core.Path.{_≡_, refl, sym, ap, _∙_, subst}
-use mathlib.Core.List.{List, [], _∷_, _++_}
-use mathlib.Core.Bool.{Bool, true, false, not, _&&_, _||_}
-use mathlib.Core.Logic.{⊎-elim}
-use Prim.Native.Nat.{ℕ, suc, _+_, _-_, _*_, _≤_, _<_, max}
+use Prim.Native.Nat.{_-_}
 use native.Mathlib.Omega.{arith}
-use native.Mathlib.Numerals.{add-one}
 use borrow.Author.Needs.{needs}
-use borrow.Author.Tests.{ltb-true, ltb-false, leb-true, leb-false, eqb-true, not-true, not-false, lt-ltb, le-ltb, le-leb, lt-leb, eq-eqb, ne-eqb}
-use denote.Ref.{now}
-use lib.Dec.{leb, ltb, eqb}
-use lib.ListN.{length, take, drop, getD, set, replicate, length-set}
+use lib.ListN.{length}
 use Rattle.draft.proofs.found.Statement.{statement}
 use Rattle.draft.proofs.found.Tie as tie
 use Rattle.draft.proofs.Holding.{Found, found-0, found-next, found-done}
@@ -31,7 +23,9 @@ loop-less c =
     omega (arith, r .low (c .before .before .loop-test .taken), r .order, r .high)
 
 loop-again : tie.Need-loop-again Inv-loop μ-loop
-loop-again c = found-next (c .before .before .before .loop .inv) (c .before .record-at .ensures) (c .before .before .loop-test .taken) (c .after-record .ensures)
+loop-again c =
+    let loop = c .before .before .before .loop in
+    found-next (loop .inv) (c .before .record-at .ensures) (c .before .before .loop-test .taken) (c .after-record .ensures)
 
 returns : tie.Need-returns Inv-loop μ-loop
 returns c = found-done (c .before .loop .inv) (c .loop-test .left)

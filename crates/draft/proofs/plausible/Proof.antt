@@ -1,40 +1,66 @@
-use mathlib.Core.Path.{_≡_, refl, sym, ap, _∙_, subst}
-use mathlib.Core.List.{List, [], _∷_, _++_}
-use mathlib.Core.Bool.{Bool, true, false, not, _&&_, _||_}
-use mathlib.Core.Logic.{⊎-elim}
-use Prim.Native.Nat.{ℕ, suc, _+_, _-_, _*_, _≤_, _<_, max}
-use native.Mathlib.Omega.{arith}
-use native.Mathlib.Numerals.{add-one}
 use borrow.Author.Needs.{needs}
-use borrow.Author.Tests.{ltb-true, ltb-false, leb-true, leb-false, eqb-true, not-true, not-false, lt-ltb, le-ltb, le-leb, lt-leb, eq-eqb, ne-eqb}
-use denote.Ref.{now}
-use lib.Dec.{leb, ltb, eqb}
-use lib.ListN.{length, take, drop, getD, set, replicate, length-set}
 use Rattle.draft.proofs.plausible.Statement.{statement}
 use Rattle.draft.proofs.plausible.Tie as tie
+use denote.Ref.{now}
+use mathlib.Core.Path.{sym}
 use lib.Seq.{length-take-le}
 use Rattle.draft.proofs.Calls.{quick-past, quick-long, quick-deep, quick-none, quick-before, quick-one}
 
 returns : tie.Need-returns
-returns c = quick-past (now (c .before .before .args .room)) (c .before .before .args .d) (c .if1 .taken)
+returns c =
+    let a = c .before .before .args in
+    let if1 = c .if1 in
+    quick-past (now (a .room)) (a .d) (if1 .taken)
 
 returns-2 : tie.Need-returns-2
-returns-2 c = quick-long (now (c .before .before .before .args .room)) (c .before .before .before .args .d) (c .before .if1 .left) (c .if2 .taken)
+returns-2 c =
+    let a = c .before .before .before .args in
+    let if1 = c .before .if1 in
+    let if2 = c .if2 in
+    quick-long (now (a .room)) (a .d) (if1 .left) (if2 .taken)
 
 returns-3 : tie.Need-returns-3
-returns-3 c = quick-deep (now (c .before .before .before .before .before .args .room)) (c .before .before .before .before .before .args .d) (c .before .before .before .if1 .left) (c .before .before .if2 .left) (c .if3 .taken)
+returns-3 c =
+    let a = c .before .before .before .before .before .args in
+    let if1 = c .before .before .before .if1 in
+    let if2 = c .before .before .if2 in
+    let if3 = c .if3 in
+    quick-deep (now (a .room)) (a .d) (if1 .left) (if2 .left) (if3 .taken)
 
 returns-4 : tie.Need-returns-4
-returns-4 c = quick-none (now (c .before .before .before .before .before .before .args .room)) (c .before .before .before .before .before .before .args .d) (c .before .before .before .before .if1 .left) (c .before .before .before .if2 .left) (c .before .if3 .left) (c .if4 .taken)
+returns-4 c =
+    let a = c .before .before .before .before .before .before .args in
+    let if1 = c .before .before .before .before .if1 in
+    let if2 = c .before .before .before .if2 in
+    let if3 = c .before .if3 in
+    let if4 = c .if4 in
+    quick-none (now (a .room)) (a .d) (if1 .left) (if2 .left) (if3 .left) (if4 .taken)
 
 returns-5 : tie.Need-returns-5
-returns-5 c = quick-before (now (c .before .before .before .before .before .before .before .args .room)) (c .before .before .before .before .before .before .before .args .d) (c .before .before .before .before .before .if1 .left) (c .before .before .before .before .if2 .left) (c .before .before .if3 .left) (c .before .if4 .left) (c .if5 .taken)
+returns-5 c =
+    let a = c .before .before .before .before .before .before .before .args in
+    let if1 = c .before .before .before .before .before .if1 in
+    let if2 = c .before .before .before .before .if2 in
+    let if3 = c .before .before .if3 in
+    let if4 = c .before .if4 in
+    let if5 = c .if5 in
+    quick-before (now (a .room)) (a .d) (if1 .left) (if2 .left) (if3 .left) (if4 .left) (if5 .taken)
 
 slice-aggregate-four : tie.Need-slice-aggregate-four
-slice-aggregate-four c = sym (length-take-le (c .before .before .before .before .before .before .before .before .args .d .length) (now (c .before .before .before .before .before .before .before .before .args .room)) (c .before .before .before .before .before .before .if1 .left))
+slice-aggregate-four c =
+    let a = c .before .before .before .before .before .before .before .before .args in
+    let if1 = c .before .before .before .before .before .before .if1 in
+    sym (length-take-le (a .d .length) (now (a .room)) (if1 .left))
 
 returns-6 : tie.Need-returns-6
-returns-6 c = quick-one (now (c .before .before .before .before .before .before .before .before .before .args .room)) (c .before .before .before .before .before .before .before .before .before .args .d) (c .before .before .before .before .before .before .before .if1 .left) (c .before .before .before .before .before .before .if2 .left) (c .before .before .before .before .if3 .left) (c .before .before .before .if4 .left) (c .four .ensures .0)
+returns-6 c =
+    let a = c .before .before .before .before .before .before .before .before .before .args in
+    let if1 = c .before .before .before .before .before .before .before .if1 in
+    let if2 = c .before .before .before .before .before .before .if2 in
+    let if3 = c .before .before .before .before .if3 in
+    let if4 = c .before .before .before .if4 in
+    let four = c .four in
+    quick-one (now (a .room)) (a .d) (if1 .left) (if2 .left) (if3 .left) (if4 .left) (four .ensures .0)
 
 pub plausible-spec : {M : Type 1} → statement M
 plausible-spec =

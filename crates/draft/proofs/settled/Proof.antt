@@ -1,20 +1,18 @@
-use mathlib.Core.Path.{_≡_, refl, sym, ap, _∙_, subst}
-use mathlib.Core.List.{List, [], _∷_, _++_}
-use mathlib.Core.Bool.{Bool, true, false, not, _&&_, _||_}
-use mathlib.Core.Logic.{⊎-elim}
-use Prim.Native.Nat.{ℕ, suc, _+_, _-_, _*_, _≤_, _<_, max}
-use native.Mathlib.Omega.{arith}
-use native.Mathlib.Numerals.{add-one}
 use borrow.Author.Needs.{needs}
-use borrow.Author.Tests.{ltb-true, ltb-false, leb-true, leb-false, eqb-true, not-true, not-false, lt-ltb, le-ltb, le-leb, lt-leb, eq-eqb, ne-eqb}
-use denote.Ref.{now}
-use lib.Dec.{leb, ltb, eqb}
-use lib.ListN.{length, take, drop, getD, set, replicate, length-set}
 use Rattle.draft.proofs.settled.Statement.{statement}
 use Rattle.draft.proofs.settled.Tie as tie
+use mathlib.Core.Path.{refl, sym, _∙_}
 
 returns : tie.Need-returns
-returns c = λ s. (refl, s (sym (c .before .plausible .ensures) ∙ c .if1 .taken))
+returns c =
+    let plausible = c .before .plausible in
+    let if1 = c .if1 in
+    (tt, λ s. (refl, s (sym (plausible .ensures) ∙ if1 .taken)))
+
+returns-2 : tie.Need-returns-2
+returns-2 c =
+    let resume = c .resume in
+    (resume .ensures .0, λ _. resume .ensures .1)
 
 pub settled-spec : {M : Type 1} → statement M
 settled-spec =
@@ -23,4 +21,4 @@ settled-spec =
     (λ c κs. search needs)
     returns
     (λ c κs. search needs)
-    (λ c. search needs))
+    returns-2)

@@ -1,30 +1,28 @@
-use mathlib.Core.Path.{_≡_, refl, sym, ap, _∙_, subst}
-use mathlib.Core.List.{List, [], _∷_, _++_}
-use mathlib.Core.Bool.{Bool, true, false, not, _&&_, _||_}
-use mathlib.Core.Logic.{⊎-elim}
-use Prim.Native.Nat.{ℕ, suc, _+_, _-_, _*_, _≤_, _<_, max}
-use native.Mathlib.Omega.{arith}
-use native.Mathlib.Numerals.{add-one}
 use borrow.Author.Needs.{needs}
-use borrow.Author.Tests.{ltb-true, ltb-false, leb-true, leb-false, eqb-true, not-true, not-false, lt-ltb, le-ltb, le-leb, lt-leb, eq-eqb, ne-eqb}
-use denote.Ref.{now}
-use lib.Dec.{leb, ltb, eqb}
-use lib.ListN.{length, take, drop, getD, set, replicate, length-set}
 use Rattle.draft.proofs.write_str.Statement.{statement}
 use Rattle.draft.proofs.write_str.Tie as tie
+use denote.Ref.{now}
 use Rattle.buffer.specs.Builder.{writes}
-use Rattle.draft.proofs.Calls.{call-refused, call-on}
+use Rattle.draft.proofs.Calls.{of-drafted, call-refused, call-on}
 
 returns : tie.Need-returns
 unfolding writes
 returns c =
+    let s = c .before .s in
+    let settled = c .before .before .before .settled in
     let a = c .before .before .before .before .before .before .before .args in
-    λ s. call-refused (now (a .room)) (a .d .length) _ (c .before .s .given .1) (c .before .before .before .settled .ensures s)
+    (of-drafted (s .given .1) (settled .ensures .0), λ s′. call-refused (now (a .room)) (a .d .length) _ (s .given .1) (settled .ensures .1 s′))
 
 returns-2 : tie.Need-returns-2
 returns-2 c =
+    let add-text = c .before .before .add-text in
     let a = c .before .before .before .before .before .before .before .before .before .before .before .args in
-    λ s. call-on (now (a .room)) (a .d .length) (λ n. writes (now (a .room)) n (a .style) (now (a .text))) (c .before .before .before .before .before .s2 .given .1) (c .before .before .before .before .before .before .before .settled .ensures s) (c .before .before .add-text .ensures)
+    let s2 = c .before .before .before .before .before .s2 in
+    let settled = c .before .before .before .before .before .before .before .settled in (
+      add-text .ensures .0,
+      λ s. call-on (now (a .room)) (a .d .length) (λ n. writes (now (a .room)) n (a .style) (now (a .text))) (s2 .given .1) (settled .ensures .1 s)
+          (add-text .ensures .1),
+    )
 
 pub write-str-spec : {M : Type 1} → statement M
 write-str-spec =
