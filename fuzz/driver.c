@@ -166,10 +166,11 @@ static struct fenced documents, seconds, rooms, places, lengths, more[3];
 
 enum function { CHECK, CONSOLE, HTML, HTML_STRICT, MARKDOWN, ROFF, WRITE, OPEN, CLOSE, DOC, EM_DOC, NEXT_CHUNK, TABSTOP, PAGE_COUNT, PAGE, HOUSE_SHAPE, NOTES, JOIN, UNJOIN,
     JOINED_CHECK, JOINED_CONSOLE, JOINED_HTML, JOINED_HTML_STRICT, JOINED_MARKDOWN, JOINED_ROFF, FIGURES, ROOM_BOUND, MERGE,
-    DRAFT_RESUME, DRAFT_WRITE, DRAFT_OPEN, DRAFT_CLOSE, FUNCTIONS };
+    DRAFT_RESUME, DRAFT_WRITE, DRAFT_OPEN, DRAFT_CLOSE, DRAFT_DOC, DRAFT_EM_DOC, FUNCTIONS };
 static const char *const names[FUNCTIONS] = {"check", "console", "html", "html_strict", "markdown", "roff", "write", "open", "close",
     "doc", "em_doc", "next_chunk", "tabstop", "page_count", "page", "house_shape", "notes", "join", "unjoin", "joined_check", "j_console", "j_html", "j_html_s",
-    "j_markdown", "j_roff", "figures", "room_bound", "merge", "d_resume", "d_write", "d_open", "d_close"};
+    "j_markdown", "j_roff", "figures", "room_bound", "merge", "d_resume", "d_write", "d_open", "d_close", "d_doc",
+    "d_em_doc"};
 static unsigned long calls[FUNCTIONS], accepts[FUNCTIONS], numbers[MOST_NUMBER + 1], inputs;
 
 enum { MOST_BLOCKS = 16384, OUTCOMES = 16384 };
@@ -1054,7 +1055,9 @@ static struct answer by_draft(struct build b, size_t room_len, uint64_t *words, 
     }
     uint32_t number = b.function == WRITE ? sefgrunn_draft_write(room, room_len, draft, b.kind, added, b.n, place)
         : b.function == OPEN              ? sefgrunn_draft_open(room, room_len, draft, b.kind, place)
-                                          : sefgrunn_draft_close(room, room_len, draft, b.kind, place);
+        : b.function == CLOSE             ? sefgrunn_draft_close(room, room_len, draft, b.kind, place)
+        : b.function == DOC               ? sefgrunn_draft_doc(room, room_len, draft, added, b.n, place)
+                                          : sefgrunn_draft_em_doc(room, room_len, draft, added, b.n, place);
     outcome(DRAFT_WRITE + (b.function - WRITE), number, *place);
     must(number <= 8 || number == 13, "draft: no number of the builder");
     memcpy(words, draft, WORDS * sizeof *words);
@@ -1064,12 +1067,26 @@ static struct answer by_draft(struct build b, size_t room_len, uint64_t *words, 
     return (struct answer){number, *place};
 }
 
+/* The start of a record chosen among the first 64, so that a document so far ends between records, some blocks open. */
+static size_t record_start(uint64_t *state, const uint8_t *data, size_t n)
+{
+    size_t at = 0;
+    for (size_t left = below(state, 64); left > 0 && n - at >= 6; left--) {
+        size_t size = data[at] | (size_t)data[at + 1] << 8 | (size_t)data[at + 2] << 16 | (size_t)data[at + 3] << 24;
+        if (size > n - at - 6) {
+            break;
+        }
+        at += 6 + size;
+    }
+    return at;
+}
+
 /* Calls by a draft beside the same calls without; then by drafts of random numbers, of which only the number and the fences are looked at. */
 static void try_draft(uint64_t *state, const uint8_t *data, size_t n, size_t cut)
 {
     static uint8_t plain[MOST_ROOM];
     uint64_t words[WORDS] = {0};
-    size_t room_len = cut + below(state, 300), length = cut;
+    size_t room_len = cut + below(state, 300) + (below(state, 3) == 0 ? n : 0), length = cut;
 
     memset(before, BEFORE, room_len);
     memcpy(before, data, cut);
@@ -1077,7 +1094,10 @@ static void try_draft(uint64_t *state, const uint8_t *data, size_t n, size_t cut
         return;
     }
     for (int turn = 0; turn < 4; turn++) {
-        struct build b = {WRITE + (enum function)below(state, 3), (uint32_t)below(state, 13), data, 0};
+        struct build b = {WRITE + (enum function)below(state, 5), (uint32_t)below(state, 13), data, 0};
+        if (b.function == DOC || b.function == EM_DOC) {
+            b.n = below(state, 2) == 0 ? n : record_start(state, data, n);
+        }
         if (b.function == WRITE) {
             size_t from = below(state, n + 1);
             b.added = data + from;
@@ -1108,20 +1128,6 @@ static void try_draft(uint64_t *state, const uint8_t *data, size_t n, size_t cut
 }
 
 /* ---- one input --------------------------------------------------------------------------------------------------------------- */
-
-/* The start of a record chosen among the first 64, so that a document so far ends between records, some blocks open. */
-static size_t record_start(uint64_t *state, const uint8_t *data, size_t n)
-{
-    size_t at = 0;
-    for (size_t left = below(state, 64); left > 0 && n - at >= 6; left--) {
-        size_t size = data[at] | (size_t)data[at + 1] << 8 | (size_t)data[at + 2] << 16 | (size_t)data[at + 3] << 24;
-        if (size > n - at - 6) {
-            break;
-        }
-        at += 6 + size;
-    }
-    return at;
-}
 
 int LLVMFuzzerTestOneInput(const uint8_t *data, size_t n)
 {

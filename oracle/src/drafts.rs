@@ -3,6 +3,7 @@
 
 use crate::generate::Rng;
 use crate::port::c;
+use crate::stored::put_record;
 
 /// Bytes before and after the room that no call may change.
 const GUARD: usize = 64;
@@ -20,6 +21,8 @@ enum Step {
     Write(u32, Vec<u8>),
     Open(u32),
     Close(u32),
+    Doc(Vec<u8>),
+    EmDoc(Vec<u8>),
 }
 
 /// Room, draft, number and place after a call.
@@ -43,6 +46,12 @@ fn plain(room: &[u8], length: u64, step: &Step) -> After {
             }
             Step::Open(block) => c::sefgrunn_open(r, n, &mut len, *block, &mut place),
             Step::Close(block) => c::sefgrunn_close(r, n, &mut len, *block, &mut place),
+            Step::Doc(added) => {
+                c::sefgrunn_doc(r, n, &mut len, added.as_ptr(), added.len(), &mut place)
+            }
+            Step::EmDoc(added) => {
+                c::sefgrunn_em_doc(r, n, &mut len, added.as_ptr(), added.len(), &mut place)
+            }
         }
     };
     After { room, length: len as u64, number, place }
@@ -64,6 +73,12 @@ fn drafted(room: &[u8], draft: &mut [u64; 8], step: &Step) -> Option<After> {
             }
             Step::Open(block) => c::sefgrunn_draft_open(r, n, d, *block, &mut place),
             Step::Close(block) => c::sefgrunn_draft_close(r, n, d, *block, &mut place),
+            Step::Doc(added) => {
+                c::sefgrunn_draft_doc(r, n, d, added.as_ptr(), added.len(), &mut place)
+            }
+            Step::EmDoc(added) => {
+                c::sefgrunn_draft_em_doc(r, n, d, added.as_ptr(), added.len(), &mut place)
+            }
         }
     };
     let (before, rest) = all.split_at(GUARD);
@@ -87,6 +102,48 @@ fn resumed(room: &[u8], length: u64) -> (u32, usize, [u64; 8]) {
     (number, place, draft)
 }
 
+/// A document to be added: records of texts and of blocks, some blocks within others; a few are refused, or leave a block open.
+fn added(random: &mut Rng) -> Vec<u8> {
+    const TEXTS: [&str; 6] = ["", "a", "title\nand more", "\n", "no line end", "\u{e9} \u{1F600}"];
+    let mut document = Vec::new();
+    let mut open = Vec::new();
+    for _ in 0..below(random, 6) {
+        match below(random, 4) {
+            0 => {
+                let block = below(random, 12) as u16;
+                let deep = if below(random, 6) == 0 { 1 + below(random, 32) } else { 1 };
+                for _ in 0..deep {
+                    put_record(&mut document, 0x0100 + block, b"");
+                    open.push(block);
+                }
+            }
+            1 => {
+                if let Some(block) = open.pop() {
+                    put_record(&mut document, 0x0200 + block, b"");
+                }
+            }
+            _ => {
+                let text = TEXTS[below(random, TEXTS.len() as u64) as usize];
+                put_record(&mut document, 1 + below(random, 3) as u16, text.as_bytes());
+            }
+        }
+    }
+    if below(random, 12) != 0 {
+        while let Some(block) = open.pop() {
+            put_record(&mut document, 0x0200 + block, b"");
+        }
+    }
+    match below(random, 24) {
+        0 => document.truncate(below(random, document.len() as u64 + 1) as usize),
+        1 if !document.is_empty() => {
+            let at = below(random, document.len() as u64) as usize;
+            document[at] = random.next() as u8;
+        }
+        _ => {}
+    }
+    document
+}
+
 fn step(random: &mut Rng) -> Step {
     const TEXTS: [&[u8]; 9] = [
         b"",
@@ -101,7 +158,7 @@ fn step(random: &mut Rng) -> Step {
     ];
     let block =
         if below(random, 40) == 0 { below(random, 300) as u32 } else { below(random, 4) as u32 };
-    match below(random, 10) {
+    match below(random, 12) {
         0..=4 => {
             let style = if below(random, 40) == 0 {
                 below(random, 300) as u32
@@ -111,7 +168,9 @@ fn step(random: &mut Rng) -> Step {
             Step::Write(style, TEXTS[below(random, TEXTS.len() as u64) as usize].to_vec())
         }
         5..=7 => Step::Open(block),
-        _ => Step::Close(block),
+        8..=9 => Step::Close(block),
+        10 => Step::Doc(added(random)),
+        _ => Step::EmDoc(added(random)),
     }
 }
 

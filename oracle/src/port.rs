@@ -228,7 +228,8 @@ pub(crate) fn number_by_draft(
             Operation::Write { style } => c::sefgrunn_draft_write(r, r_len, d, style, t, n, at),
             Operation::Open { block } => c::sefgrunn_draft_open(r, r_len, d, block, at),
             Operation::Close { block } => c::sefgrunn_draft_close(r, r_len, d, block, at),
-            Operation::Doc | Operation::EmDoc => unreachable!("not by a draft"),
+            Operation::Doc => c::sefgrunn_draft_doc(r, r_len, d, t, n, at),
+            Operation::EmDoc => c::sefgrunn_draft_em_doc(r, r_len, d, t, n, at),
         }
     }
 }

@@ -185,6 +185,7 @@ extern "C" {
         block: u32,
         place: *mut usize,
     ) -> u32;
+    #[allow(dead_code)] // the package builds by a draft, the oracle both ways
     pub fn sefgrunn_doc(
         room: *mut u8,
         room_len: usize,
@@ -193,6 +194,7 @@ extern "C" {
         n: usize,
         place: *mut usize,
     ) -> u32;
+    #[allow(dead_code)] // the package builds by a draft, the oracle both ways
     pub fn sefgrunn_em_doc(
         room: *mut u8,
         room_len: usize,
@@ -201,6 +203,7 @@ extern "C" {
         n: usize,
         place: *mut usize,
     ) -> u32;
+    #[allow(dead_code)] // the package builds from nothing, the oracle from any document
     pub fn sefgrunn_draft_resume(
         room: *const u8,
         room_len: usize,
@@ -229,6 +232,22 @@ extern "C" {
         room_len: usize,
         draft: *mut u64,
         block: u32,
+        place: *mut usize,
+    ) -> u32;
+    pub fn sefgrunn_draft_doc(
+        room: *mut u8,
+        room_len: usize,
+        draft: *mut u64,
+        added: *const u8,
+        n: usize,
+        place: *mut usize,
+    ) -> u32;
+    pub fn sefgrunn_draft_em_doc(
+        room: *mut u8,
+        room_len: usize,
+        draft: *mut u64,
+        added: *const u8,
+        n: usize,
         place: *mut usize,
     ) -> u32;
 }

@@ -737,7 +737,6 @@ pub enum Block {
 /// A document under construction, in a room of [`MOST_BYTES`]. A refused call changes nothing.
 ///
 /// A draft of the document is carried from call to call, so that a call takes time by what it adds.
-/// Only [`Builder::doc`] and [`Builder::em_doc`] check the document so far.
 #[derive(Clone)]
 pub struct Builder {
     room: Vec<u8>,
@@ -762,7 +761,8 @@ impl Builder {
     /// once. An empty text adds an empty record, or changes nothing where the last record is text of
     /// that style.
     pub fn write(&mut self, style: Style, text: impl AsRef<[u8]>) -> Result<&mut Self, Refusal> {
-        let answer = linked::draft_write(&mut self.room, &mut self.draft, style as u32, text.as_ref());
+        let answer =
+            linked::draft_write(&mut self.room, &mut self.draft, style as u32, text.as_ref());
         self.built(answer)
     }
 
@@ -781,18 +781,16 @@ impl Builder {
     /// A document inside an InlineBlock. Refused: 1 to 8 of the document added, with places from its
     /// own start; 7 where more than 32 blocks would be open; 13 over 32,768 bytes.
     pub fn doc(&mut self, added: &[u8]) -> Result<&mut Self, Refusal> {
-        let mut length = self.length();
-        let answer = linked::doc(&mut self.room, &mut length, added);
-        self.built(answer)?.resumed(length)
+        let answer = linked::draft_doc(&mut self.room, &mut self.draft, added);
+        self.built(answer)
     }
 
     /// As [`Builder::doc`], where the first record is not plain text. Where it is, its first line
     /// becomes Emphasis and the rest of it text in a Section3, followed by the other records; if it
     /// has one line only, the other records are left out.
     pub fn em_doc(&mut self, added: &[u8]) -> Result<&mut Self, Refusal> {
-        let mut length = self.length();
-        let answer = linked::em_doc(&mut self.room, &mut length, added);
-        self.built(answer)?.resumed(length)
+        let answer = linked::draft_em_doc(&mut self.room, &mut self.draft, added);
+        self.built(answer)
     }
 
     /// The finished document. Refused: 8 where a block is open.
@@ -811,12 +809,6 @@ impl Builder {
     /// The length so far, the draft's first word.
     fn length(&self) -> usize {
         self.draft[0] as usize
-    }
-
-    /// A draft of the new document, after a call that has none.
-    fn resumed(&mut self, length: usize) -> Result<&mut Self, Refusal> {
-        let answer = linked::draft_resume(&self.room, length, &mut self.draft);
-        self.built(answer)
     }
 }
 

@@ -54,15 +54,6 @@ pub fn roff(document: &[u8], room: &mut [u8]) -> (u32, usize) {
 /// A draft of the document in a room; see `include/sefgrunn.h`.
 pub type Draft = [u64; 8];
 
-pub fn draft_resume(room: &[u8], length: usize, draft: &mut Draft) -> (u32, usize) {
-    let mut place = 0;
-    let (r, len) = (room.as_ptr(), room.len());
-    // SAFETY: see above; the draft has eight words.
-    let number =
-        unsafe { c::sefgrunn_draft_resume(r, len, length, draft.as_mut_ptr(), &mut place) };
-    (number, place)
-}
-
 pub fn draft_write(room: &mut [u8], draft: &mut Draft, style: u32, text: &[u8]) -> (u32, usize) {
     let (t, n, r, len, mut place) = parts(text, room);
     let draft = draft.as_mut_ptr();
@@ -74,30 +65,28 @@ pub fn draft_write(room: &mut [u8], draft: &mut Draft, style: u32, text: &[u8]) 
 pub fn draft_open(room: &mut [u8], draft: &mut Draft, block: u32) -> (u32, usize) {
     let (_, _, r, len, mut place) = parts(&[], room);
     // SAFETY: see above; the draft has eight words.
-    let number =
-        unsafe { c::sefgrunn_draft_open(r, len, draft.as_mut_ptr(), block, &mut place) };
+    let number = unsafe { c::sefgrunn_draft_open(r, len, draft.as_mut_ptr(), block, &mut place) };
     (number, place)
 }
 
 pub fn draft_close(room: &mut [u8], draft: &mut Draft, block: u32) -> (u32, usize) {
     let (_, _, r, len, mut place) = parts(&[], room);
     // SAFETY: see above; the draft has eight words.
-    let number =
-        unsafe { c::sefgrunn_draft_close(r, len, draft.as_mut_ptr(), block, &mut place) };
+    let number = unsafe { c::sefgrunn_draft_close(r, len, draft.as_mut_ptr(), block, &mut place) };
     (number, place)
 }
 
-pub fn doc(room: &mut [u8], length: &mut usize, added: &[u8]) -> (u32, usize) {
+pub fn draft_doc(room: &mut [u8], draft: &mut Draft, added: &[u8]) -> (u32, usize) {
     let (a, n, r, len, mut place) = parts(added, room);
-    // SAFETY: see above.
-    let number = unsafe { c::sefgrunn_doc(r, len, length, a, n, &mut place) };
+    // SAFETY: see above; the draft has eight words.
+    let number = unsafe { c::sefgrunn_draft_doc(r, len, draft.as_mut_ptr(), a, n, &mut place) };
     (number, place)
 }
 
-pub fn em_doc(room: &mut [u8], length: &mut usize, added: &[u8]) -> (u32, usize) {
+pub fn draft_em_doc(room: &mut [u8], draft: &mut Draft, added: &[u8]) -> (u32, usize) {
     let (a, n, r, len, mut place) = parts(added, room);
-    // SAFETY: see above.
-    let number = unsafe { c::sefgrunn_em_doc(r, len, length, a, n, &mut place) };
+    // SAFETY: see above; the draft has eight words.
+    let number = unsafe { c::sefgrunn_draft_em_doc(r, len, draft.as_mut_ptr(), a, n, &mut place) };
     (number, place)
 }
 
