@@ -18,5 +18,10 @@ use Rattle.figures.specs.Bundle.{document, documentsFrom, documents, tex
 use Rattle.figures.specs.Samples.{deep, samples, Hold}
 
 pub samples-hold : Hold samples
-unfolding deep samples document documentsFrom documents textOf total figures if_then_else_ startsWith endsWith _>>=_ top pushed popped table rowOf encode bytes whites white printing blank trim little styles blocks kindOf size tokenAt tokens fits opens closes bodiless accept first reads openBlocks short closed check littleBytes stored text start end around before afterLineEnd ticked step placed split isSpace extended write empty skipStart skipEnd walk body con.termStart con.termEnd con.term con.terms con.tabstop con.emptyBlock con.gapAhead con.lineEnd con.dueLine con.dueBlank con.gap2 con.place con.reach con.pad con.put con.fold con.tick con.started con.ended con.rawChunk con.chunk con.turn con.finish con.narrow con.consoleBy con.console
+unfolding deep samples document documentsFrom documents textOf total figures if_then_else_ startsWith endsWith _>>=_ top pushed popped table rowOf
+    encode bytes whites white printing blank trim little styles blocks kindOf size tokenAt tokens fits opens closes bodiless accept first reads
+    openBlocks short closed check littleBytes stored text start end around before afterLineEnd ticked step placed split isSpace extended write empty
+    skipStart skipEnd walk body con.termStart con.termEnd con.term con.terms con.tabstop con.emptyBlock con.gapAhead con.lineEnd con.dueLine
+    con.dueBlank con.gap2 con.place con.reach con.pad con.put con.fold con.tick con.started con.ended con.rawChunk con.chunk con.turn con.finish
+    con.narrow con.consoleBy con.console
 samples-hold = refl

@@ -22,7 +22,9 @@ use Rattle.joined_rules.specs.Samples.{Sample, formOf, share, mono, mono
 
 -- the check
 pub samples-hold : map (λ (s : Sample). checkJoined (formOf s)) samples ≡ map (λ (s : Sample). s .answer) samples
-unfolding samples formOf share mono monoEnd bytes encode table rowOf littleBytes head concat cut headKind hasText textIn recordsAt headsIn lengthless shares acceptShare firstShare used readsShares shortJoined wholeText readsJoined checkJoined kindOf styles blocks little size opens closes closed top pushed popped if_then_else_ _>>=_
+unfolding samples formOf share mono monoEnd bytes encode table rowOf littleBytes head concat cut headKind hasText textIn recordsAt headsIn lengthless
+    shares acceptShare firstShare used readsShares shortJoined wholeText readsJoined checkJoined kindOf styles blocks little size opens closes closed
+    top pushed popped if_then_else_ _>>=_
 samples-hold = refl
 
 pub textless-hold : map checkJoined textless ≡ refused 17 0 ∷ refused 17 0 ∷ refused 17 0 ∷ refused 17 0 ∷ []
@@ -38,11 +40,13 @@ form : List ℕ
 form = 3 ∷ 0 ∷ 0 ∷ 0 ∷ 0x61 ∷ 0x20 ∷ 0x62 ∷ 3 ∷ 0 ∷ 0 ∷ 0 ∷ 1 ∷ 0 ∷ []
 
 over : map (λ (n : ℕ). joinsInto n document) (13 ∷ 12 ∷ []) ≡ gives form ∷ refused 13 0 ∷ []
-unfolding document form joinsInto joins joinedForm textOf headsOf joined tokens tokenAt cut concat littleBytes extended check short openBlocks reads first accept bodiless fits closed opens closes kindOf styles blocks little size table rowOf if_then_else_ _>>=_
+unfolding document form joinsInto joins joinedForm textOf headsOf joined tokens tokenAt cut concat littleBytes extended check short openBlocks reads
+    first accept bodiless fits closed opens closes kindOf styles blocks little size table rowOf if_then_else_ _>>=_
 over = refl
 
 back : map (λ (n : ℕ). unjoinsInto n form) (9 ∷ 8 ∷ []) ≡ gives document ∷ refused 13 0 ∷ []
-unfolding document form unjoinsInto unjoins unjoined records textIn headsIn recordsAt cut extended checkJoined shortJoined wholeText hasText readsJoined readsShares firstShare acceptShare shares used headKind closed kindOf styles blocks little size table rowOf if_then_else_ _>>=_
+unfolding document form unjoinsInto unjoins unjoined records textIn headsIn recordsAt cut extended checkJoined shortJoined wholeText hasText
+    readsJoined readsShares firstShare acceptShare shares used headKind closed kindOf styles blocks little size table rowOf if_then_else_ _>>=_
 back = refl
 
 -- `a`, an empty Mono, `b`: its records have their places and their texts' starts in the form; a refusal of the document's `b` or of its record there
@@ -59,7 +63,8 @@ listed =
     ∷ []
 
 two-listed : tokensIn two ≡ listed
-unfolding two listed formOf share mono monoEnd littleBytes head concat tokensIn tokensShared textIn headsIn recordsAt cut headKind kindOf styles blocks little size if_then_else_
+unfolding two listed formOf share mono monoEnd littleBytes head concat tokensIn tokensShared textIn headsIn recordsAt cut headKind kindOf styles
+    blocks little size if_then_else_
 two-listed = refl
 
 -- the Mono's start stands at 7 in the document, `b` at 25 in the record at 19, and its end at 26

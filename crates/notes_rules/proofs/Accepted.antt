@@ -26,7 +26,8 @@ use Rattle.document.specs.Document.{reads, openBlocks, short, closed, check}
 use Rattle.buffer.proofs.Pasting.{length-stored}
 use Rattle.buffer.proofs.Records.{reads-text, reads-before}
 use Rattle.buffer_doc.proofs.Adding.{around-given, length-around}
-use Rattle.notes_rules.specs.Notes.{Line, header, item, other, separator, lines, headerMark, itemMark, joined, styled, Stretch, stretches, styleOf, records, textRecords, partOf, parts, document}
+use Rattle.notes_rules.specs.Notes.{Line, header, item, other, separator, lines, headerMark, itemMark, joined, styled, Stretch, stretches}
+use Rattle.notes_rules.specs.Notes.{styleOf, records, textRecords, partOf, parts, document}
 use Rattle.notes_rules.specs.Without.{textLeft, ordinary}
 use Rattle.notes_rules.proofs.Lines.{line, header-part, item-part, blank-part, other-part, next-mark, unmarked}
 use Rattle.notes_rules.proofs.Texts.{behindText, feeds, behind-feeds, Start, over, heads, items, parts-from, others, start-of}

@@ -11,7 +11,8 @@ use Rattle.document.specs.Document.{short}
 use Rattle.records.specs.Stored.{littleBytes, stored, text, start, end, around}
 use Rattle.records.specs.declared.Style.the-variants as style
 use Rattle.records.specs.declared.Block.the-variants as block
-use Rattle.notes_rules.specs.Notes.{header, item, other, separator, lines, spaces, lineOf, joined, ticked, styled, stretch, stretches, records, textRecords, parts, document, fit, takenIn}
+use Rattle.notes_rules.specs.Notes.{header, item, other, separator, lines, spaces, lineOf, joined, ticked, styled, stretch, stretches, records}
+use Rattle.notes_rules.specs.Notes.{textRecords, parts, document, fit, takenIn}
 use Rattle.notes_rules.specs.Without.{marked, blankLine, ordinary, textLeft, markerSize, withoutFrom, without}
 
 -- lines: a last one without a line feed counts, and behind a last line feed stands none; neighbours are joined as they stand

@@ -16,7 +16,8 @@ use Rattle.base.proofs.Prefix.{starts-split}
 use Rattle.notes_rules.specs.Notes.{Line, header, item, other, separator, lines, headerMark, itemMark, joined, Styled, styledAs, ticked, styled}
 use Rattle.notes_rules.specs.Without.{marked, blankLine, ordinary, textLeft, markerSize, withoutFrom, without}
 use Rattle.notes_rules.proofs.Thin.{Thin, none, kept, cut, Ascii, Gap, thin-before}
-use Rattle.notes_rules.proofs.Lines.{line, next, either, or-false, left-stop, left-feed, left-go, ordinary-tests, unmarked, unmarked-is, ordinary-is, header-part, item-part, blank-part, other-part, next-mark}
+use Rattle.notes_rules.proofs.Lines.{line, next, either, or-false, left-stop, left-feed, left-go, ordinary-tests, unmarked, unmarked-is}
+use Rattle.notes_rules.proofs.Lines.{ordinary-is, header-part, item-part, blank-part, other-part, next-mark}
 
 -- the bytes of a text without its paired backticks
 unfoldable pub bytesOf : List Styled → List ℕ

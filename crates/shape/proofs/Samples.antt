@@ -22,5 +22,6 @@ all-hold (x ∷ xs) e =
     (subst (λ (r : Result (Option ℕ)). Answers (x .document) r) (head-eq-of-cons-eq e) (an-answer (x .document)), all-hold xs (tail-eq-of-cons-eq e))
 
 pub samples-hold : SamplesHold samples
-unfolding nested samples byStep if_then_else_ _>>=_ top pushed popped table rowOf little styles blocks kindOf size tokenAt tokens fits littleBytes stored text start end around opens closes bodiless accept first reads openBlocks short closed check inside entered left step go stray
+unfolding nested samples byStep if_then_else_ _>>=_ top pushed popped table rowOf little styles blocks kindOf size tokenAt tokens fits littleBytes
+    stored text start end around opens closes bodiless accept first reads openBlocks short closed check inside entered left step go stray
 samples-hold = all-hold samples refl

@@ -1,5 +1,5 @@
 use mathlib.Core.Path.{_≡_, refl, sym, _∙_, subst}
-use Prim.Native.Nat.{ℕ, _+_, _-_}
+use Prim.Native.Nat.{ℕ, _+_, _-_, _<_}
 use native.Mathlib.Omega.{arith}
 use borrow.Author.Needs.{needs}
 use denote.Ref.{now}
@@ -9,7 +9,8 @@ use Rattle.html.proofs.walk.Tie as tie
 use Rattle.splitter.specs.Answers.{start}
 use Rattle.splitter.proofs.Answers.{took, ended}
 use Rattle.renderer.specs.Rendered.{Inside}
-use Rattle.html.proofs.Walked.{On, InBody, on-start, on-out, on-end, on-unknown, on-start-low, on-entered, on-end-low, on-left, on-meta, on-hidden, on-body, on-done, on-stopped, body-line, body-on, body-at}
+use Rattle.html.proofs.Walked.{On, InBody, on-start, on-out, on-end, on-unknown, on-start-low, on-entered, on-end-low, on-left, on-meta}
+use Rattle.html.proofs.Walked.{on-hidden, on-body, on-done, on-stopped, body-line, body-on, body-at}
 
 -- The chunks of a body: the room keeps its length, the style and the skip counter stay, and what is shown and the chunks from the cursor
 -- on, with the records after the body, give the whole. What is left of the body falls.
@@ -29,15 +30,60 @@ Inv-records document tags sheet strict full room₀ at₀ len₀ lay₀ stack₀
 abbrev μ-records : tie.MeasureT-records
 μ-records document tags sheet strict full room₀ at₀ len₀ lay₀ stack₀ depth₀ room at len lay stack depth = length document - at
 
--- From the chunks of a body back to where its record was read, where its kind was told, and where its style was changed.
-abbrev read : (c : tie.At-chunks Inv-chunks μ-chunks Inv-records μ-records) → tie.After-record-at Inv-chunks μ-chunks Inv-records μ-records
-read c = c .before .before .before .before .before .before .before .before .before .before .before .before .before .before
+-- Places of the code: a record is read next, one was read, it is not Meta, its kind is text, its style was changed, its bytes are at hand,
+-- its chunks are walked, a line of it was written.
+abbrev Records : Type 0
+Records = tie.At-records Inv-chunks μ-chunks Inv-records μ-records
 
-abbrev told : (c : tie.At-chunks Inv-chunks μ-chunks Inv-records μ-records) → tie.After-kind3 Inv-chunks μ-chunks Inv-records μ-records
-told c = c .before .before .before .before .before .before .before .before .before .before
+abbrev Read : Type 0
+Read = tie.After-record-at Inv-chunks μ-chunks Inv-records μ-records
 
-abbrev changed : (c : tie.At-chunks Inv-chunks μ-chunks Inv-records μ-records) → tie.After-change-style Inv-chunks μ-chunks Inv-records μ-records
-changed c = c .before .before .before .before .before
+abbrev Other : Type 0
+Other = tie.Else2 Inv-chunks μ-chunks Inv-records μ-records
+
+abbrev Told : Type 0
+Told = tie.After-kind3 Inv-chunks μ-chunks Inv-records μ-records
+
+abbrev Changed : Type 0
+Changed = tie.After-change-style Inv-chunks μ-chunks Inv-records μ-records
+
+abbrev Bytes : Type 0
+Bytes = tie.After-get Inv-chunks μ-chunks Inv-records μ-records
+
+abbrev Chunks : Type 0
+Chunks = tie.At-chunks Inv-chunks μ-chunks Inv-records μ-records
+
+abbrev Lined : Type 0
+Lined = tie.After-put-line Inv-chunks μ-chunks Inv-records μ-records
+
+-- From a place back to the one before it in that list.
+abbrev args : Records → tie.Start Inv-chunks μ-chunks Inv-records μ-records
+args c = c .before .before .before .before .before
+
+abbrev records : Read → Records
+records c = c .before .before .before
+
+abbrev read : Other → Read
+read c = c .before .before
+
+abbrev other : Told → Other
+other c = c .before .before
+
+abbrev told : Changed → Told
+told c = c .before .before .before .before .before
+
+abbrev changed : Bytes → Changed
+changed c = c .before .before .before .before
+
+abbrev chunks : Lined → Chunks
+chunks c = c .before .before
+
+-- the document falls by the record that was read
+falls : (c : Read) → length (now (args (records c) .args .document)) - c .record-at .result .next
+    < length (now (args (records c) .args .document)) - records c .records .at
+falls c =
+    let k = c .record-at .ensures .low (c .before .before .records-test .taken) in
+    omega (arith, c .record-at .ensures .order, c .record-at .ensures .high)
 
 records-holds : tie.Need-records-holds Inv-chunks μ-chunks Inv-records μ-records
 records-holds c =
@@ -51,185 +97,214 @@ returns : tie.Need-returns Inv-chunks μ-chunks Inv-records μ-records
 returns c = (on-out _ _ _ _ _ _ (c .before .before .records .inv) (c .if1 .taken), tt)
 
 records-less : tie.Need-records-less Inv-chunks μ-chunks Inv-records μ-records
-records-less c =
-    let r = c .before .before .before .before in
-    on-unknown _ _ _ _ _ _ (r .before .before .before .records .inv) (r .record-at .ensures) (r .before .before .records-test .taken) (c .enum-told .given .1)
+records-less c = falls (read (c .before .before))
 
 records-again : tie.Need-records-again Inv-chunks μ-chunks Inv-records μ-records
 records-again c =
-    let r = c .before .before .before .before in
-    on-unknown _ _ _ _ _ _ (r .before .before .before .records .inv) (r .record-at .ensures) (r .before .before .records-test .taken) (c .enum-told .given .1)
+    let r = read (c .before .before) in
+    on-unknown _ _ _ _ _ _ (records r .records .inv) (r .record-at .ensures) (r .before .before .records-test .taken) (c .enum-told .given .1)
 
 slice-aggregate-push : tie.Need-slice-aggregate-push Inv-chunks μ-chunks Inv-records μ-records
 slice-aggregate-push c =
-    sym (c .before .before .before .before .before .before .before .before .before .before .before .before .before .before .records .inv .long)
+    let put = c .before .before .before in
+    let kind = put .before .before .before .before in
+    sym (records (read (kind .before .before)) .records .inv .long)
 
 push-requires : tie.Need-push-requires Inv-chunks μ-chunks Inv-records μ-records
 push-requires c κs =
-    let r = c .before .before .before .before .before .before .before .before .before .before .before in
-    let o = r .before .before .before .records .inv in
-    let d = on-start-low _ _ _ _ _ _ o (r .record-at .ensures) (r .before .before .records-test .taken)
-    (c .before .before .before .before .before .before .before .kind .given .1) in
+    let put = c .before .before .before in
+    let kind = put .before .before .before .before in
+    let r = read (kind .before .before) in
+    let o = records r .records .inv in
+    let d = on-start-low _ _ _ _ _ _ o (r .record-at .ensures) (r .before .before .records-test .taken) (kind .kind .given .1) in
     omega (arith, o .long)
 
 add-depth : tie.Need-add-depth Inv-chunks μ-chunks Inv-records μ-records
 add-depth c =
-    let r = c .before .before .before .before .before .before .before .before .before .before .before .before .before in
-    let d = on-start-low _ _ _ _ _ _ (r .before .before .before .records .inv) (r .record-at .ensures) (r .before .before .records-test .taken)
-    (c .before .before .before .before .before .before .before .before .before .kind .given .1) in
+    let put = c .before .before .before .before .before in
+    let kind = put .before .before .before .before in
+    let r = read (kind .before .before) in
+    let d = on-start-low _ _ _ _ _ _ (records r .records .inv) (r .record-at .ensures) (r .before .before .records-test .taken) (kind .kind .given .1) in
     omega arith
 
 records-less-2 : tie.Need-records-less-2 Inv-chunks μ-chunks Inv-records μ-records
 records-less-2 c =
-    let r = c .before .before .before .before .before .before .before .before .before .before .before .before .before .before in
-    let k = r .record-at .ensures .low (r .before .before .records-test .taken) in
-    omega (arith, r .record-at .ensures .order, r .record-at .ensures .high)
+    let push = c .before .before in
+    let put = push .before .before .before .before in
+    let kind = put .before .before .before .before in
+    falls (read (kind .before .before))
 
 sub-depth : tie.Need-sub-depth Inv-chunks μ-chunks Inv-records μ-records
 sub-depth c =
-    let r = c .before .before .before .before .before in
-    on-end-low _ _ _ _ _ _ (r .before .before .before .records .inv) (r .record-at .ensures) (r .before .before .records-test .taken)
-    (c .before .kind2 .given .1)
+    let kind = c .before in
+    let r = read (kind .before .before) in
+    on-end-low _ _ _ _ _ _ (records r .records .inv) (r .record-at .ensures) (r .before .before .records-test .taken) (kind .kind2 .given .1)
 
 records-less-3 : tie.Need-records-less-3 Inv-chunks μ-chunks Inv-records μ-records
 records-less-3 c =
-    let r = c .before .before .before .before .before .before .before .before .before .before .before in
-    let k = r .record-at .ensures .low (r .before .before .records-test .taken) in
-    omega (arith, r .record-at .ensures .order, r .record-at .ensures .high)
+    let put = c .before .before .before in
+    let kind = put .before .before .before .before in
+    falls (read (kind .before .before))
 
 records-less-4 : tie.Need-records-less-4 Inv-chunks μ-chunks Inv-records μ-records
-records-less-4 c =
-    let r = c .before .before .before .before .before .before .before in
-    let k = r .record-at .ensures .low (r .before .before .records-test .taken) in
-    omega (arith, r .record-at .ensures .order, r .record-at .ensures .high)
+records-less-4 c = falls (read (other (c .before .before .before)))
 
 records-again-4 : tie.Need-records-again-4 Inv-chunks μ-chunks Inv-records μ-records
 records-again-4 c =
-    let r = c .before .before .before .before .before .before .before in
-    on-hidden _ _ _ _ _ _ (r .before .before .before .records .inv) (r .record-at .ensures) (r .before .before .records-test .taken)
-    (c .before .before .before .kind3 .given .1)
+    let kind = c .before .before .before in
+    let r = read (other kind) in
+    on-hidden _ _ _ _ _ _ (records r .records .inv) (r .record-at .ensures) (r .before .before .records-test .taken) (kind .kind3 .given .1)
     (sym (c .before .enabled .ensures) ∙ c .if3 .taken)
 
 records-less-5 : tie.Need-records-less-5 Inv-chunks μ-chunks Inv-records μ-records
 records-less-5 c =
-    let r = read (c .before .before .before .before .before .before .before) in
-    let k = r .record-at .ensures .low (r .before .before .records-test .taken) in
-    omega (arith, r .record-at .ensures .order, r .record-at .ensures .high)
+    let step = c .before .before in
+    let b = chunks (step .before .before .before) .before in
+    falls (read (other (told (changed b))))
 
 records-less-6 : tie.Need-records-less-6 Inv-chunks μ-chunks Inv-records μ-records
 records-less-6 c =
-    let r = read (c .before .before .before .before .before .before .before .before .before .before .before) in
-    let k = r .record-at .ensures .low (r .before .before .records-test .taken) in
-    omega (arith, r .record-at .ensures .order, r .record-at .ensures .high)
+    let ends = c .before .before in
+    let step = ends .before .before .before .before in
+    let b = chunks (step .before .before .before) .before in
+    falls (read (other (told (changed b))))
 
 chunks-less : tie.Need-chunks-less Inv-chunks μ-chunks Inv-records μ-records
 chunks-less c =
-    let g = c .before .before .before .before .before .before .before .before .before .before .before .before .put-line in
-    let t = took _ _ _ _ _ (c .before .before .before .before .before .before .before .piece .given .1) (c .before .before .before .before .before .before .before .before .before .step-at .ensures) in
-    omega (arith, g .ensures .1, t .further, t .short)
+    let put = c .before .before in
+    let ends = put .before .before .before in
+    let piece = ends .before .before in
+    let step = piece .before .before in
+    let line = step .before .before .before in
+    let t = took _ _ _ _ _ (piece .piece .given .1) (step .step-at .ensures) in
+    omega (arith, line .put-line .ensures .1, t .further, t .short)
 
 chunks-again : tie.Need-chunks-again Inv-chunks μ-chunks Inv-records μ-records
 chunks-again c =
-    let i = c .before .before .before .before .before .before .before .before .before .before .before .before .before .before .chunks .inv in
-    let g = c .before .before .before .before .before .before .before .before .before .before .before .before .put-line in
+    let put = c .before .before in
+    let ends = put .before .before .before in
+    let piece = ends .before .before in
+    let step = piece .before .before in
+    let line = step .before .before .before in
+    let i = line .before .before .chunks .inv in
+    let g = line .put-line in
     let j = body-line _ _ _ _ _ _ (i .2) (g .last .0) (g .result .len) (g .result .at) (i .0) (g .ensures .1) (g .ensures .0) in (
-      c .before .before .put-chunk .kept .0 ∙ g .kept .0 ∙ i .0,
+      put .put-chunk .kept .0 ∙ g .kept .0 ∙ i .0,
       i .1,
-      body-on _ _ _ _ _ _ j (took _ _ _ _ _ (c .before .before .before .before .before .before .before .piece .given .1)
-          (c .before .before .before .before .before .before .before .before .before .step-at .ensures)) _ _ (g .kept .0 ∙ i .0)
-          (sym (c .before .before .before .before .before .ends-body .ensures _) ∙ c .before .before .before .before .if4 .left)
-          (c .before .before .put-chunk .ensures),
+      body-on _ _ _ _ _ _ j (took _ _ _ _ _ (piece .piece .given .1) (step .step-at .ensures)) _ _ (g .kept .0 ∙ i .0)
+          (sym (ends .ends-body .ensures _) ∙ put .before .before .if4 .left) (put .put-chunk .ensures),
     )
 
 same-length-3 : tie.Need-same-length-3 Inv-chunks μ-chunks Inv-records μ-records
-same-length-3 c = c .before .before .finish .kept .0 ∙ c .before .before .before .before .before .records .inv .same
+same-length-3 c =
+    let last = c .before .before in
+    last .finish .kept .0 ∙ last .before .before .before .records .inv .same
 
 returns-3 : tie.Need-returns-3 Inv-chunks μ-chunks Inv-records μ-records
-returns-3 c = (
-  on-end _ _ _ _ _ _ (c .before .before .before .before .before .records .inv) _ (c .before .before .before .before .records-test .left)
-      (c .before .before .finish .ensures .0),
-  subst (λ (n : ℕ). Inside n (c .before .before .finish .result)) (c .before .before .before .before .before .records .inv .same)
-      (c .before .before .finish .ensures .1),
-)
+returns-3 c =
+    let last = c .before .before in
+    let test = last .before .before in
+    let o = test .before .records .inv in (
+      on-end _ _ _ _ _ _ o _ (test .records-test .left) (last .finish .ensures .0),
+      subst (λ (n : ℕ). Inside n (last .finish .result)) (o .same) (last .finish .ensures .1),
+    )
 
 same-length-2 : tie.Need-same-length-2 Inv-chunks μ-chunks Inv-records μ-records
-same-length-2 c = c .before .before .meet-meta .kept .0 ∙ c .before .before .before .before .before .before .before .before .before .records .inv .same
+same-length-2 c =
+    let meta = c .before .before in
+    let test = meta .before .before in
+    meta .meet-meta .kept .0 ∙ records (test .before .before) .records .inv .same
 
 returns-2 : tie.Need-returns-2 Inv-chunks μ-chunks Inv-records μ-records
 returns-2 c =
-    let r = c .before .before .before .before .before .before in
-    let o = r .before .before .before .records .inv in (
+    let meta = c .before .before in
+    let test = meta .before .before in
+    let r = test .before .before in
+    let o = records r .records .inv in (
       on-meta _ _ _ _ _ _ o (r .record-at .ensures) (r .before .before .records-test .taken) _
-          (sym (c .before .before .before .before .before .is-meta .ensures) ∙ c .before .before .before .before .if2 .taken)
-          (c .before .before .meet-meta .ensures .0),
-      subst (λ (n : ℕ). Inside n (c .before .before .meet-meta .result)) (o .same) (c .before .before .meet-meta .ensures .1),
+          (sym (test .before .is-meta .ensures) ∙ test .if2 .taken) (meta .meet-meta .ensures .0),
+      subst (λ (n : ℕ). Inside n (meta .meet-meta .result)) (o .same) (meta .meet-meta .ensures .1),
     )
 
 records-again-2 : tie.Need-records-again-2 Inv-chunks μ-chunks Inv-records μ-records
 records-again-2 c =
-    let r = c .before .before .before .before .before .before .before .before .before .before .before .before .before .before in
-    on-entered _ _ _ _ _ _ (r .before .before .before .records .inv) (r .record-at .ensures) (r .before .before .records-test .taken) _ _ _ _
-    (c .before .before .before .before .before .before .before .before .before .before .kind .given .1)
-    (sym (c .before .before .before .before .before .before .before .before .before .before .before .before .before .is-meta .ensures)
-    ∙ c .before .before .before .before .before .before .before .before .before .before .before .before .if2 .left)
-    (c .before .before .before .before .before .before .put-start .kept .0) (c .before .before .before .before .before .before .put-start .ensures)
-    (c .before .before .push .ensures) (c .before .before .push .kept .0) (c .skip-start .ensures)
+    let push = c .before .before in
+    let put = push .before .before .before .before in
+    let kind = put .before .before .before .before in
+    let test = kind .before .before in
+    let r = read test in
+    on-entered _ _ _ _ _ _ (records r .records .inv) (r .record-at .ensures) (r .before .before .records-test .taken) _ _ _ _
+    (kind .kind .given .1) (sym (test .before .is-meta .ensures) ∙ test .if2 .left) (put .put-start .kept .0) (put .put-start .ensures)
+    (push .push .ensures) (push .push .kept .0) (c .skip-start .ensures)
 
 records-again-3 : tie.Need-records-again-3 Inv-chunks μ-chunks Inv-records μ-records
 records-again-3 c =
-    let r = c .before .before .before .before .before .before .before .before .before .before .before in
-    on-left _ _ _ _ _ _ (r .before .before .before .records .inv) (r .record-at .ensures) (r .before .before .records-test .taken) _ _ _
-    (c .before .before .before .before .before .before .before .kind2 .given .1)
-    (sym (c .before .before .before .before .before .before .before .before .before .before .is-meta .ensures)
-    ∙ c .before .before .before .before .before .before .before .before .before .if2 .left) (c .before .before .before .put-end .kept .0)
-    (c .before .before .before .put-end .ensures) (c .skip-end .ensures)
+    let put = c .before .before .before in
+    let kind = put .before .before .before .before in
+    let test = kind .before .before in
+    let r = read test in
+    on-left _ _ _ _ _ _ (records r .records .inv) (r .record-at .ensures) (r .before .before .records-test .taken) _ _ _
+    (kind .kind2 .given .1) (sym (test .before .is-meta .ensures) ∙ test .if2 .left) (put .put-end .kept .0) (put .put-end .ensures)
+    (c .skip-end .ensures)
 
 slice-aggregate-put-start : tie.Need-slice-aggregate-put-start Inv-chunks μ-chunks Inv-records μ-records
-slice-aggregate-put-start c = sym (c .before .before .before .before .before .before .before .before .before .before .records .inv .long)
+slice-aggregate-put-start c =
+    let kind = c .before .before .before in
+    sym (records (read (kind .before .before)) .records .inv .long)
 
 slice-aggregate-put-end : tie.Need-slice-aggregate-put-end Inv-chunks μ-chunks Inv-records μ-records
-slice-aggregate-put-end c = sym (c .before .before .before .before .before .before .before .before .before .before .records .inv .long)
+slice-aggregate-put-end c =
+    let kind = c .before .before .before in
+    sym (records (read (kind .before .before)) .records .inv .long)
 
 chunks-holds : tie.Need-chunks-holds Inv-chunks μ-chunks Inv-records μ-records
 chunks-holds c =
-    let r = c .before .before .before .before .before .before .before .before .before .before .before .before .before in
-    let o = r .before .before .before .records .inv in (
+    let style = changed c in
+    let test = style .before .before in
+    let kind = told style in
+    let r = read (other kind) in
+    let o = records r .records .inv in (
       refl,
       refl,
-      body-at (c .before .before .before .before .change-style .kept .0 ∙ o .same)
-          (on-body _ _ _ _ _ _ o (r .record-at .ensures) (r .before .before .records-test .taken)
-          (c .before .before .before .before .before .before .before .before .before .kind3 .given .1) _ _ _ _ (c .get .ensures)
-          (sym (c .before .before .before .before .before .before .before .enabled .ensures) ∙ c .before .before .before .before .before .before .if3 .left)
-          (c .before .styled .ensures) (c .before .before .before .before .change-style .ensures)),
+      body-at (style .change-style .kept .0 ∙ o .same)
+          (on-body _ _ _ _ _ _ o (r .record-at .ensures) (r .before .before .records-test .taken) (kind .kind3 .given .1) _ _ _ _ (c .get .ensures)
+          (sym (test .before .enabled .ensures) ∙ test .if3 .left) (c .before .styled .ensures) (style .change-style .ensures)),
     )
 
 records-again-5 : tie.Need-records-again-5 Inv-chunks μ-chunks Inv-records μ-records
 records-again-5 c =
-    let b = c .before .before .before .before .before .before .before in
-    let r = read b in
-    let o = r .before .before .before .records .inv in
-    let i = b .chunks .inv in
-    let g = c .before .before .before .before .before .put-line in
+    let step = c .before .before in
+    let line = step .before .before .before in
+    let b = chunks line .before in
+    let kind = told (changed b) in
+    let r = read (other kind) in
+    let o = records r .records .inv in
+    let i = chunks line .chunks .inv in
+    let g = line .put-line in
     let j = body-line _ _ _ _ _ _ (i .2) (g .last .0) (g .result .len) (g .result .at) (i .0) (g .ensures .1) (g .ensures .0) in
     let e = changed b .change-style .kept .0 ∙ o .same in
     rw (i .1)
-    (on-done _ _ _ _ _ _ o (r .record-at .ensures) (r .before .before .records-test .taken) (told b .kind3 .given .1) (g .kept .0 ∙ i .0 ∙ e)
-    (body-at (sym e) j) (ended _ _ _ (c .enum-told2 .given .1) (c .before .before .step-at .ensures)))
+    (on-done _ _ _ _ _ _ o (r .record-at .ensures) (r .before .before .records-test .taken) (kind .kind3 .given .1) (g .kept .0 ∙ i .0 ∙ e)
+    (body-at (sym e) j) (ended _ _ _ (c .enum-told2 .given .1) (step .step-at .ensures)))
 
 records-again-6 : tie.Need-records-again-6 Inv-chunks μ-chunks Inv-records μ-records
 records-again-6 c =
-    let b = c .before .before .before .before .before .before .before .before .before .before .before in
-    let r = read b in
-    let o = r .before .before .before .records .inv in
-    let i = b .chunks .inv in
-    let g = c .before .before .before .before .before .before .before .before .before .put-line in
+    let ends = c .before .before in
+    let piece = ends .before .before in
+    let step = piece .before .before in
+    let line = step .before .before .before in
+    let b = chunks line .before in
+    let kind = told (changed b) in
+    let r = read (other kind) in
+    let o = records r .records .inv in
+    let i = chunks line .chunks .inv in
+    let g = line .put-line in
     let j = body-line _ _ _ _ _ _ (i .2) (g .last .0) (g .result .len) (g .result .at) (i .0) (g .ensures .1) (g .ensures .0) in
     let e = changed b .change-style .kept .0 ∙ o .same in
     rw (i .1)
-    (on-stopped _ _ _ _ _ _ o (r .record-at .ensures) (r .before .before .records-test .taken) (told b .kind3 .given .1) (g .kept .0 ∙ i .0 ∙ e)
-    (body-at (sym e) j)
-    (took _ _ _ _ _ (c .before .before .before .before .piece .given .1) (c .before .before .before .before .before .before .step-at .ensures))
-    (sym (c .before .before .ends-body .ensures _) ∙ c .before .if4 .taken) _ (c .enable-number .ensures))
+    (on-stopped _ _ _ _ _ _ o (r .record-at .ensures) (r .before .before .records-test .taken) (kind .kind3 .given .1) (g .kept .0 ∙ i .0 ∙ e)
+    (body-at (sym e) j) (took _ _ _ _ _ (piece .piece .given .1) (step .step-at .ensures)) (sym (ends .ends-body .ensures _) ∙ c .before .if4 .taken) _
+    (c .enable-number .ensures))
 
 pub walk-spec : {M : Type 1} → statement M
 walk-spec =
