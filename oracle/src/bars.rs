@@ -123,9 +123,12 @@ fn worst_faults(row: &Row) -> Vec<String> {
 pub fn worst_pages(rows: &[Row]) -> Vec<String> {
     println!();
     println!("the worst of each renderer; at most {MOST_RATIO} of the Rust's time and {MOST_EACH} ns a byte are asked");
-    let mut calls: Vec<&str> = rows.iter().map(|row| row.call.as_str()).collect();
-    calls.sort_unstable();
-    calls.dedup();
+    let mut calls: Vec<&str> = Vec::new();
+    for row in rows {
+        if !calls.contains(&row.call.as_str()) {
+            calls.push(&row.call);
+        }
+    }
     for call in calls {
         let mine = || rows.iter().filter(|row| row.call == call);
         if let Some(row) = highest(mine(), |row| row.times.ratio()) {

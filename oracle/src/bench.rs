@@ -24,11 +24,11 @@ const MARKDOWN: Renderer = Renderer::Markdown { full: true };
 /// Nanoseconds that the two sides of a row take turns for in one sitting: on the five pages, on pages that grow, on
 /// worst pages. Each row is measured in several sittings, between which all others are, and the best counts:
 /// other work on the machine comes and goes.
-const SPAN: u128 = 100_000_000;
-const GROWTH_SPAN: u128 = 40_000_000;
-const WORST_SPAN: u128 = 30_000_000;
-const SITTINGS: usize = 3;
-const WORST_SITTINGS: usize = 2;
+const SPAN: u128 = 40_000_000;
+const GROWTH_SPAN: u128 = 20_000_000;
+const WORST_SPAN: u128 = 15_000_000;
+const SITTINGS: usize = 8;
+const WORST_SITTINGS: usize = 4;
 
 /// Calls of `write` that are timed as one.
 const WRITES: usize = 64;

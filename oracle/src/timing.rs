@@ -60,7 +60,7 @@ impl Times {
 }
 
 /// Rounds that are made however long they take.
-const LEAST_ROUNDS: usize = 30;
+const LEAST_ROUNDS: usize = 20;
 /// Runs are timed as one up to so many nanoseconds, beside which a look at the clock counts little; so the shorter
 /// a run, the more often it is made.
 const BATCH_TIME: u128 = 40_000;
