@@ -310,7 +310,7 @@ fn head() {
 
 /// Whether both sides take a page.
 pub fn accepts(document: &[u8]) -> bool {
-    read(document).is_some_and(|(_, records)| !records.is_empty())
+    read(document).is_some()
 }
 
 /// Rendering and building of the pages given; prints the worst ratios, and says what is over its bar.
