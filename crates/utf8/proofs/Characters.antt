@@ -49,7 +49,8 @@ pub size-begins : (b : ℕ) (t : List ℕ) → (sizeOf (b ∷ t) ≡ 0 → ⊥) 
 unfolding if_then_else_ sizeOf
 size-begins b t n = go (begins (rowOf b .after) t) n
   where
-    go : (x : Bool) → (if x then suc (length (rowOf b .after)) else 0 ≡ 0 → ⊥) → (x ≡ true) × (if x then suc (length (rowOf b .after)) else 0 ≡ suc (length (rowOf b .after)))
+    go : (x : Bool) → (if x then suc (length (rowOf b .after)) else 0 ≡ 0 → ⊥)
+        → (x ≡ true) × (if x then suc (length (rowOf b .after)) else 0 ≡ suc (length (rowOf b .after)))
     go true n = (refl, refl)
     go false n = absurd (n refl)
 
@@ -87,7 +88,8 @@ read-size s at n =
     record {
       later = omega arith;
       room = omega (arith, x .room, length-drop at s);
-      chars = ap decode (sym (take-append-drop k t)) ∙ decode-append (take k t) (drop k t) (o .valid) ∙ ap₂ (λ (a b : List ℕ). a ++ decode b) (o .chars) (drop-drop k at s);
+      chars = ap decode (sym (take-append-drop k t)) ∙ decode-append (take k t) (drop k t) (o .valid)
+          ∙ ap₂ (λ (a b : List ℕ). a ++ decode b) (o .chars) (drop-drop k at s);
       text = x .rest ∙ ap utf8 (drop-drop k at s);
     }
 
@@ -163,7 +165,8 @@ started s at {k} h e n =
       below = rw (← l .lead) (l .below);
       going = record {
         room = omega (arith, read-size s at m .room);
-        high = λ j x y. let z : at + j ≡ suc at + (j - 1) = omega arith in rw (z, ← getD-drop) (due-high (rowOf b .after) t (row-follows b) (p .0) (j - 1) (omega arith));
+        high = λ j x y. let z : at + j ≡ suc at + (j - 1) = omega arith in
+            rw (z, ← getD-drop) (due-high (rowOf b .after) t (row-follows b) (p .0) (j - 1) (omega arith));
         read = character-some s at m ∙ ap₂ (λ (x y : ℕ). Char x (at + y)) (ap headOf q ∙ rw (l .lead, g, add-one)) (sym e);
       };
     }
@@ -183,8 +186,8 @@ module _ (s : List ℕ) (at l : ℕ) {c d : ℕ} where
   pub two-read : Started s at 2 l → c ≡ getD s at 0 - l → d ≡ c * 64 + (getD s (at + 1) 0 - 0x80) → Char d (at + 2) ≡ characterAt s at
   two-read g p q = going-done s at 2 2 d (first-two 2 g (omega arith) p q) refl
 
-  first-three : (k : ℕ) {e : ℕ} → Started s at k l → 2 < k → c ≡ getD s at 0 - l → d ≡ c * 64 + (getD s (at + 1) 0 - 0x80) → e ≡ d * 64 + (getD s (at + 2) 0 - 0x80)
-      → Going s at k 3 e
+  first-three : (k : ℕ) {e : ℕ} → Started s at k l → 2 < k → c ≡ getD s at 0 - l → d ≡ c * 64 + (getD s (at + 1) 0 - 0x80)
+      → e ≡ d * 64 + (getD s (at + 2) 0 - 0x80) → Going s at k 3 e
   first-three k g h p q r = going-more s at k 2 d (first-two k g (omega arith) p q) h r
 
   pub three-read : {e : ℕ} → Started s at 3 l → c ≡ getD s at 0 - l → d ≡ c * 64 + (getD s (at + 1) 0 - 0x80) → e ≡ d * 64 + (getD s (at + 2) 0 - 0x80)

@@ -16,6 +16,7 @@ use lib.Seq.{drop-cons, drop-drop}
 use Rattle.base.specs.Choice.{if_then_else_}
 use Rattle.base.proofs.Choice.{le-or-lt, and-right}
 use Rattle.utf8.specs.Utf8.{Range, _to_, within, continues, table, rowOf, fits, characters, never, begins, sizeOf}
+use Rattle.utf8.specs.Parts.{AtMost}
 
 pub count-step : (s : List ℕ) (i : ℕ) → i < length s
     → characters (drop i s) ≡ (if continues (getD s i 0) then 0 else 1) + characters (drop (i + 1) s)
@@ -117,7 +118,8 @@ unfolding if_then_else_ sizeOf
 size-next [] n = absurd (n refl)
 size-next (b ∷ t) n = go (begins (rowOf b .after) t) refl n
   where
-    go : (x : Bool) → begins (rowOf b .after) t ≡ x → (if x then suc (length (rowOf b .after)) else 0 ≡ 0 → ⊥) → Next (b ∷ t) (if x then suc (length (rowOf b .after)) else 0)
+    go : (x : Bool) → begins (rowOf b .after) t ≡ x → (if x then suc (length (rowOf b .after)) else 0 ≡ 0 → ⊥)
+        → Next (b ∷ t) (if x then suc (length (rowOf b .after)) else 0)
     go true q n = record {
       room = suc-le-suc (begins-room (rowOf b .after) t q);
       rest = fits-begins (rowOf b .after) t ∙ rw q;
@@ -140,12 +142,34 @@ module _ (a : ℕ) where
   unfolding if_then_else_ rowOf table
   due-none g h =
       let q : (k : ℕ) → 0xC2 ≤ k → leb k a ≡ false = λ k l. lt-leb k a (omega arith) in
-      simp (and-false, past 0x7F (omega arith), q 0xC2 (omega arith), q 0xE0 (omega arith), q 0xE1 (omega arith), q 0xED (omega arith), q 0xEE (omega arith), q 0xF0 (omega arith), q 0xF1 (omega arith), q 0xF4 (omega arith))
+      simp (
+        and-false,
+        past 0x7F (omega arith),
+        q 0xC2 (omega arith),
+        q 0xE0 (omega arith),
+        q 0xE1 (omega arith),
+        q 0xED (omega arith),
+        q 0xEE (omega arith),
+        q 0xF0 (omega arith),
+        q 0xF1 (omega arith),
+        q 0xF4 (omega arith),
+      )
 
   pub due-over : 0xF5 ≤ a → rowOf a .after ≡ never .after
   unfolding if_then_else_ rowOf table
   due-over h =
-      simp (and-false, past 0x7F (omega arith), past 0xDF (omega arith), past 0xE0 (omega arith), past 0xEC (omega arith), past 0xED (omega arith), past 0xEF (omega arith), past 0xF0 (omega arith), past 0xF3 (omega arith), past 0xF4 (omega arith))
+      simp (
+        and-false,
+        past 0x7F (omega arith),
+        past 0xDF (omega arith),
+        past 0xE0 (omega arith),
+        past 0xEC (omega arith),
+        past 0xED (omega arith),
+        past 0xEF (omega arith),
+        past 0xF0 (omega arith),
+        past 0xF3 (omega arith),
+        past 0xF4 (omega arith),
+      )
 
   pub due-2 : 0xC2 ≤ a → a < 0xE0 → rowOf a .after ≡ tail
   unfolding if_then_else_ rowOf table
@@ -163,8 +187,19 @@ module _ (a : ℕ) where
   unfolding if_then_else_ rowOf table
   due-3 g h n m =
       ⊎-elim
-      (λ (l : a ≤ 0xEC). simp (and-false, past 0x7F (omega arith), past 0xDF (omega arith), past 0xE0 (omega arith), le-leb 0xE1 a (omega arith), le-leb a 0xEC l))
-      (λ (l : 0xEC < a). simp (and-false, past 0x7F (omega arith), past 0xDF (omega arith), past 0xE0 (omega arith), past 0xEC l, past 0xED (omega arith), le-leb 0xEE a (omega arith), le-leb a 0xEF (omega arith)))
+      (λ (l : a ≤ 0xEC).
+      simp (and-false, past 0x7F (omega arith), past 0xDF (omega arith), past 0xE0 (omega arith), le-leb 0xE1 a (omega arith), le-leb a 0xEC l))
+      (λ (l : 0xEC < a).
+      simp (
+        and-false,
+        past 0x7F (omega arith),
+        past 0xDF (omega arith),
+        past 0xE0 (omega arith),
+        past 0xEC l,
+        past 0xED (omega arith),
+        le-leb 0xEE a (omega arith),
+        le-leb a 0xEF (omega arith),
+      ))
       (le-or-lt a 0xEC)
 
   pub due-F0 : a ≡ 0xF0 → rowOf a .after ≡ 0x90 to 0xBF ∷ 0x80 to 0xBF ∷ tail
@@ -178,7 +213,18 @@ module _ (a : ℕ) where
   pub due-4 : 0xF0 ≤ a → a < 0xF5 → (a ≡ 0xF0 → ⊥) → (a ≡ 0xF4 → ⊥) → rowOf a .after ≡ 0x80 to 0xBF ∷ 0x80 to 0xBF ∷ tail
   unfolding if_then_else_ rowOf table
   due-4 g h n m =
-      simp (and-false, past 0x7F (omega arith), past 0xDF (omega arith), past 0xE0 (omega arith), past 0xEC (omega arith), past 0xED (omega arith), past 0xEF (omega arith), past 0xF0 (omega arith), le-leb 0xF1 a (omega arith), le-leb a 0xF3 (omega arith))
+      simp (
+        and-false,
+        past 0x7F (omega arith),
+        past 0xDF (omega arith),
+        past 0xE0 (omega arith),
+        past 0xEC (omega arith),
+        past 0xED (omega arith),
+        past 0xEF (omega arith),
+        past 0xF0 (omega arith),
+        le-leb 0xF1 a (omega arith),
+        le-leb a 0xF3 (omega arith),
+      )
 
 pub record Went (s : List ℕ) (i k : ℕ) : Type 0 where
   pub within-s : i + k ≤ length s
@@ -208,6 +254,9 @@ ascii-run s i zero h l = rw add-zero
 ascii-run s i (suc n) h l =
     let q : i + n + 1 ≡ i + suc n = omega arith in
     ascii-run s i n (omega arith) (λ k g. l k (omega arith)) ∙ one-at s (i + n) (omega arith) (l n (omega arith)) ∙ ap (λ (k : ℕ). fits [] (drop k s)) q
+
+pub block-run : (s : List ℕ) (i m : ℕ) → i + 64 ≤ length s → AtMost s i 64 m → m < 0x80 → fits [] (drop i s) ≡ fits [] (drop (i + 64) s)
+block-run s i m h t l = ascii-run s i 64 h (λ k g. let w = t .each k g in omega arith)
 
 -- a byte shifted by 6 tells whether it starts a character
 pub adds-by : (b : ℕ) → (b / 64 ≡ 2 → ⊥) → adds b ≡ 1

@@ -2,7 +2,7 @@
 -- Then the same from a place on, as the code tests it by blocks.
 -- Assumes nothing.
 use mathlib.Core.Path.{_≡_, refl, ap, sym, _∙_}
-use mathlib.Core.Logic.{_⊎_, ⊎-elim}
+use mathlib.Core.Logic.{⊎-elim}
 use mathlib.Core.Bool.{Bool, true, false, not, _&&_, _||_, or-true, false≢true}
 use mathlib.Core.List.{List, [], _∷_}
 use Prim.Native.Nat.{ℕ, zero, suc, _+_, _-_, _<_, _≤_}
@@ -18,7 +18,8 @@ use Rattle.base.proofs.Choice.{pick, le-or-lt, eq-or-not, and-left, and-right, 
 use Rattle.utf8.specs.Utf8.{Range, _to_, within, rowOf, never, fits, utf8}
 use Rattle.utf8.specs.Neighbours.{asks, low, high, starts, beside, sound}
 use Rattle.utf8.specs.Parts.{AtMost, Ascii, soundAt, Passed, Begun}
-use Rattle.utf8.proofs.Laws.{tail, begins-never, fits-begins, due-1, due-none, due-over, due-2, due-E0, due-ED, due-3, due-F0, due-F4, due-4, ascii-run}
+use Rattle.utf8.proofs.Laws.{tail, begins-never, fits-begins, ascii-run, block-run}
+use Rattle.utf8.proofs.Laws.{due-1, due-none, due-over, due-2, due-E0, due-ED, due-3, due-F0, due-F4, due-4}
 
 module _ (r q p : ℕ) where
   pub asks-none : p < 0xC0 → q < 0xE0 → r < 0xF0 → asks r q p ≡ false
@@ -55,21 +56,8 @@ high-any p m n = rw (ne-eqb p 0xED m, ne-eqb p 0xF4 n)
 any-after : (p : ℕ) → (p ≡ 0xE0 → ⊥) → (p ≡ 0xED → ⊥) → (p ≡ 0xF0 → ⊥) → (p ≡ 0xF4 → ⊥) → 0x80 to 0xBF ≡ low p to high p
 any-after p k l m n = rw (low-any p k m, high-any p l n)
 
-range-E0 : (p : ℕ) → p ≡ 0xE0 → 0xA0 to 0xBF ≡ low p to high p
-unfolding if_then_else_ low high
-range-E0 p e = rw e
-
-range-ED : (p : ℕ) → p ≡ 0xED → 0x80 to 0x9F ≡ low p to high p
-unfolding if_then_else_ low high
-range-ED p e = rw e
-
-range-F0 : (p : ℕ) → p ≡ 0xF0 → 0x90 to 0xBF ≡ low p to high p
-unfolding if_then_else_ low high
-range-F0 p e = rw e
-
-range-F4 : (p : ℕ) → p ≡ 0xF4 → 0x80 to 0x8F ≡ low p to high p
-unfolding if_then_else_ low high
-range-F4 p e = rw e
+after-is : (p k : ℕ) → p ≡ k → low k to high k ≡ low p to high p
+after-is p k e = ap (λ (b : ℕ). low b to high b) (sym e)
 
 low-least : (p : ℕ) → 0x80 ≤ low p
 unfolding low
@@ -136,11 +124,12 @@ module _ (r q p b : ℕ) (s : List ℕ) (n : Due r q p []) (rest : (due : List R
       begins-with (x ∷ tail) e (starts-more b (omega arith) (omega arith)) (two-due q p b x (asks-p q p b (omega arith)) (λ c. asks-q p b c g) h f)
 
   starts-three : 0xE0 ≤ b → b < 0xF0 → fits (rowOf b .after) s ≡ (beside r q p b && sound q p b s)
+  unfolding if_then_else_ low high
   starts-three g h =
-      ⊎-elim (λ (e : b ≡ 0xE0). pair _ (due-E0 b e) (range-E0 b e) g h)
+      ⊎-elim (λ (e : b ≡ 0xE0). pair _ (due-E0 b e) (after-is b 0xE0 e) g h)
       (λ (m : b ≡ 0xE0 → ⊥).
-        ⊎-elim (λ (e : b ≡ 0xED). pair _ (due-ED b e) (range-ED b e) g h)
-        (λ (n : b ≡ 0xED → ⊥). pair _ (due-3 b g h m n) (any-after b m n (λ z. omega arith) (λ z. omega arith)) g h) (eq-or-not b 0xED))
+      ⊎-elim (λ (e : b ≡ 0xED). pair _ (due-ED b e) (after-is b 0xED e) g h)
+      (λ (n : b ≡ 0xED → ⊥). pair _ (due-3 b g h m n) (any-after b m n (λ z. omega arith) (λ z. omega arith)) g h) (eq-or-not b 0xED))
       (eq-or-not b 0xE0)
 
   -- one of four: after 0xF0 and 0xF4
@@ -149,11 +138,12 @@ module _ (r q p b : ℕ) (s : List ℕ) (n : Due r q p []) (rest : (due : List R
   triple x e f g h = begins-with (x ∷ 0x80 to 0xBF ∷ tail) e (starts-more b (omega arith) h) (three-due q p b x g f)
 
   starts-four : 0xF0 ≤ b → b < 0xF5 → fits (rowOf b .after) s ≡ (beside r q p b && sound q p b s)
+  unfolding if_then_else_ low high
   starts-four g h =
-      ⊎-elim (λ (e : b ≡ 0xF0). triple _ (due-F0 b e) (range-F0 b e) g h)
+      ⊎-elim (λ (e : b ≡ 0xF0). triple _ (due-F0 b e) (after-is b 0xF0 e) g h)
       (λ (m : b ≡ 0xF0 → ⊥).
-        ⊎-elim (λ (e : b ≡ 0xF4). triple _ (due-F4 b e) (range-F4 b e) g h)
-        (λ (n : b ≡ 0xF4 → ⊥). triple _ (due-4 b g h m n) (any-after b (λ z. omega arith) (λ z. omega arith) m n) g h) (eq-or-not b 0xF4))
+      ⊎-elim (λ (e : b ≡ 0xF4). triple _ (due-F4 b e) (after-is b 0xF4 e) g h)
+      (λ (n : b ≡ 0xF4 → ⊥). triple _ (due-4 b g h m n) (any-after b (λ z. omega arith) (λ z. omega arith) m n) g h) (eq-or-not b 0xF4))
       (eq-or-not b 0xF0)
 
   -- by the lines of table 3-7
@@ -162,7 +152,7 @@ module _ (r q p b : ℕ) (s : List ℕ) (n : Due r q p []) (rest : (due : List R
       below 0x80 (λ h. begins-with [] (due-1 b h) (starts-ascii b h) (omega (arith, n)))
       (λ i. below 0xC2 (λ h. begins-not (due-none b i h) (starts-none b i h))
       (λ j. below 0xE0
-        (λ h. begins-with tail (due-2 b j h) (starts-more b j (omega arith)) (one-due q p b (asks-p q p b (omega arith)) h (omega (arith, n))))
+      (λ h. begins-with tail (due-2 b j h) (starts-more b j (omega arith)) (one-due q p b (asks-p q p b (omega arith)) h (omega (arith, n))))
       (λ k. below 0xF0 (starts-three k)
       (λ l. below 0xF5 (starts-four l) (λ m. begins-not (due-over b m) (starts-over b m))))))
     where
@@ -287,9 +277,6 @@ module _ (s : List ℕ) (a : ℕ) where
 
 -- ASCII
 module _ (s : List ℕ) where
-  pub ascii-none : Ascii s 0
-  ascii-none = record { room = omega arith; each = λ k h. let z : ⊥ = omega arith in absurd z }
-
   pub ascii-more : (i w m : ℕ) → Ascii s i → i + w ≤ length s → AtMost s i w m → m < 0x80 → Ascii s (i + w)
   ascii-more i w m a h t l = record {
     room = h;
@@ -318,7 +305,7 @@ module _ (s : List ℕ) where
   plain-sound a m h l e f t u =
       let o = asks-not (getD s (a - 3) 0) (getD s (a - 2) 0) (getD s (a - 1) 0) (sym e ∙ f) in
       sym (sound-closed s a (o .2) (o .1) (o .0))
-      ∙ ascii-run s a 64 l (λ k g. let v = t .each k g in omega arith)
+      ∙ block-run s a m l t u
       ∙ sound-closed s (a + 64) (omega (arith, near 3 (omega arith) (omega arith))) (omega (arith, near 2 (omega arith) (omega arith)))
       (omega (arith, near 1 (omega arith) (omega arith)))
     where

@@ -48,7 +48,8 @@ encode-3 u v w a b c d =
     let r : of3 u v w % 64 ≡ w = omega arith in
     simp (le-ltb (of3 u v w) 0x80 (omega arith), le-ltb (of3 u v w) 0x800 a, lt-ltb (of3 u v w) 0x10000 (omega arith), p, q, r)
 
-encode-4 : (u v w z : ℕ) → 0x10000 ≤ of4 u v w z → u < 8 → v < 64 → w < 64 → z < 64 → encode (of4 u v w z) ≡ (0xF0 + u) ∷ (0x80 + v) ∷ (0x80 + w) ∷ (0x80 + z) ∷ []
+encode-4 : (u v w z : ℕ) → 0x10000 ≤ of4 u v w z → u < 8 → v < 64 → w < 64 → z < 64
+    → encode (of4 u v w z) ≡ (0xF0 + u) ∷ (0x80 + v) ∷ (0x80 + w) ∷ (0x80 + z) ∷ []
 unfolding if_then_else_ encode
 encode-4 u v w z a b c d e =
     let p : of4 u v w z / 262144 ≡ u = omega arith in
@@ -125,7 +126,12 @@ step-3 b x y t g h k e l s = record {
   c = of3 (b - 0xE0) (x - 0x80) (y - 0x80);
   rest = t;
   is-scalar = s;
-  bytes = rw (encode-3 (b - 0xE0) (x - 0x80) (y - 0x80) l (omega arith) (omega arith) (omega arith), back 0xE0 b (g .0), back 0x80 x (h .0), back 0x80 y (k .0));
+  bytes = rw (
+    encode-3 (b - 0xE0) (x - 0x80) (y - 0x80) l (omega arith) (omega arith) (omega arith),
+    back 0xE0 b (g .0),
+    back 0x80 x (h .0),
+    back 0x80 y (k .0),
+  );
   read = again _ t;
   is-valid = e;
   shorter = omega arith;
@@ -138,7 +144,13 @@ step-4 b x y z t g h k m e l n = record {
   c = of4 (b - 0xF0) (x - 0x80) (y - 0x80) (z - 0x80);
   rest = t;
   is-scalar = scalar-high _ (omega arith) n;
-  bytes = rw (encode-4 (b - 0xF0) (x - 0x80) (y - 0x80) (z - 0x80) l (omega arith) (omega arith) (omega arith) (omega arith), back 0xF0 b (g .0), back 0x80 x (h .0), back 0x80 y (k .0), back 0x80 z (m .0));
+  bytes = rw (
+    encode-4 (b - 0xF0) (x - 0x80) (y - 0x80) (z - 0x80) l (omega arith) (omega arith) (omega arith) (omega arith),
+    back 0xF0 b (g .0),
+    back 0x80 x (h .0),
+    back 0x80 y (k .0),
+    back 0x80 z (m .0),
+  );
   read = again _ t;
   is-valid = e;
   shorter = omega arith;
@@ -216,19 +228,33 @@ starts b t =
       (
         (λ w. line-2 b t (between b 0xC2 0xDF w)),
         (
-          (λ w. let g = between b 0xE0 0xE0 w in line-3 b 0xA0 0xBF t (omega arith) (λ x y h k. record { in-x = omega arith; least = omega arith; is-scalar = scalar-low _ (omega arith) })),
+          (λ w. let g = between b 0xE0 0xE0 w in
+              line-3 b 0xA0 0xBF t (omega arith)
+              (λ x y h k. record { in-x = omega arith; least = omega arith; is-scalar = scalar-low _ (omega arith) })),
           (
-            (λ w. let g = between b 0xE1 0xEC w in line-3 b 0x80 0xBF t (omega arith) (λ x y h k. record { in-x = omega arith; least = omega arith; is-scalar = scalar-low _ (omega arith) })),
+            (λ w. let g = between b 0xE1 0xEC w in
+                line-3 b 0x80 0xBF t (omega arith)
+                (λ x y h k. record { in-x = omega arith; least = omega arith; is-scalar = scalar-low _ (omega arith) })),
             (
-              (λ w. let g = between b 0xED 0xED w in line-3 b 0x80 0x9F t (omega arith) (λ x y h k. record { in-x = omega arith; least = omega arith; is-scalar = scalar-low _ (omega arith) })),
+              (λ w. let g = between b 0xED 0xED w in
+                  line-3 b 0x80 0x9F t (omega arith)
+                  (λ x y h k. record { in-x = omega arith; least = omega arith; is-scalar = scalar-low _ (omega arith) })),
               (
-                (λ w. let g = between b 0xEE 0xEF w in line-3 b 0x80 0xBF t (omega arith) (λ x y h k. record { in-x = omega arith; least = omega arith; is-scalar = scalar-high _ (omega arith) (omega arith) })),
+                (λ w. let g = between b 0xEE 0xEF w in
+                    line-3 b 0x80 0xBF t (omega arith)
+                    (λ x y h k. record { in-x = omega arith; least = omega arith; is-scalar = scalar-high _ (omega arith) (omega arith) })),
                 (
-                  (λ w. let g = between b 0xF0 0xF0 w in line-4 b 0x90 0xBF t (omega arith) (λ x y z h k l. record { in-x = omega arith; least = omega arith; most = omega arith })),
+                  (λ w. let g = between b 0xF0 0xF0 w in
+                      line-4 b 0x90 0xBF t (omega arith)
+                      (λ x y z h k l. record { in-x = omega arith; least = omega arith; most = omega arith })),
                   (
-                    (λ w. let g = between b 0xF1 0xF3 w in line-4 b 0x80 0xBF t (omega arith) (λ x y z h k l. record { in-x = omega arith; least = omega arith; most = omega arith })),
+                    (λ w. let g = between b 0xF1 0xF3 w in
+                        line-4 b 0x80 0xBF t (omega arith)
+                        (λ x y z h k l. record { in-x = omega arith; least = omega arith; most = omega arith })),
                     (
-                      (λ w. let g = between b 0xF4 0xF4 w in line-4 b 0x80 0x8F t (omega arith) (λ x y z h k l. record { in-x = omega arith; least = omega arith; most = omega arith })),
+                      (λ w. let g = between b 0xF4 0xF4 w in
+                          line-4 b 0x80 0x8F t (omega arith)
+                          (λ x y z h k l. record { in-x = omega arith; least = omega arith; most = omega arith })),
                       (λ e. absurd (false≢true (begins-never t ∙ and-left (begins (never .after) t) _ (sym (fits-begins (never .after) t) ∙ e)))),
                     ),
                   ),
@@ -394,8 +420,8 @@ made-3 u v w lo hi a b c d r k l =
 made-4 : (u v w z lo hi : ℕ) → 0x10000 ≤ of4 u v w z → u < 8 → v < 64 → w < 64 → z < 64 → rowOf (0xF0 + u) .after ≡ lo to hi ∷ tail ∷ tail ∷ []
     → lo ≤ 0x80 + v → 0x80 + v ≤ hi → One (of4 u v w z) (encode (of4 u v w z))
 made-4 u v w z lo hi a b c d e r k l =
-    one-from (of4 u v w z) (of4 (0xF0 + u - 0xF0) (0x80 + v - 0x80) (0x80 + w - 0x80) (0x80 + z - 0x80)) ((0xF0 + u) ∷ (0x80 + v) ∷ (0x80 + w) ∷ (0x80 + z) ∷ [])
-    (encode (of4 u v w z)) (omega arith) (sym (encode-4 u v w z a b c d e))
+    one-from (of4 u v w z) (of4 (0xF0 + u - 0xF0) (0x80 + v - 0x80) (0x80 + w - 0x80) (0x80 + z - 0x80))
+    ((0xF0 + u) ∷ (0x80 + v) ∷ (0x80 + w) ∷ (0x80 + z) ∷ []) (encode (of4 u v w z)) (omega arith) (sym (encode-4 u v w z a b c d e))
     (one-4 (0xF0 + u) (0x80 + v) (0x80 + w) (0x80 + z) lo hi (omega arith) r k l (omega arith) (omega arith) (omega arith) (omega arith))
 
 scalar-cases : (c : ℕ) → scalar c ≡ true → (c < 0xD800) ⊎ ((0xE000 ≤ c) × (c ≤ 0x10FFFF))
@@ -414,7 +440,8 @@ three u v w a b c l h =
     (λ (n : u ≡ 0 → ⊥). ⊎-elim
     (λ (e : u ≡ 13). made-3 u v w 0x80 0x9F l a b c (due-ED (0xE0 + u) (omega arith)) (omega arith)
     (⊎-elim (λ (g : of3 u v w < 0xD800). omega arith) (λ (g : (0xE000 ≤ of3 u v w) × (of3 u v w ≤ 0x10FFFF)). omega arith) h))
-    (λ (m : u ≡ 13 → ⊥). made-3 u v w 0x80 0xBF l a b c (due-3 (0xE0 + u) (omega arith) (omega arith) (λ e. n (omega arith)) (λ e. m (omega arith))) (omega arith) (omega arith))
+    (λ (m : u ≡ 13 → ⊥). made-3 u v w 0x80 0xBF l a b c
+    (due-3 (0xE0 + u) (omega arith) (omega arith) (λ e. n (omega arith)) (λ e. m (omega arith))) (omega arith) (omega arith))
     (eq-or-not u 13))
     (eq-or-not u 0)
 
@@ -423,7 +450,8 @@ four u v w z a b c d l h =
     ⊎-elim (λ (e : u ≡ 0). made-4 u v w z 0x90 0xBF l (omega arith) b c d (due-F0 (0xF0 + u) (omega arith)) (omega arith) (omega arith))
     (λ (n : u ≡ 0 → ⊥). ⊎-elim
     (λ (e : u ≡ 4). made-4 u v w z 0x80 0x8F l (omega arith) b c d (due-F4 (0xF0 + u) (omega arith)) (omega arith) (omega arith))
-    (λ (m : u ≡ 4 → ⊥). made-4 u v w z 0x80 0xBF l (omega arith) b c d (due-4 (0xF0 + u) (omega arith) (omega arith) (λ e. n (omega arith)) (λ e. m (omega arith))) (omega arith) (omega arith))
+    (λ (m : u ≡ 4 → ⊥). made-4 u v w z 0x80 0xBF l (omega arith) b c d
+    (due-4 (0xF0 + u) (omega arith) (omega arith) (λ e. n (omega arith)) (λ e. m (omega arith))) (omega arith) (omega arith))
     (eq-or-not u 4))
     (eq-or-not u 0)
 
@@ -443,7 +471,8 @@ char-one c h =
     subst Single e (three (c / 4096) (c / 64 % 64) (c % 64) (omega arith) (omega arith) (omega arith) (omega arith) (rw e k)))
     (λ (n : 0x10000 ≤ c). let e : of4 (c / 262144) (c / 4096 % 64) (c / 64 % 64) (c % 64) ≡ c = omega arith in
     let o : c ≤ 0x10FFFF = ⊎-elim (λ (g : c < 0xD800). omega arith) (λ (g : (0xE000 ≤ c) × (c ≤ 0x10FFFF)). g .1) k in
-    subst Single e (four (c / 262144) (c / 4096 % 64) (c / 64 % 64) (c % 64) (omega arith) (omega arith) (omega arith) (omega arith) (omega arith) (omega arith)))
+    subst Single e (four (c / 262144) (c / 4096 % 64) (c / 64 % 64) (c % 64) (omega arith) (omega arith) (omega arith) (omega arith)
+    (omega arith) (omega arith)))
     (lt-or-le c 0x10000))
     (lt-or-le c 0x800))
     (lt-or-le c 0x80)

@@ -113,11 +113,15 @@ count-from : (due : List Range) (c : ℕ) (s : List ℕ) → follows due ≡ tru
 count-from [] c [] p e = refl
 count-from (r ∷ due) c [] p e = absurd (false≢true e)
 count-from [] c (x ∷ s) p e =
-    let f = emit-length (rowOf x .after) (x - rowOf x .lead) (decodeFrom (rowOf x .after) (x - rowOf x .lead) s) (characters s) (count-from (rowOf x .after) (x - rowOf x .lead) s (row-follows x) e) in
+    let due = rowOf x .after in
+    let d = x - rowOf x .lead in
+    let f = emit-length due d (decodeFrom due d s) (characters s) (count-from due d s (row-follows x) e) in
     omega (arith, f, start-adds x s e)
 count-from (r ∷ due) c (x ∷ s) p e =
     let w = follow r due x p (and-left (within x r) (fits due s) e) in
-    let f = emit-length due (c * 64 + (x - 0x80)) (decodeFrom due (c * 64 + (x - 0x80)) s) (characters s) (count-from due (c * 64 + (x - 0x80)) s (follows-rest r due p) (and-right (within x r) (fits due s) e)) in
+    let d = c * 64 + (x - 0x80) in
+    let i = count-from due d s (follows-rest r due p) (and-right (within x r) (fits due s) e) in
+    let f = emit-length due d (decodeFrom due d s) (characters s) i in
     omega (arith, f, adds-none x (w .0) (w .1))
 
 pub count-is : (s : List ℕ) → Valid s → characters s ≡ length (decode s)

@@ -1,6 +1,5 @@
 use mathlib.Core.Path.{_≡_}
 use mathlib.Core.Bool.{true}
-use native.Mathlib.Omega.{arith}
 use borrow.Author.Needs.{needs}
 use Rattle.utf8.proofs.Neighbours.{begun-far, begun-first, begun-second, begun-third, begun-on, first, second, third, fault-none, fault-some}
 use Rattle.utf8.proofs.begin.Statement.{statement}
@@ -15,33 +14,39 @@ returns-2 c =
     let s = b .args .s .now in
     begun-first s (b .pre .0) (fault-some (first s) (c .before .fault .ensures) (c .if2 .taken))
 
-first-in : (c : tie.Else2) → first (c .before .before .before .before .before .args .s .now) ≡ true
-first-in c = fault-none (first (c .before .before .before .before .before .args .s .now)) (c .before .fault .ensures) (c .if2 .left)
+-- the start, where the first byte has been tested, and the second
+abbrev start : tie.Else2 → tie.Start
+start c = c .before .before .before .before .before
 
-second-in : (c : tie.Else3) → second (c .before .before .before .before .before .before .before .before .before .args .s .now) ≡ true
-second-in c =
-    fault-none (second (c .before .before .before .before .before .before .before .before .before .args .s .now)) (c .before .fault2 .ensures) (c .if3 .left)
+abbrev tested : tie.Else3 → tie.Else2
+tested c = c .before .before .before .before
+
+first-in : (c : tie.Else2) → first (start c .args .s .now) ≡ true
+first-in c = fault-none (first (start c .args .s .now)) (c .before .fault .ensures) (c .if2 .left)
+
+second-in : (c : tie.Else3) → second (start (tested c) .args .s .now) ≡ true
+second-in c = fault-none (second (start (tested c) .args .s .now)) (c .before .fault2 .ensures) (c .if3 .left)
 
 returns-3 : tie.Need-returns-3
 returns-3 c =
     let e = c .before .before .before .before in
-    let b = e .before .before .before .before .before in
+    let b = start e in
     let s = b .args .s .now in
     begun-second s (b .pre .0) (first-in e) (fault-some (second s) (c .before .fault2 .ensures) (c .if3 .taken))
 
 returns-4 : tie.Need-returns-4
 returns-4 c =
     let f = c .before .before .before .before .before in
-    let e = f .before .before .before .before in
-    let b = e .before .before .before .before .before in
+    let e = tested f in
+    let b = start e in
     let s = b .args .s .now in
     begun-third s (b .pre .0) (first-in e) (second-in f) (fault-some (third s) (c .before .fault3 .ensures) (c .if4 .taken))
 
 returns-5 : tie.Need-returns-5
 returns-5 c =
     let f = c .before .before .before .before .before in
-    let e = f .before .before .before .before in
-    let b = e .before .before .before .before .before in
+    let e = tested f in
+    let b = start e in
     let s = b .args .s .now in
     begun-on s (b .pre .0) (first-in e) (second-in f) (fault-none (third s) (c .before .fault3 .ensures) (c .if4 .left))
 

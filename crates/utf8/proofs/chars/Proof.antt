@@ -31,11 +31,12 @@ returns c =
     let s = v .before .before .args .s .now in
     stop-at s (v .loop .i) (omega arith) (c .before .size .ensures) (c .if2 .taken) ∙ sym (v .loop .inv .1)
 
-step : (c : tie.Else2 Inv-loop μ-loop)
-    → Went (c .before .before .before .before .before .before .before .args .s .now) (c .before .before .before .before .before .loop .i) (c .before .size .result)
-step c =
-    let v = c .before .before .before .before .before in
-    next-at (v .before .before .args .s .now) (v .loop .i) (omega arith) (c .before .size .ensures) (c .if2 .left)
+-- the test of the loop that led to a character of more bytes
+abbrev turn : tie.Else2 Inv-loop μ-loop → tie.At-loop Inv-loop μ-loop
+turn c = c .before .before .before .before .before
+
+step : (c : tie.Else2 Inv-loop μ-loop) → Went (turn c .before .before .args .s .now) (turn c .loop .i) (c .before .size .result)
+step c = next-at (turn c .before .before .args .s .now) (turn c .loop .i) (omega arith) (c .before .size .ensures) (c .if2 .left)
 
 add-i-2 : tie.Need-add-i-2 Inv-loop μ-loop
 add-i-2 c = omega (arith, step c .within-s)
@@ -44,7 +45,7 @@ loop-less-2 : tie.Need-loop-less-2 Inv-loop μ-loop
 loop-less-2 c = omega (arith, step c .within-s)
 
 loop-again-2 : tie.Need-loop-again-2 Inv-loop μ-loop
-loop-again-2 c = (step c .within-s, c .before .before .before .before .before .loop .inv .1 ∙ step c .same)
+loop-again-2 c = (step c .within-s, turn c .loop .inv .1 ∙ step c .same)
 
 returns-2 : tie.Need-returns-2 Inv-loop μ-loop
 returns-2 c =

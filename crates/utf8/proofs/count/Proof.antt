@@ -7,6 +7,8 @@ use Rattle.utf8.specs.Utf8.{characters}
 use Rattle.utf8.proofs.count.Statement.{statement}
 use Rattle.utf8.proofs.count.Tie as tie
 
+-- The invariant: n of the bytes before i start a character.
+-- What falls: the bytes from i on.
 abbrev Inv-loop : tie.InvT-loop
 Inv-loop s n₀ i₀ n i = (i ≤ length s) × (n ≤ i) × (n + characters (drop i s) ≡ characters s)
 

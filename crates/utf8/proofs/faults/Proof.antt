@@ -31,8 +31,7 @@ add-m c = omega (arith, few c)
 loop-again : tie.Need-loop-again Inv-loop μ-loop
 loop-again c =
     let v = c .before .before .before .before .before .before in
-    let b = v .before .before in
-    (
+    let b = v .before .before in (
       omega arith,
       omega (arith, few c),
       passed-more (b .args .s .now) (b .args .a) (v .loop .i) (v .loop .m) (v .loop .inv .2) (b .pre .0) (omega arith) (c .fault .ensures),

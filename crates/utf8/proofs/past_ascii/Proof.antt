@@ -1,6 +1,5 @@
 use Prim.Native.Nat.{_-_}
 use native.Mathlib.Omega.{arith}
-use borrow.Author.Needs.{needs}
 use lib.ListN.{length}
 use Rattle.utf8.specs.Parts.{Ascii}
 use Rattle.utf8.proofs.Neighbours.{ascii-more}

@@ -9,6 +9,8 @@ use Rattle.utf8.proofs.Laws.{count-step, adds-by, adds-not}
 use Rattle.utf8.proofs.some.Statement.{statement}
 use Rattle.utf8.proofs.some.Tie as tie
 
+-- The invariant: n of the bytes from a to i start a character.
+-- What falls: the bytes up to e.
 abbrev Inv-loop : tie.InvT-loop
 Inv-loop s a e n₀ i₀ n i = (a ≤ i) × (i ≤ e) × (n + a ≤ i) × (n + characters (drop i s) ≡ characters (drop a s))
 

@@ -21,8 +21,7 @@ loop-holds c = (omega arith, λ k h. omega arith)
 loop-again : tie.Need-loop-again Inv-loop μ-loop
 loop-again c =
     let a = c .before .before .before .before .args in
-    let v = c .before .before .before .loop in
-    (
+    let v = c .before .before .before .loop in (
       omega arith,
       ⊎-elim (λ w. most-more (a .s .now) (a .a) (v .i) (v .m) (c .if1 .m) (v .inv .1) (omega arith) (omega arith))
           (λ w. most-more (a .s .now) (a .a) (v .i) (v .m) (c .if1 .m) (v .inv .1) (omega arith) (omega arith)) (c .if1 .came),

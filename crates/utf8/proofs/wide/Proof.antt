@@ -1,9 +1,9 @@
 use mathlib.Core.Path.{_≡_, refl, _∙_, ap, sym}
 use mathlib.Core.Logic.{⊎-elim}
 use mathlib.Core.Bool.{not}
+use mathlib.Core.List.{List}
 use Prim.Native.Nat.{ℕ, _≤_, _+_, _-_}
 use native.Mathlib.Omega.{arith}
-use borrow.Author.Needs.{needs}
 use lib.ListN.{length}
 use Rattle.utf8.specs.Utf8.{utf8}
 use Rattle.utf8.specs.Parts.{soundAt}
@@ -54,21 +54,24 @@ returns-3 c =
     let s = c .before .before .before .before .before .before .before .before .args .s .now in
     last-fails s (length s - 32) (omega arith) (omega arith) (c .before .faults2 .ensures .some (c .if5 .taken))
 
--- the last block has been tested, or there was none
-through : (c : tie.Joined4 Inv-loop μ-loop) → utf8 (c .before .before .before .before .before .before .args .s .now)
-    ≡ soundAt (c .before .before .before .before .before .before .args .s .now) (length (c .before .before .before .before .before .before .args .s .now))
+-- the text, where the last block has been tested or there was none
+abbrev text : tie.Joined4 Inv-loop μ-loop → List ℕ
+text c = c .before .before .before .before .before .before .args .s .now
+
+through : (c : tie.Joined4 Inv-loop μ-loop) → utf8 (text c) ≡ soundAt (text c) (length (text c))
 through c =
     let v = c .before .before .loop in
-    let s = c .before .before .before .before .before .before .args .s .now in
+    let s = text c in
     ⊎-elim
     (λ w.
-      let e : length s - 32 + 32 ≡ length s = omega arith in
-      last-passes s (length s - 32) (omega arith) (omega arith) (v .i) (omega arith) (omega arith) (v .inv .2) (w .1 .ensures .all (w .2 .left) ∙ ap (soundAt s) e))
+    let e : length s - 32 + 32 ≡ length s = omega arith in
+    last-passes s (length s - 32) (omega arith) (omega arith) (v .i) (omega arith) (omega arith) (v .inv .2)
+    (w .1 .ensures .all (w .2 .left) ∙ ap (soundAt s) e))
     (λ w. let e : v .i ≡ length s = omega arith in v .inv .2 ∙ ap (soundAt s) e) (c .if4 .came)
 
 returns-4 : tie.Need-returns-4 Inv-loop μ-loop
 returns-4 c =
-    let s = c .before .before .before .before .before .before .before .args .s .now in
+    let s = text (c .before) in
     ap not (c .cut-off .ensures) ∙ sym (through (c .before) ∙ sound-end s (length s) refl)
 
 pub wide-spec : {M : Type 1} → statement M
