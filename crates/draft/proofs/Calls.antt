@@ -12,6 +12,7 @@ use Rattle.base.specs.Choice.{if_then_else_}
 use Rattle.base.specs.Result.{Result, gives, refused, _>>=_, measured}
 use Rattle.base.specs.Stack.{pushed, popped}
 use Rattle.base.proofs.Choice.{if-true, if-false}
+use Rattle.base.proofs.Parts.{part-end}
 use Rattle.base.proofs.Results.{refused-gives, gives-same}
 use Rattle.records.specs.Records.{number, index, size, little}
 use Rattle.records.specs.Stored.{stored, start, end}
@@ -67,17 +68,19 @@ module _ (room : List ℕ) (d : Draft) where
       there : length (drop (d .last) (take (d .length) room)) ≡ d .length - d .last
       there = length-drop (d .last) (take (d .length) room) ∙ ap (λ (n : ℕ). n - d .last) (length-take-le (d .length) room h)
 
-      pub quick-before : (d .length ≡ 0 → ⊥) → d .length < d .last → false ≡ plausible room d
+      -- too little stands there for a record's head
+      pub quick-short : (d .length ≡ 0 → ⊥) → d .length - d .last < 6 → false ≡ plausible room d
       unfolding oneRecord
-      quick-before n b =
+      quick-short n b =
           let y = drop (d .last) (take (d .length) room) in
           sym (if-false true _ (ne-eqb (d .length) 0 n) ∙ ne-eqb (length y) (6 + size y) (λ e. omega (arith, there))) ∙ quick-on
 
-      pub quick-one : {n : ℕ} → (d .length ≡ 0 → ⊥) → n ≡ little (take 4 (drop (d .last) (take (d .length) room)))
+      pub quick-one : {n : ℕ} → (d .length ≡ 0 → ⊥) → n ≡ little (take 4 (take (d .length - d .last) (drop (d .last) room)))
           → eqb (d .length - d .last) (6 + n) ≡ plausible room d
       unfolding oneRecord size
       quick-one n e =
-          ap₂ (λ (i j : ℕ). eqb i (6 + j)) (sym there) e ∙ sym (if-false true _ (ne-eqb (d .length) 0 n)) ∙ quick-on
+          ap₂ (λ (i j : ℕ). eqb i (6 + j)) (sym there) (e ∙ ap (λ (l : List ℕ). little (take 4 l)) (part-end (d .length) (d .last) room))
+          ∙ sym (if-false true _ (ne-eqb (d .length) 0 n)) ∙ quick-on
 
 -- One more record
 

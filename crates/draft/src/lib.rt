@@ -58,7 +58,10 @@ fn plausible(room: &[u8], d: Draft) -> bool
     if length < last {
         return false;
     }
-    length - last == 6 + records::four(&room[..length], last)
+    if length - last < 6 {
+        return false;
+    }
+    length - last == 6 + records::four(&room[last..length], 0)
 }
 
 // The outer word of open blocks after one more.

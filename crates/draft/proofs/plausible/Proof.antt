@@ -2,9 +2,8 @@ use borrow.Author.Needs.{needs}
 use Rattle.draft.proofs.plausible.Statement.{statement}
 use Rattle.draft.proofs.plausible.Tie as tie
 use denote.Ref.{now}
-use mathlib.Core.Path.{sym}
-use lib.Seq.{length-take-le}
-use Rattle.draft.proofs.Calls.{quick-past, quick-long, quick-deep, quick-none, quick-before, quick-one}
+use native.Mathlib.Omega.{arith}
+use Rattle.draft.proofs.Calls.{quick-past, quick-long, quick-deep, quick-none, quick-short, quick-one}
 
 returns : tie.Need-returns
 returns c =
@@ -44,21 +43,25 @@ returns-5 c =
     let if3 = c .before .before .if3 in
     let if4 = c .before .if4 in
     let if5 = c .if5 in
-    quick-before (now (a .room)) (a .d) (if1 .left) (if2 .left) (if3 .left) (if4 .left) (if5 .taken)
-
-slice-aggregate-four : tie.Need-slice-aggregate-four
-slice-aggregate-four c =
-    let a = c .before .before .before .before .before .before .before .before .args in
-    let if1 = c .before .before .before .before .before .before .if1 in
-    sym (length-take-le (a .d .length) (now (a .room)) (if1 .left))
+    quick-short (now (a .room)) (a .d) (if1 .left) (if2 .left) (if3 .left) (if4 .left) (omega (arith, if5 .taken))
 
 returns-6 : tie.Need-returns-6
 returns-6 c =
-    let a = c .before .before .before .before .before .before .before .before .before .args in
-    let if1 = c .before .before .before .before .before .before .before .if1 in
-    let if2 = c .before .before .before .before .before .before .if2 in
-    let if3 = c .before .before .before .before .if3 in
-    let if4 = c .before .before .before .if4 in
+    let a = c .before .before .before .before .before .before .before .before .args in
+    let if1 = c .before .before .before .before .before .before .if1 in
+    let if2 = c .before .before .before .before .before .if2 in
+    let if3 = c .before .before .before .if3 in
+    let if4 = c .before .before .if4 in
+    let if6 = c .if6 in
+    quick-short (now (a .room)) (a .d) (if1 .left) (if2 .left) (if3 .left) (if4 .left) (if6 .taken)
+
+returns-7 : tie.Need-returns-7
+returns-7 c =
+    let a = c .before .before .before .before .before .before .before .before .before .before .args in
+    let if1 = c .before .before .before .before .before .before .before .before .if1 in
+    let if2 = c .before .before .before .before .before .before .before .if2 in
+    let if3 = c .before .before .before .before .before .if3 in
+    let if4 = c .before .before .before .before .if4 in
     let four = c .four in
     quick-one (now (a .room)) (a .d) (if1 .left) (if2 .left) (if3 .left) (if4 .left) (four .ensures .0)
 
@@ -71,7 +74,9 @@ plausible-spec =
     returns-3
     returns-4
     returns-5
-    slice-aggregate-four
+    returns-6
+    (λ c. search needs)
+    (λ c. search needs)
     (λ c κs. search needs)
     (λ c. search needs)
-    returns-6)
+    returns-7)
