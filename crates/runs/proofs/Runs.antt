@@ -1,16 +1,19 @@
 -- Runs of bytes up to the first that passes a test. Assumes nothing.
-use Prim.Native.Nat.{ℕ, _+_, _-_, _≤_, _<_}
+use Prim.Native.Nat.{ℕ, zero, suc, _+_, _-_, _≤_, _<_, min}
 use mathlib.Core.Path.{_≡_, refl, sym, ap, _∙_}
 use mathlib.Core.Bool.{Bool, true, false, _||_, false≢true}
+use mathlib.Core.Logic.{_⊎_, inl, inr, ⊎-elim}
 use mathlib.Core.List.{List, [], _∷_, _++_}
 use lib.Dec.{eqb}
 use lib.ListN.{length, take, drop, getD, length-drop, take-append-drop, length-append}
-use lib.Seq.{length-take-le, take-suc, getD-drop, drop-drop}
+use lib.Seq.{length-take-le, take-suc, getD-drop, getD-take, drop-drop}
+use native.Mathlib.Nat.{le-refl}
 use native.Mathlib.Numerals.{add-one}
 use native.Mathlib.Omega.{arith}
 use Rattle.base.specs.Choice.{if_then_else_}
+use Rattle.base.proofs.Choice.{pick, if-true, if-false, le-or-lt}
 use Rattle.splitter.specs.Split.{before}
-use Rattle.splitter.proofs.Before.{before-stop, before-go, before-none}
+use Rattle.splitter.proofs.Before.{before-stop, before-go, before-none, before-short}
 use Rattle.runs.specs.Runs.{among, any, Reached}
 
 -- A mark
@@ -113,3 +116,58 @@ module _ (stop : ℕ → Bool) where
 
       pub reached-end : length s ≤ to → to ≡ at + length (before stop (drop at s))
       reached-end h = omega (arith, r .ends, ap length (before-none stop s to h))
+
+-- The first that passes, as the least place
+
+module _ (stop : ℕ → Bool) where
+  -- it stands at no place past one that passes
+  first-most : (x : List ℕ) (j : ℕ) → j < length x → stop (getD x j 0) ≡ true → length (before stop x) ≤ j
+  unfolding before
+  first-most [] j h e = absurd (omega arith)
+  first-most (b ∷ x) zero h e = pick (λ (w : List ℕ). length w ≤ 0) (stop b) (λ f. le-refl 0) (λ f. absurd (false≢true (sym f ∙ e)))
+  first-most (b ∷ x) (suc j) h e =
+      pick (λ (w : List ℕ). length w ≤ suc j) (stop b) (λ f. omega arith) (λ f. omega (arith, first-most x j (omega arith) e))
+
+  -- and it passes
+  first-passes : (x : List ℕ) → length (before stop x) < length x → stop (getD x (length (before stop x)) 0) ≡ true
+  unfolding before
+  first-passes [] h = absurd (omega arith)
+  first-passes (b ∷ x) h =
+      pick (λ (w : List ℕ). length w < suc (length x) → stop (getD (b ∷ x) (length w) 0) ≡ true) (stop b) (λ e i. e)
+      (λ e i. first-passes x (omega arith)) h
+
+-- Of the bytes x, of which there are n, those before the place j were looked at, and k is where the first of them that passes stands; n where none
+-- of them does.
+abbrev pub Least : (ℕ → Bool) → List ℕ → ℕ → ℕ → ℕ → Type 0
+Least stop x n j k = ((length (before stop x) < j) × (k ≡ length (before stop x))) ⊎ ((j ≤ length (before stop x)) × (k ≡ n))
+
+module _ (stop : ℕ → Bool) (x : List ℕ) (n : ℕ) where
+  -- one more was looked at
+  pub least-more : length x ≡ n → (j k r : ℕ) → j < n → Least stop x n j k → r ≡ min k (if stop (getD x j 0) then j else n) → Least stop x n (j + 1) r
+  least-more size j k r h l e = go (stop (getD x j 0)) refl
+    where
+      go : (t : Bool) → stop (getD x j 0) ≡ t → Least stop x n (j + 1) r
+      go true f =
+          let g : r ≡ min k j = e ∙ ap (min k) (if-true _ _ f) in
+          let m = first-most stop x j (omega arith) f in
+          ⊎-elim (λ (p : (length (before stop x) < j) × (k ≡ length (before stop x))). inl (omega (arith, p .0), omega (arith, p .0, p .1)))
+          (λ (p : (j ≤ length (before stop x)) × (k ≡ n)). inl (omega (arith, p .0), omega (arith, p .0, p .1))) l
+      go false f =
+          let g : r ≡ min k n = e ∙ ap (min k) (if-false _ _ f) in
+          let m = before-short stop x in
+          let other : length (before stop x) ≡ j → ⊥ = λ q.
+          false≢true (sym f ∙ ap (λ (i : ℕ). stop (getD x i 0)) (sym q) ∙ first-passes stop x (omega (arith, q))) in
+          ⊎-elim (λ (p : (length (before stop x) < j) × (k ≡ length (before stop x))). inl (omega (arith, p .0), omega (arith, p .0, p .1)))
+          (λ (p : (j ≤ length (before stop x)) × (k ≡ n)).
+          ⊎-elim (λ (q : length (before stop x) ≤ j). absurd (other (omega (arith, p .0)))) (λ (q : j < length (before stop x)).
+          inr (omega arith, omega (arith, p .1))) (le-or-lt (length (before stop x)) j)) l
+
+  -- all were
+  pub least-all : length x ≡ n → (j k : ℕ) → n ≤ j → Least stop x n j k → k ≡ length (before stop x)
+  least-all size j k h l =
+      ⊎-elim (λ (p : (length (before stop x) < j) × (k ≡ length (before stop x))). p .1)
+      (λ (p : (j ≤ length (before stop x)) × (k ≡ n)). omega (arith, p .0, p .1, before-short stop x)) l
+
+-- a byte of a block, by its place in all
+pub block-byte : (s : List ℕ) (at n j i : ℕ) → i ≡ j → j < n → getD (take n (drop at s)) j 0 ≡ getD s (at + i) 0
+block-byte s at n j i e h = getD-take n (drop at s) j 0 h ∙ getD-drop at s j 0 ∙ ap (λ (k : ℕ). getD s (at + k) 0) (sym e)

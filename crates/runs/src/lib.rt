@@ -1,8 +1,8 @@
-// Where a run of bytes ends that goes out as it stands: at the first of four bytes. Sixteen bytes are tested at a time, by a loop of a fixed
+// Where a run of bytes ends that goes out as it stands: at the first of four bytes. Blocks of bytes are tested at a time, by loops of a fixed
 // number of turns without a way out, which a compiler turns into one test of all.
 ghost use mathlib.Core.Path.{_≡_};
-ghost use Prim.Native.Nat.{_+_, _≤_};
-ghost use lib.Dec.{eqb};
+ghost use Prim.Native.Nat.{_+_, _≤_, min as minOf};
+ghost use lib.Dec.{eqb, leb};
 ghost use lib.ListN.{length, take, drop};
 ghost use Rattle.base.specs.Choice.{if_then_else_ as choose};
 ghost use Rattle.splitter.specs.Split.{before};
@@ -49,6 +49,26 @@ fn marked(s: &[u8], at: usize, a: u8, b: u8, c: u8, d: u8) -> bool
     m == 1
 }
 
+// A place where something was found, or else one past all 32.
+fn place_if(found: bool, j: u8) -> u8
+    ensures { λ r. ⌜ r ≡ choose found j 32 ⌝ }
+{
+    if found {
+        return j;
+    }
+    32
+}
+
+// The lesser of two places.
+fn lesser(j: u8, k: u8) -> u8
+    ensures { λ r. ⌜ r ≡ minOf j k ⌝ }
+{
+    if k < j {
+        return k;
+    }
+    j
+}
+
 // How far on from a place there are whole blocks of 16 bytes that hold none of the four.
 fn whole_blocks(s: &[u8], at: usize, a: u8, b: u8, c: u8, d: u8) -> usize
     requires { ⌜ at ≤ length (now s) ⌝ }
@@ -83,4 +103,32 @@ pub fn run_end(s: &[u8], at: usize, a: u8, b: u8, c: u8, d: u8) -> usize
         i += 1;
     }
     i
+}
+
+// Where the first of four bytes stands among the 32 at a place; 32 where none does. No branch hangs on a byte: the least place is kept.
+fn least_place(s: &[u8], at: usize, a: u8, b: u8, c: u8, d: u8) -> usize
+    requires { ⌜ at + 32 ≤ length (now s) ⌝ }
+    ensures { λ r. ⌜ r ≡ length (before (among a b c d) (take 32 (drop at (now (s .entry))))) ⌝ }
+{
+    let mut k: u8 = 32;
+    let mut j: u8 = 0;
+    while j < 32 {
+        let found = is_among(s[at + base::usize_from(j)], a, b, c, d);
+        k = lesser(k, place_if(found, j));
+        j += 1;
+    }
+    base::usize_from(k)
+}
+
+// Where the first of four bytes stands among the 32 at a place, 32 where none does; 0 where there are not 32.
+pub fn first_of(s: &[u8], at: usize, a: u8, b: u8, c: u8, d: u8) -> usize
+    ensures { λ r. ⌜ r ≡ choose (leb (at + 32) (length (now (s .entry)))) (length (before (among a b c d) (take 32 (drop at (now (s .entry)))))) 0 ⌝ }
+{
+    if s.len() <= at {
+        return 0;
+    }
+    if s.len() - at < 32 {
+        return 0;
+    }
+    least_place(s, at, a, b, c, d)
 }

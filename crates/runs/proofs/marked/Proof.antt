@@ -1,4 +1,5 @@
--- The loop's invariant: the mark tells whether one of the four is among the first `i` of the bytes. How many of the 16 are left falls.
+-- Invariant: the mark tells whether one of the four is among the first i of the bytes.
+-- What falls: how many of the 16 are left.
 use mathlib.Core.Path.{_≡_, subst}
 use Prim.Native.Nat.{ℕ, _-_, _≤_}
 use native.Mathlib.Omega.{arith}
@@ -25,8 +26,8 @@ loop-again c =
     let a = c .before .before .before .before .before .args in
     let l = c .before .before .before .loop in (
       omega arith,
-      marked-more (among (a .a) (a .b) (a .c) (a .d)) (now (a .s)) (a .at) (l .i) (l .m) _ (omega (arith, c .before .before .before .before .before .pre)) (l .inv .1)
-          (c .mark-among .ensures),
+      marked-more (among (a .a) (a .b) (a .c) (a .d)) (now (a .s)) (a .at) (l .i) (l .m) _
+          (omega (arith, c .before .before .before .before .before .pre)) (l .inv .1) (c .mark-among .ensures),
     )
 
 returns : tie.Need-returns Inv-loop μ-loop
