@@ -5,6 +5,7 @@ ghost use mathlib.Core.List.{List, _++_};
 ghost use Prim.Native.Nat.{ℕ, _≤_};
 ghost use lib.Dec.{ltb};
 ghost use lib.ListN.{length, drop};
+ghost use Rattle.base.specs.Bytes.{part};
 ghost use Rattle.base.specs.Result.{_>>=_ as bind, measured};
 ghost use Rattle.utf8.specs.Utf8.{utf8};
 ghost use Rattle.upper.specs.Upper.{upper};
@@ -312,12 +313,12 @@ fn put_subsection(room: &mut [u8], m: Mark, style: Style) -> Mark
     }
 }
 
-// Text that is not captured.
-fn put_text(room: &mut [u8], m: Mark, style: Style, bytes: &[u8]) -> Mark
-    ensures { λ r. ⌜ Pushed (subsection style ++ text (m .strip) (fontOf style) (now (bytes .entry))) (now (room .entry)) m (now (room .exit)) r ⌝ }
+// The text between two places of a document, which is not captured.
+fn put_text(room: &mut [u8], m: Mark, style: Style, document: &[u8], from: usize, to: usize) -> Mark
+    ensures { λ r. ⌜ Pushed (subsection style ++ text (m .strip) (fontOf style) (part (now (document .entry)) from to)) (now (room .entry)) m (now (room .exit)) r ⌝ }
 {
     let a = put_subsection(room, m, style);
-    roff::text(room, a, font_of(style), bytes)
+    roff::text(room, a, font_of(style), document, from, to)
 }
 
 // `Token::BlockStart`. The walk starts capture at a heading, and refuses TermRef before it comes here.
@@ -332,21 +333,40 @@ fn started(room: &mut [u8], m: Mark, b: Block) -> Mark
     }
 }
 
-// `Token::BlockEnd` at a place, where the text from `from` on is captured. TermRef is refused before.
-fn ended(room: &mut [u8], m: Mark, b: Block, document: &[u8], from: usize, at: usize) -> Mark
-    requires { ⌜ (at ≤ length (now document)) × (textsValid (tokensFrom (now document) from) ≡ true) ⌝ }
+// The end of a heading at a place, where the text from `from` on is captured.
+fn headed(room: &mut [u8], m: Mark, b: Block, document: &[u8], from: usize, at: usize) -> Mark
+    requires { ⌜ (isHeading b ≡ true) × (at ≤ length (now document)) × (textsValid (tokensFrom (now document) from) ≡ true) ⌝ }
     ensures { λ r. ⌜ ((p : ℕ) (capture : Bool) → Follows (ended p b (locals m (between (now (document .entry)) from at) capture)) (now (room .entry)) m (now (room .exit)) r) ⌝ }
 {
     match b {
         Block::Header => control(room, m, b"SH", document, from, at),
-        Block::Section2 | Block::Section3 | Block::Section4 => {
-            control(room, m, b"SS", document, from, at)
-        }
+        _ => control(room, m, b"SS", document, from, at),
+    }
+}
+
+// The end of a block that is no heading; the text that is captured does not matter.
+fn left(room: &mut [u8], m: Mark, b: Block) -> Mark
+    requires { ⌜ isHeading b ≡ false ⌝ }
+    ensures { λ r. ⌜ ((p : ℕ) (kept : List ℕ) (capture : Bool) → Follows (ended p b (locals m kept capture)) (now (room .entry)) m (now (room .exit)) r) ⌝ }
+{
+    match b {
         Block::ItemTerm => roff::strip_newlines(roff::roff_linebreak(room, m), false),
         Block::ItemBody => roff::strip_newlines(roff::control0(room, m, b"PP"), false),
         Block::Meta => roff::control0(room, m, b"fi"),
         _ => m,
     }
+}
+
+// `Token::BlockEnd` at a place, where the text from `from` on is captured. TermRef is refused before. Headings, which are few, stand apart: the
+// others then need nothing of the document at hand.
+fn ended(room: &mut [u8], m: Mark, b: Block, document: &[u8], from: usize, at: usize) -> Mark
+    requires { ⌜ (at ≤ length (now document)) × (textsValid (tokensFrom (now document) from) ≡ true) ⌝ }
+    ensures { λ r. ⌜ ((p : ℕ) (capture : Bool) → Follows (ended p b (locals m (between (now (document .entry)) from at) capture)) (now (room .entry)) m (now (room .exit)) r) ⌝ }
+{
+    if is_heading(b) {
+        return headed(room, m, b, document, from, at);
+    }
+    left(room, m, b)
 }
 
 // Whether text is captured after a block's start.
@@ -393,7 +413,7 @@ fn walk(document: &[u8], room: &mut [u8]) -> Rendered
         match kind {
             Kind::Text(style) => {
                 if !capture {
-                    m = put_text(room, m, style, &document[start..stop]);
+                    m = put_text(room, m, style, document, start, stop);
                 }
             }
             Kind::Start(b) => {

@@ -1,9 +1,10 @@
 -- Bytes in a mode, as the code writes them one by one. Assumes nothing.
-use Prim.Native.Nat.{ℕ, _+_, _≤_, _<_}
+use Prim.Native.Nat.{ℕ, zero, suc, _+_, _≤_, _<_}
 use mathlib.Core.Path.{_≡_, refl, sym, ap, _∙_}
-use mathlib.Core.Bool.{Bool, true, false}
+use mathlib.Core.Bool.{Bool, true, false, false≢true}
 use mathlib.Core.Logic.{_⊎_, inl, inr, ⊎-elim}
 use mathlib.Core.List.{List, [], _∷_, _++_, append-assoc, append-nil}
+use lib.Dec.{eqb}
 use lib.ListN.{length, take, drop, getD}
 use lib.Seq.{length-take-le, drop-cons}
 use native.Mathlib.Numerals.{add-one}
@@ -17,7 +18,9 @@ use Rattle.utf8.specs.Utf8.{encode, bytes}
 use Rattle.room.specs.Room.{seen, extended}
 use Rattle.room.proofs.Laws.{seen-in, seen-out, extended-in, extended-twice}
 use Rattle.roff_escape.specs.declared.escape.Escape.{Escape}
-use Rattle.roff_escape.specs.Escape.{guard, backslash, replaced, spacesByte, escapeByte, startsLine, escape, lineStart}
+use Rattle.roff_escape.specs.Escape.{unescapedAtNewline, spaces, special, specialNoNewline, unescaped, guard, backslash, replaced, spacesByte}
+use Rattle.roff_escape.specs.Escape.{escapeByte, startsLine, escape, lineStart}
+use Rattle.roff_escape.specs.Parts.{asItIs}
 
 -- Writes
 
@@ -107,6 +110,46 @@ module _ (mode : Escape) where
   unfolding lineStart
   line-append start [] y = refl
   line-append start (c ∷ x) y = line-append (startsLine mode c) x y
+
+-- in a mode in which every byte stays as it is
+as-is-byte : (mode : Escape) → asItIs mode ≡ true → (start : Bool) (c : ℕ) → escapeByte mode start c ≡ c ∷ []
+unfolding escapeByte
+as-is-byte unescapedAtNewline h start c = refl
+as-is-byte spaces h start c = absurd (false≢true h)
+as-is-byte special h start c = absurd (false≢true h)
+as-is-byte specialNoNewline h start c = absurd (false≢true h)
+as-is-byte unescaped h start c = refl
+
+pub as-is-escape : (mode : Escape) → asItIs mode ≡ true → (start : Bool) (x : List ℕ) → escape mode start x ≡ x
+unfolding escape
+as-is-escape mode h start [] = refl
+as-is-escape mode h start (c ∷ x) = rw (as-is-byte mode h start c) (ap (λ (y : List ℕ). c ∷ y) (as-is-escape mode h (startsLine mode c) x))
+
+as-is-starts : (mode : Escape) → asItIs mode ≡ true → (c : ℕ) → startsLine mode c ≡ startsLine unescaped c
+as-is-starts unescapedAtNewline h c = refl
+as-is-starts spaces h c = absurd (false≢true h)
+as-is-starts special h c = absurd (false≢true h)
+as-is-starts specialNoNewline h c = absurd (false≢true h)
+as-is-starts unescaped h c = refl
+
+pub as-is-line : (mode : Escape) → asItIs mode ≡ true → (start : Bool) (x : List ℕ) → lineStart mode start x ≡ lineStart unescaped start x
+unfolding lineStart
+as-is-line mode h start [] = refl
+as-is-line mode h start (c ∷ x) = rw (as-is-starts mode h c) (as-is-line mode h (startsLine unescaped c) x)
+
+-- whether a line starts after such bytes: as before none, and else by the last
+pub line-none : (start : Bool) (x : List ℕ) → length x ≡ 0 → start ≡ lineStart unescaped start x
+unfolding lineStart
+line-none start [] e = refl
+line-none start (c ∷ x) e = absurd (omega arith)
+
+pub line-last : (start : Bool) (x : List ℕ) (k : ℕ) → length x ≡ suc k → eqb (getD x k 0) 0x0A ≡ lineStart unescaped start x
+unfolding lineStart
+line-last start [] k e = absurd (omega arith)
+line-last start (c ∷ []) zero e = refl
+line-last start (c ∷ []) (suc k) e = absurd (omega arith)
+line-last start (c ∷ d ∷ x) zero e = absurd (omega arith)
+line-last start (c ∷ d ∷ x) (suc k) e = line-last (eqb c 0x0A) (d ∷ x) k (omega arith)
 
 -- Of a text x, which goes after the first `len` bytes of a room, y is left: what stands in the room up to n, and y escaped, is x escaped.
 pub record Escaped (mode : Escape) (start : Bool) (x old : List ℕ) (len : ℕ) (new : List ℕ) (n : ℕ) (fresh : Bool) (y : List ℕ) : Type 0 where

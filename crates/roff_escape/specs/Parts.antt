@@ -6,6 +6,7 @@ use mathlib.Core.List.{List, [], _∷_, _++_}
 use lib.Dec.{eqb}
 use lib.ListN.{length, take}
 use Rattle.base.specs.Bytes.{part}
+use Rattle.base.specs.Choice.{if_then_else_}
 use Rattle.base.specs.Result.{_>>=_}
 use Rattle.utf8.specs.Utf8.{bytes}
 use Rattle.room.specs.Room.{seen, extended}
@@ -13,6 +14,18 @@ use Rattle.roff_escape.specs.declared.escape.Escape.{Escape}
 use Rattle.roff_escape.specs.declared.roff.Mark.{Mark}
 use Rattle.roff_escape.specs.Escape.{unescapedAtNewline, spaces, special, specialNoNewline, unescaped}
 use Rattle.roff_escape.specs.Monoid.{Piece, piece, escapeAll, lineAfter}
+
+-- the mode of text, where line ends are stripped from it or not
+abbrev pub textMode : Bool → Escape
+textMode strip = if strip then specialNoNewline else special
+
+-- the modes in which every byte stays as it is
+abbrev pub asItIs : Escape → Bool
+asItIs unescapedAtNewline = true
+asItIs spaces = false
+asItIs special = false
+asItIs specialNoNewline = false
+asItIs unescaped = true
 
 -- a byte that text leaves as it is anywhere but at the start of a line
 unfoldable pub plain : ℕ → Bool
@@ -22,15 +35,6 @@ plain c = not (eqb c 0x0A || eqb c 0x27 || eqb c 0x2D || eqb c 0x5C)
 unfoldable pub allPlain : List ℕ → Bool
 allPlain [] = true
 allPlain (c ∷ x) = plain c && allPlain x
-
--- plain bytes stay as they are here: in text, and not at the start of a line
-abbrev pub plainHere : Escape → Bool → Bool
-plainHere mode true = false
-plainHere unescapedAtNewline false = false
-plainHere spaces false = false
-plainHere special false = true
-plainHere specialNoNewline false = true
-plainHere unescaped false = false
 
 -- The bytes of x from `at` up to `to`, all plain, were copied after the first `len` bytes of a room, which stay; where there are any, they fit.
 pub record Copies (x : List ℕ) (at len : ℕ) (old new : List ℕ) (to : ℕ) : Type 0 where

@@ -1,10 +1,16 @@
 // Escape bytes by roff's rules, into a lent room (src/buffer/manpage/escape.rs).
 ghost use mathlib.Core.Path.{_≡_};
-ghost use lib.ListN.{length};
+ghost use mathlib.Core.Bool.{not, _&&_};
+ghost use Prim.Native.Nat.{_+_, _≤_};
+ghost use lib.ListN.{length, take, drop};
+ghost use Rattle.base.specs.Bytes.{part, overwritten};
+ghost use Rattle.base.specs.Choice.{if_then_else_ as choose};
 ghost use Rattle.base.specs.Result.{_>>=_ as bind};
 ghost use Rattle.room.specs.Room.{seen, extended};
+ghost use Rattle.splitter.specs.Split.{before};
+ghost use Rattle.runs.specs.Runs.{among};
 ghost use Rattle.roff_escape.specs.Escape.{guard, backslash, replaced, specialByte, spacesByte, escapeByte, startsLine, escape, lineStart};
-ghost use Rattle.roff_escape.specs.Parts.{plain, plainHere, Copies};
+ghost use Rattle.roff_escape.specs.Parts.{textMode, plain, Copies};
 
 // Escaping rules.
 pub enum Escape {
@@ -134,29 +140,37 @@ fn is_plain(c: u8) -> bool
     }
 }
 
-// Whether plain bytes stay as they are here: in text, and not at the start of a line.
-fn plain_here(mode: Escape, fresh: bool) -> bool
-    ensures { λ r. ⌜ r ≡ plainHere mode fresh ⌝ }
+// Whether a byte of text stays as it is: a plain one, not at the start of a line.
+fn plain_here(fresh: bool, c: u8) -> bool
+    ensures { λ r. ⌜ r ≡ (not fresh && plain c) ⌝ }
 {
     if fresh {
         return false;
     }
-    match mode {
-        Escape::UnescapedAtNewline => false,
-        Escape::Spaces => false,
-        Escape::Special => true,
-        Escape::SpecialNoNewline => true,
-        Escape::Unescaped => false,
-    }
+    is_plain(c)
 }
 
-// Copies the plain bytes from a place on, as many as fit; says where it stopped.
-fn copy_plain(room: &mut [u8], len: usize, bytes: &[u8], at: usize) -> usize
-    ensures { λ r. ⌜ Copies (now (bytes .entry)) at len (now (room .entry)) (now (room .exit)) r ⌝ }
+// Copies 32 bytes; says how many of them are before the first that is not plain. A local block stands between, since a compiler cannot tell
+// that the two places do not overlap.
+fn copy_block(room: &mut [u8], len: usize, bytes: &[u8], at: usize) -> usize
+    requires { ⌜ (at + 32 ≤ length (now bytes)) × (len + 32 ≤ length (now room)) ⌝ }
+    ensures text { λ _. ⌜ now (room .exit) ≡ overwritten (now (room .entry)) len (take 32 (drop at (now (bytes .entry)))) ⌝ }
+    ensures plain { λ r. ⌜ r ≡ length (before (among 0x0A 0x27 0x2D 0x5C) (take 32 (drop at (now (bytes .entry))))) ⌝ }
+{
+    let mut block: [u8; 32] = [0; 32];
+    base::copy_from_slice(&mut block, 0, &bytes[at..at + 32]);
+    base::copy_from_slice(room, len, &block);
+    runs::first_of(bytes, at, b'\n', b'\'', b'-', b'\\')
+}
+
+// Copies the plain bytes from a place up to another one by one, as many as fit; says where it stopped.
+fn copy_bytes(room: &mut [u8], len: usize, bytes: &[u8], at: usize, stop: usize) -> usize
+    requires { ⌜ stop ≤ length (now bytes) ⌝ }
+    ensures { λ r. ⌜ Copies (take stop (now (bytes .entry))) at len (now (room .entry)) (now (room .exit)) r ⌝ }
 {
     let mut i = at;
     let mut n = len;
-    while i < bytes.len() {
+    while i < stop {
         let c = bytes[i];
         if !is_plain(c) {
             return i;
@@ -171,26 +185,96 @@ fn copy_plain(room: &mut [u8], len: usize, bytes: &[u8], at: usize) -> usize
     i
 }
 
-// Some bytes of text, as `escape_bytes` writes them; most are plain, and those are copied by runs.
-pub fn escape_text(room: &mut [u8], len: usize, mode: Escape, start: bool, bytes: &[u8]) -> Line
-    ensures text { λ r. ⌜ seen (now (room .exit)) (r .len) ≡ bind (seen (now (room .entry)) len) (extended (length (now (room .entry))) (escape mode start (now (bytes .entry)))) ⌝ }
-    ensures line { λ r. ⌜ r .fresh ≡ lineStart mode start (now (bytes .entry)) ⌝ }
+// Copies the plain bytes from a place up to another, as many as fit; says where it stopped. Whole blocks are copied, also where the run ends
+// within one: what stands in the room past the length is free.
+fn copy_plain(room: &mut [u8], len: usize, bytes: &[u8], at: usize, stop: usize) -> usize
+    requires { ⌜ stop ≤ length (now bytes) ⌝ }
+    ensures { λ r. ⌜ Copies (take stop (now (bytes .entry))) at len (now (room .entry)) (now (room .exit)) r ⌝ }
 {
+    let mut i = at;
+    let mut n = len;
+    while i < stop {
+        if room.len() <= n {
+            return i;
+        }
+        if room.len() - n < 32 {
+            return copy_bytes(room, n, bytes, i, stop);
+        }
+        if bytes.len() - i < 32 {
+            return copy_bytes(room, n, bytes, i, stop);
+        }
+        let k = copy_block(room, n, bytes, i);
+        if stop - i <= k {
+            return stop;
+        }
+        i += k;
+        n += k;
+        if k < 32 {
+            return i;
+        }
+    }
+    i
+}
+
+// What a line end of text becomes: a space where line ends are stripped.
+fn line_byte(strip: bool) -> u8
+    ensures { λ r. ⌜ r ≡ choose strip 0x20 0x0A ⌝ }
+{
+    if strip {
+        return b' ';
+    }
+    b'\n'
+}
+
+// A byte of text, where line ends are stripped or not. Most that are not plain are hyphens.
+fn put_text_byte(room: &mut [u8], len: usize, strip: bool, start: bool, c: u8) -> usize
+    ensures { λ r. ⌜ seen (now (room .exit)) r ≡ bind (seen (now (room .entry)) len) (extended (length (now (room .entry))) (escapeByte (textMode strip) start c)) ⌝ }
+{
+    if c == b'-' {
+        return room::put_all(room, len, b"\\-");
+    }
+    put_special(room, len, line_byte(strip), start, c)
+}
+
+// Whether the byte of text after this one counts as the first of a line.
+fn starts_text_line(strip: bool, c: u8) -> bool
+    ensures { λ r. ⌜ r ≡ startsLine (textMode strip) c ⌝ }
+{
+    if strip {
+        return false;
+    }
+    c == b'\n'
+}
+
+// The bytes of a text from a place up to another, as `escape_bytes` writes them; most are plain, and those are copied by runs.
+pub fn escape_text(
+    room: &mut [u8],
+    len: usize,
+    strip: bool,
+    start: bool,
+    bytes: &[u8],
+    from: usize,
+    to: usize,
+) -> Line
+    ensures text { λ r. ⌜ seen (now (room .exit)) (r .len) ≡ bind (seen (now (room .entry)) len) (extended (length (now (room .entry))) (escape (textMode strip) start (part (now (bytes .entry)) from to))) ⌝ }
+    ensures line { λ r. ⌜ r .fresh ≡ lineStart (textMode strip) start (part (now (bytes .entry)) from to) ⌝ }
+{
+    let stop = base::min(to, bytes.len());
     let mut n = len;
     let mut fresh = start;
-    let mut i: usize = 0;
-    while i < bytes.len() {
-        if plain_here(mode, fresh) {
-            let k = copy_plain(room, n, bytes, i);
+    let mut i = from;
+    while i < stop {
+        if plain_here(fresh, bytes[i]) {
+            let k = copy_plain(room, n, bytes, i, stop);
             n += k - i;
             i = k;
-            if bytes.len() <= i {
+            if stop <= i {
                 return Line { len: n, fresh };
             }
         }
         let c = bytes[i];
-        n = put_byte(room, n, mode, fresh, c);
-        fresh = starts_line(mode, c);
+        n = put_text_byte(room, n, strip, fresh, c);
+        fresh = starts_text_line(strip, c);
         i += 1;
     }
     Line { len: n, fresh }

@@ -3,6 +3,7 @@ ghost use mathlib.Core.Path.{_≡_};
 ghost use mathlib.Core.Bool.{true, false};
 ghost use mathlib.Core.List.{[], _∷_};
 ghost use lib.ListN.{length};
+ghost use Rattle.base.specs.Bytes.{part};
 ghost use Rattle.room.specs.Room.{seen, extended};
 ghost use Rattle.roff_escape.specs.Escape.{unescaped, preamble};
 ghost use Rattle.roff_escape.specs.Monoid.{piece};
@@ -88,26 +89,30 @@ pub fn control0(room: &mut [u8], m: Mark, name: &[u8]) -> Mark
     roff_linebreak(room, a)
 }
 
+// The letter of a font in its escape.
+fn letter(font: Font) -> u8
+    ensures { λ r. ⌜ fontEscape font ≡ 0x5C ∷ 0x66 ∷ r ∷ [] ⌝ }
+{
+    match font {
+        Font::Roman => b'R',
+        Font::Bold => b'B',
+        Font::Italic => b'I',
+    }
+}
+
 // `Font::escape`, pushed.
 fn put_font(room: &mut [u8], m: Mark, font: Font) -> Mark
     ensures { λ r. ⌜ Pushed (piece unescaped (fontEscape font) ∷ []) (now (room .entry)) m (now (room .exit)) r ⌝ }
 {
-    match font {
-        Font::Roman => push(room, m, Escape::Unescaped, b"\\fR"),
-        Font::Bold => push(room, m, Escape::Unescaped, b"\\fB"),
-        Font::Italic => push(room, m, Escape::Unescaped, b"\\fI"),
-    }
+    let mark: [u8; 3] = [b'\\', b'f', letter(font)];
+    push(room, m, Escape::Unescaped, &mark)
 }
 
-// Text with special bytes escaped.
-fn plaintext(room: &mut [u8], m: Mark, bytes: &[u8]) -> Mark
-    ensures { λ r. ⌜ Pushed (plaintext (m .strip) (now (bytes .entry)) ∷ []) (now (room .entry)) m (now (room .exit)) r ⌝ }
+// The bytes of a text from a place up to another, with special bytes escaped.
+fn plaintext(room: &mut [u8], m: Mark, bytes: &[u8], from: usize, to: usize) -> Mark
+    ensures { λ r. ⌜ Pushed (plaintext (m .strip) (part (now (bytes .entry)) from to) ∷ []) (now (room .entry)) m (now (room .exit)) r ⌝ }
 {
-    let mut mode = Escape::Special;
-    if m.strip {
-        mode = Escape::SpecialNoNewline;
-    }
-    let line = crate::escape::escape_text(room, m.len, mode, m.fresh, bytes);
+    let line = crate::escape::escape_text(room, m.len, m.strip, m.fresh, bytes, from, to);
     Mark {
         len: line.len,
         fresh: line.fresh,
@@ -115,11 +120,11 @@ fn plaintext(room: &mut [u8], m: Mark, bytes: &[u8]) -> Mark
     }
 }
 
-// Text in a font.
-pub fn text(room: &mut [u8], m: Mark, font: Font, bytes: &[u8]) -> Mark
-    ensures { λ r. ⌜ Pushed (text (m .strip) font (now (bytes .entry))) (now (room .entry)) m (now (room .exit)) r ⌝ }
+// The bytes of a text from a place up to another, in a font. More of the text is read than goes out, in blocks: so it comes whole.
+pub fn text(room: &mut [u8], m: Mark, font: Font, bytes: &[u8], from: usize, to: usize) -> Mark
+    ensures { λ r. ⌜ Pushed (text (m .strip) font (part (now (bytes .entry)) from to)) (now (room .entry)) m (now (room .exit)) r ⌝ }
 {
     let a = put_font(room, m, font);
-    let b = plaintext(room, a, bytes);
+    let b = plaintext(room, a, bytes, from, to);
     push(room, b, Escape::Unescaped, b"\\fP")
 }

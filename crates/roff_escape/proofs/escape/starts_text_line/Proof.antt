@@ -1,0 +1,15 @@
+use mathlib.Core.Path.{sym, ap, refl, _∙_}
+use Rattle.base.proofs.Choice.{if-true, if-false}
+use Rattle.roff_escape.specs.declared.escape.Escape.{Escape}
+use Rattle.roff_escape.specs.Escape.{startsLine}
+use Rattle.roff_escape.proofs.escape.starts_text_line.Statement.{statement}
+use Rattle.roff_escape.proofs.escape.starts_text_line.Tie as tie
+
+returns : tie.Need-returns
+returns c = let a = c .before .args in ap (λ (m : Escape). startsLine m (a .c)) (sym (if-true _ _ (c .if1 .taken)))
+
+returns-2 : tie.Need-returns-2
+returns-2 c = let a = c .before .args in ap (λ (m : Escape). startsLine m (a .c)) (sym (if-false _ _ (c .if1 .left)))
+
+pub starts-text-line-spec : {M : Type 1} → statement M
+starts-text-line-spec = tie.close (tie.spec returns returns-2)
