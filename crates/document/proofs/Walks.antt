@@ -166,22 +166,26 @@ accepted-at-0 document x e = open-at-0 document [] (check-gives document x e .1)
 pub open-done : {left document : List ℕ} {at : ℕ} {stack : List ℕ} → Open-at left document at stack → length document ≤ at → stack ≡ left
 open-done {document} {at} {stack} o h = gives-same (sym (reads-end document at stack h) ∙ o .runs)
 
-module _ {left document : List ℕ} {at : ℕ} {stack : List ℕ} {h : Head} (o : Open-at left document at stack) (r : Read document at h)
-    (l : at < length document) where
+module _ {left document : List ℕ} {at : ℕ} {stack : List ℕ} (o : Open-at left document at stack) (l : at < length document) where
   passed : (after : List ℕ) × (first at stack (drop at document) ≡ gives after)
       × (reads (nextAt document at) 0 after (drop (nextAt document at) document) ≡ gives left)
   passed = bind-gives (first at stack (drop at document)) _ left (sym (reads-at document at stack l) ∙ o .runs)
 
   -- the record lies whole in the document
+  pub fits-here : fits (drop at document) ≡ true
+  fits-here = first-gives at stack (drop at document) (passed .0) (passed .1) .0
+
+module _ {left document : List ℕ} {at : ℕ} {stack : List ℕ} {h : Head} (o : Open-at left document at stack) (r : Read document at h)
+    (l : at < length document) where
   pub open-fits : fits (drop at document) ≡ true
-  open-fits = first-gives at stack (drop at document) (passed .0) (passed .1) .0
+  open-fits = fits-here o l
 
   pub open-whole : (h .start ≡ at + 6) × (h .next ≡ nextAt document at)
   open-whole = r .whole l open-fits
 
-  accepted : Sane (h .kind) (part document (h .start) (h .stop)) × Allowed (h .kind) stack × (passed .0 ≡ openAfter (h .kind) stack)
+  accepted : Sane (h .kind) (part document (h .start) (h .stop)) × Allowed (h .kind) stack × (passed o l .0 ≡ openAfter (h .kind) stack)
   accepted =
-      accept-gives at (h .kind) (part document (h .start) (h .stop)) stack (passed .0) (sym (first-read document at stack l r open-fits) ∙ passed .1)
+      accept-gives at (h .kind) (part document (h .start) (h .stop)) stack (passed o l .0) (sym (first-read document at stack l r open-fits) ∙ passed o l .1)
 
   pub open-sane-here : Sane (h .kind) (part document (h .start) (h .stop))
   open-sane-here = accepted .0
@@ -194,7 +198,7 @@ module _ {left document : List ℕ} {at : ℕ} {stack : List ℕ} {h : Head} (o 
     runs =
         ap (λ (n : ℕ). reads n 0 (openAfter (h .kind) stack) (drop n document)) (open-whole .1)
         ∙ ap (λ (x : List ℕ). reads (nextAt document at) 0 x (drop (nextAt document at) document)) (sym (accepted .2))
-        ∙ passed .2;
+        ∙ passed o l .2;
     shallow = few (h .kind) open-allowed;
   }
     where

@@ -118,7 +118,7 @@ pub fn open_blocks(document: &[u8]) -> Opened
                 depth,
             };
         }
-        let h = records::record_at(document, at);
+        let h = records::whole_at(document, at);
         let turn = accept(document, at, h, &mut stack, depth);
         match turn {
             Turn::Open(d) => {

@@ -1,3 +1,4 @@
 pub mod Tokens
 pub mod Tables
 pub mod Reading
+pub mod Codes

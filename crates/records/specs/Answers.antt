@@ -7,9 +7,14 @@ use lib.Dec.{ltb}
 use lib.ListN.{length, drop}
 use Rattle.base.specs.Choice.{if_then_else_}
 use Rattle.base.specs.Bytes.{part}
-use Rattle.records.specs.Records.{Token, tokensFrom, fits, size}
+use Rattle.records.specs.Records.{Token, kindOf, tokensFrom, fits, size}
 use Rattle.records.specs.declared.Kind.the-variants as kind
 use Rattle.records.specs.declared.Head.{Head}
+use Rattle.records.specs.declared.Raw.{Raw}
+
+-- a head whose kind is still a number
+abbrev pub headOf : Raw → Head
+headOf r = record { kind = kindOf (r .code); start = r .start; stop = r .next; next = r .next }
 
 -- the record that a head tells of
 abbrev pub tokenOf : List ℕ → ℕ → Head → Token

@@ -1,6 +1,6 @@
 -- The records of a stored document (01, 'The stored document'): their kinds and bodies, the document's text, and its printing order.
 use Prim.Native.Nat.{ℕ, zero, suc, _+_, _*_, _-_}
-use mathlib.Core.Bool.{Bool, _&&_, false}
+use mathlib.Core.Bool.{Bool, _&&_, true, false}
 use mathlib.Core.List.{List, [], _∷_, _++_}
 use lib.Dec.{leb, eqb}
 use lib.ListN.{length, take, drop, getD}
@@ -85,6 +85,13 @@ tokensFrom document at = tokens at 0 (drop at document)
 -- not refusal 2: 'under 6 bytes left, or body longer than what is left'
 unfoldable pub fits : List ℕ → Bool
 fits s = leb 6 (length s) && leb (size s) (length s - 6)
+
+-- a record is text
+abbrev pub isText : Kind → Bool
+isText (kind.Text s) = true
+isText (kind.Start b) = false
+isText (kind.End b) = false
+isText kind.Unknown = false
 
 -- a record is the start, or the end, of the block with an index
 abbrev pub isStart : ℕ → Kind → Bool

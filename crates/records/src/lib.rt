@@ -1,9 +1,10 @@
 // The records of a stored document: their kinds, and the record at a place.
 ghost use mathlib.Core.Path.{_≡_};
+ghost use mathlib.Core.Bool.{true};
 ghost use Prim.Native.Nat.{_+_, _<_, _≤_, _^_};
 ghost use lib.ListN.{length, take, drop, getD};
 ghost use Rattle.records.specs.Records.{little, styles, blocks, number, index, kindOf, fits, isStart, isEnd};
-ghost use Rattle.records.specs.Answers.{Read};
+ghost use Rattle.records.specs.Answers.{headOf, Read};
 ghost use Rattle.records.specs.declared.Style.the-variants as style;
 ghost use Rattle.records.specs.declared.Block.the-variants as block;
 
@@ -45,6 +46,13 @@ pub struct Head {
     pub kind: Kind,
     pub start: usize,
     pub stop: usize,
+    pub next: usize,
+}
+
+// The record at a place with its kind as a number: that, where its body starts, and where that ends and the next record stands.
+pub struct Raw {
+    pub code: usize,
+    pub start: usize,
     pub next: usize,
 }
 
@@ -196,43 +204,82 @@ pub fn four(bytes: &[u8], at: usize) -> usize
     two(bytes, at) + 65536 * two(bytes, at + 2)
 }
 
-// The record at `at`. A body that is cut short ends with the document, and past the end the kind is Unknown.
-pub fn record_at(document: &[u8], at: usize) -> Head
-    ensures { λ r. ⌜ Read (now (document .entry)) at r ⌝ }
+// The record at `at`, its kind as a number. A body that is cut short ends with the document, and past the end the kind is 0.
+pub fn raw_at(document: &[u8], at: usize) -> Raw
+    ensures { λ r. ⌜ Read (now (document .entry)) at (headOf r) ⌝ }
 {
     let length = document.len();
     if length <= at {
-        return Head {
-            kind: Kind::Unknown,
+        return Raw {
+            code: 0,
             start: length,
-            stop: length,
             next: length,
         };
     }
     if length - at < 6 {
-        let kind = kind_of(two(document, at + 4));
-        return Head {
-            kind,
+        let code = two(document, at + 4);
+        return Raw {
+            code,
             start: length,
-            stop: length,
             next: length,
         };
     }
-    let kind = kind_of(whole_two(document, at + 4));
+    let code = whole_two(document, at + 4);
     let size = whole_four(document, at);
     let start = at + 6;
     if length - start < size {
-        return Head {
-            kind,
+        return Raw {
+            code,
             start,
-            stop: length,
             next: length,
         };
     }
-    let stop = start + size;
+    let next = start + size;
+    Raw { code, start, next }
+}
+
+// The record at `at`. A body that is cut short ends with the document, and past the end the kind is Unknown.
+pub fn record_at(document: &[u8], at: usize) -> Head
+    ensures { λ r. ⌜ Read (now (document .entry)) at r ⌝ }
+{
+    let r = raw_at(document, at);
+    let kind = kind_of(r.code);
+    let start = r.start;
+    let next = r.next;
     Head {
         kind,
         start,
+        stop: next,
+        next,
+    }
+}
+
+// A record of no kind and no bytes at a place.
+fn nothing_at(at: usize) -> Head {
+    Head {
+        kind: Kind::Unknown,
+        start: at,
+        stop: at,
+        next: at,
+    }
+}
+
+// The record at `at`, where one lies whole: no place is compared with the document's end. Elsewhere the answer is free.
+pub fn whole_at(document: &[u8], at: usize) -> Head
+    ensures { λ r. ⌜ (fits (drop at (now (document .entry))) ≡ true → Read (now (document .entry)) at r) ⌝ }
+{
+    if document.len() <= at {
+        return nothing_at(at);
+    }
+    if document.len() - at < 6 {
+        return nothing_at(at);
+    }
+    let kind = kind_of(whole_two(document, at + 4));
+    let body = at + 6;
+    let stop = std::num::wrapping_add_usize(body, whole_four(document, at));
+    Head {
+        kind,
+        start: body,
         stop,
         next: stop,
     }

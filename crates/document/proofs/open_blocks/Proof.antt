@@ -37,45 +37,42 @@ returns c =
 accept-requires : tie.Need-accept-requires Inv-loop μ-loop
 accept-requires c κs =
     let loop = c .before .before .before .before .before .loop in
-    let r = c .before .record-at .ensures in
+    let r = c .before .whole-at .ensures (sym (c .before .before .before .fits-at .ensures) ∙ not-false _ (c .before .before .if1 .left)) in
     (omega (arith, r .order, r .ends), omega (arith, r .high, r .ends), loop .inv .0, loop .inv .1)
 
 returns-2 : tie.Need-returns-2 Inv-loop μ-loop
 returns-2 c =
     let accept = c .before .before .before .before .accept in
-    let after-record-at = c .before .before .before .before .before .before in
-    let record-at = after-record-at .record-at in
-    let if1 = after-record-at .before .if1 in
-    let fits-at = after-record-at .before .before .fits-at in
-    let loop-test = after-record-at .before .before .before .loop-test in
-    let loop = after-record-at .before .before .before .before .loop in
-    let args = after-record-at .before .before .before .before .before .before .args in (
-      sym (sym (loop .inv .2) ∙ reads-refused (now (args .document)) (loop .at) _ (loop-test .taken) (record-at .ensures)
-          (sym (fits-at .ensures) ∙ not-false _ (if1 .left))
+    let after-whole-at = c .before .before .before .before .before .before in
+    let fit = sym (after-whole-at .before .before .fits-at .ensures) ∙ not-false _ (after-whole-at .before .if1 .left) in
+    let read = after-whole-at .whole-at .ensures fit in
+    let loop-test = after-whole-at .before .before .before .loop-test in
+    let loop = after-whole-at .before .before .before .before .loop in
+    let args = after-whole-at .before .before .before .before .before .before .args in (
+      sym (sym (loop .inv .2) ∙ reads-refused (now (args .document)) (loop .at) _ (loop-test .taken) read fit
           (turn-refused _ (accept .ensures .0) (c .before .turn2 .given .1))),
       (loop .inv .1, omega arith),
     )
 
 loop-less : tie.Need-loop-less Inv-loop μ-loop
 loop-less c =
-    let after-record-at = c .before .before .before .before .before .before in
-    let record-at = after-record-at .record-at in
-    let loop-test = after-record-at .before .before .before .loop-test in
-    let r = record-at .ensures in
-    omega (arith, r .low (loop-test .taken), r .order, r .high)
+    let after-whole-at = c .before .before .before .before .before .before in
+    let fit = sym (after-whole-at .before .before .fits-at .ensures) ∙ not-false _ (after-whole-at .before .if1 .left) in
+    let read = after-whole-at .whole-at .ensures fit in
+    let loop-test = after-whole-at .before .before .before .loop-test in
+    omega (arith, read .low (loop-test .taken), read .order, read .high)
 
 loop-again : tie.Need-loop-again Inv-loop μ-loop
 loop-again c =
     let accept = c .before .before .before .before .accept in
-    let after-record-at = c .before .before .before .before .before .before in
-    let record-at = after-record-at .record-at in
-    let if1 = after-record-at .before .if1 in
-    let fits-at = after-record-at .before .before .fits-at in
-    let loop-test = after-record-at .before .before .before .loop-test in
-    let loop = after-record-at .before .before .before .before .loop in
-    let args = after-record-at .before .before .before .before .before .before .args in
+    let after-whole-at = c .before .before .before .before .before .before in
+    let fit = sym (after-whole-at .before .before .fits-at .ensures) ∙ not-false _ (after-whole-at .before .if1 .left) in
+    let read = after-whole-at .whole-at .ensures fit in
+    let loop-test = after-whole-at .before .before .before .loop-test in
+    let loop = after-whole-at .before .before .before .before .loop in
+    let args = after-whole-at .before .before .before .before .before .before .args in
     let on =
-    reads-on (now (args .document)) (loop .at) _ (loop-test .taken) (record-at .ensures) (sym (fits-at .ensures) ∙ not-false _ (if1 .left))
+    reads-on (now (args .document)) (loop .at) _ (loop-test .taken) read fit
     (turn-open _ (accept .ensures .0) (c .before .turn .given .1)) in
     (omega arith, turn-shallow (accept .ensures .1) (c .before .turn .given .1), sym on ∙ loop .inv .2)
 

@@ -1,56 +1,19 @@
-use mathlib.Core.Path.{ap, _∙_}
-use native.Mathlib.Omega.{arith}
 use borrow.Author.Needs.{needs}
 use denote.Ref.{now}
 use Rattle.records.proofs.record_at.Statement.{statement}
 use Rattle.records.proofs.record_at.Tie as tie
-use Rattle.records.specs.Records.{kindOf, size}
-use Rattle.records.proofs.Reading.{read-past, read-short, read-cut, read-whole}
+use Rattle.records.proofs.Reading.{read-by-code}
 
 returns : tie.Need-returns
-returns c = let a = c .before .before .args in read-past (now (a .document)) (a .at) (c .if1 .taken)
-
-returns-2 : tie.Need-returns-2
-returns-2 c =
-    let a = c .before .before .before .before .before .args in
-    read-short (now (a .document)) (a .at) _ (c .before .before .before .if1 .left) (c .kind-of .ensures ∙ ap kindOf (c .before .two .ensures .0)) (omega arith)
-
-returns-3 : tie.Need-returns-3
-unfolding size
-returns-3 c =
-    let whole-two = c .before .before .before .whole-two in
-    let after-if1 = c .before .before .before .before .before in
-    let if1 = after-if1 .if1 in
-    let a = after-if1 .before .before .args in
-    let k = c .before .before .kind-of2 .ensures ∙ ap kindOf (whole-two .ensures .0) in
-    read-cut (now (a .document)) (a .at) _ (if1 .left) k _ (c .before .whole-four .ensures .0) (omega arith) (omega arith)
-
-returns-4 : tie.Need-returns-4
-unfolding size
-returns-4 c =
-    let whole-two = c .before .before .before .whole-two in
-    let after-if1 = c .before .before .before .before .before in
-    let if1 = after-if1 .if1 in
-    let a = after-if1 .before .before .args in
-    let k = c .before .before .kind-of2 .ensures ∙ ap kindOf (whole-two .ensures .0) in
-    read-whole (now (a .document)) (a .at) _ (if1 .left) k _ (c .before .whole-four .ensures .0) (omega arith) (omega arith)
+returns c =
+    let r = c .before .raw-at in
+    let a = c .before .before .before .args in
+    read-by-code (now (a .document)) (a .at) (r .result) (c .kind-of .result) (c .kind-of .ensures) (r .ensures)
 
 pub record-at-spec : {M : Type 1} → statement M
 record-at-spec =
     tie.close
     (tie.spec
-    returns
-    (λ c. search needs)
-    (λ c. search needs)
     (λ c κs. search needs)
     (λ c κs. search needs)
-    returns-2
-    (λ c. search needs)
-    (λ c κs. search needs)
-    (λ c κs. search needs)
-    (λ c κs. search needs)
-    (λ c. search needs)
-    (λ c. search needs)
-    returns-3
-    (λ c. search needs)
-    returns-4)
+    returns)
