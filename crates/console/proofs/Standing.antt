@@ -11,8 +11,8 @@ use Rattle.base.specs.Bytes.{part}
 use Rattle.base.specs.Result.{Result, gives, refused, _>>=_}
 use Rattle.base.specs.Stack.{top}
 use Rattle.base.proofs.Choice.{if-true, if-false, le-or-lt}
-use Rattle.base.proofs.Results.{bind-assoc, bind-end}
-use Rattle.records.specs.Records.{tokens, tokensFrom}
+use Rattle.base.proofs.Results.{bind-assoc, bind-end, bind-same}
+use Rattle.records.specs.Records.{tokens, tokensFrom, fits}
 use Rattle.document.specs.Document.{check}
 use Rattle.records.specs.Answers.{Read}
 use Rattle.refusal.specs.Numbers.{refusalNumber, refusalPlace}
@@ -22,7 +22,8 @@ use Rattle.records.specs.declared.Head.{Head}
 use Rattle.records.specs.declared.Block.{Block}
 use Rattle.records.specs.declared.Style.{Style}
 use Rattle.records.specs.declared.Kind.the-variants as kind
-use Rattle.document.proofs.Walks.{Deep-at, deep-bound, deep-from, deep-less, deep-text, deep-start, deep-end, accepted-at-0, open-known, open-whole}
+use Rattle.document.proofs.Walks.{Deep-at, deep-bound, deep-from, deep-less, deep-text, deep-start, deep-end, accepted-at-0}
+use Rattle.document.proofs.Walks.{fits-here, open-known, open-whole}
 use Rattle.splitter.specs.Split as split
 use Rattle.splitter.specs.Answers.{chunkOf, placedOf, placedFrom, cursor, start as first}
 use Rattle.splitter.specs.declared.Cursor.{Cursor}
@@ -35,7 +36,7 @@ use Rattle.renderer.specs.declared.Rendered.the-variants as rendered
 use Rattle.renderer.proofs.Shown.{shown-in, shown-out}
 use Rattle.renderer.proofs.Leads.{Leads, leads-start, leads-on, leads-out, leads-refused, leads-shown, records, turned, walk-record, walk-end}
 use Rattle.renderer.proofs.Leads.{chunksThen, body-chunk, body-last, body-end}
-use Rattle.console_rules.specs.Console.{State, initial, blankLay, gapAhead, started, ended, measureOf, bodyChunk, turn, finish, textBy}
+use Rattle.console_rules.specs.Console.{State, initial, blankLay, emptyBlock, gapAhead, started, ended, measureOf, bodyChunk, turn, finish, textBy}
 use Rattle.console_rules.specs.declared.Settings.{Settings}
 use Rattle.console_rules.specs.declared.Lay.{Lay}
 use Rattle.console_chunks.specs.Shown.{held, told, Fits, Near, Nearby}
@@ -43,7 +44,9 @@ use Rattle.console_blocks.specs.Depth.{Shallow, Startable, Moved}
 use Rattle.console_chunks.specs.declared.Placed.{Placed}
 use Rattle.console_chunks.specs.declared.Placed.the-variants as placed
 use Rattle.console_chunks.specs.declared.Mark.{Mark}
+use Rattle.console_tabstop.specs.Ahead.{Looked}
 use Rattle.console_blocks.proofs.Margins.{top-shallow, shallow-on}
+use Rattle.console_blocks.proofs.Blocks.{gap-asked}
 use Rattle.console_words.specs.Onward.{onward, Moves}
 use Rattle.console.specs.Answers.{textAfter, Stands}
 
@@ -99,6 +102,10 @@ module _ (document : List ℕ) (set : Settings) (tab limit : ℕ) where
     pub stand-column : length document ≤ 32_768 → Fits (m .lay .column .0 + 1)
     stand-column few = omega (arith, w .column, w .near)
 
+    -- the record that was read without a look at the document's end: it lies whole there
+    pub stand-read : (h : Head) → at < length document → (fits (drop at document) ≡ true → Read document at h) → Read document at h
+    stand-read h l r = r (fits-here (w .deep .here) l)
+
     module _ (h : Head) (r : Read document at h) (l : at < length document) where
       -- what the start of a block asks for, and the end
       pub stand-startable : (b : Block) → h .kind ≡ kind.Start b → length document ≤ 32_768 → tab ≤ 28 → Startable margins count (m .lay) tab
@@ -118,20 +125,28 @@ module _ (document : List ℕ) (set : Settings) (tab limit : ℕ) where
       pub stand-known : h .kind ≡ kind.Unknown → ⊥
       stand-known e = open-known (w .deep .here) r l e
 
+      -- the gap ahead of a Section4 is that of the place where it was found
+      gap-found : (b : Block) (ahead : ℕ) → Looked document (h .next) b ahead
+          → (held room (take count margins) m >>= started (length room) tab b (emptyBlock (tokensFrom document ahead)))
+          ≡ (held room (take count margins) m >>= started (length room) tab b (gapAhead (tokensFrom document (h .next))))
+      gap-found b ahead look =
+          bind-same (held room (take count margins) m) _ _ (λ s. gap-asked (length room) tab b _ _ s (λ z. sym (look .here z .gap)))
+
       -- the start and the end of a block
-      pub stand-started : (b : Block) (room′ margins′ : List ℕ) (count′ : ℕ) (m′ : Mark) → h .kind ≡ kind.Start b → length room′ ≡ length room
-          → length margins′ ≡ length margins
+      pub stand-started : (b : Block) (ahead : ℕ) → Looked document (h .next) b ahead → (room′ margins′ : List ℕ) (count′ : ℕ) (m′ : Mark)
+          → h .kind ≡ kind.Start b → length room′ ≡ length room → length margins′ ≡ length margins
           → held room′ (take count′ margins′) m′
-          ≡ (held room (take count margins) m >>= started (length room) tab b (gapAhead (tokensFrom document (h .next)))) → count′ ≤ count + 1
+          ≡ (held room (take count margins) m >>= started (length room) tab b (emptyBlock (tokensFrom document ahead))) → count′ ≤ count + 1
           → Moved (m .lay) (m′ .lay) → ((n : ℕ) → Shallow n margins → Shallow (n + (tab + 4)) margins′) → tab ≤ 28
           → Standing room′ margins′ count′ m′ (h .next)
       unfolding turn
-      stand-started b room′ margins′ count′ m′ e f g q c d deeper low = record {
+      stand-started b ahead look room′ margins′ count′ m′ e f g q c d deeper low = record {
         size = f ∙ w .size;
         slots = g ∙ w .slots;
         leads = leads-on whole (rest at) (held room (take count margins) m) (w .leads) (turned (turn (measureOf set) set limit tab) document at h)
             (rest (h .next)) (held room′ (take count′ margins′) m′) (rest-record at h r l)
-            (rw e (q ∙ ap (λ (n : ℕ). held room (take count margins) m >>= started n tab b (gapAhead (tokensFrom document (h .next)))) (w .size)));
+            (rw e (q ∙ gap-found b ahead look
+            ∙ ap (λ (n : ℕ). held room (take count margins) m >>= started n tab b (gapAhead (tokensFrom document (h .next)))) (w .size)));
         deep = deep-less count′ c (deep-start (w .deep) r l e .1);
         near = r .high;
         column = omega (arith, d .column, w .column, next-far);

@@ -155,12 +155,13 @@ fn walk(document: &[u8], set: Settings, tab: Columns, room: &mut [u8]) -> Render
     let mut margins: [usize; 32] = [0; 32];
     let mut count: usize = 0;
     let mut m = first_mark();
+    let mut ahead: usize = 0;
     let mut at: usize = 0;
     'records: while at < document.len() {
         if room.len() < m.len.0 {
             return Rendered::Refused(Refusal::NoRoom);
         }
-        let h = records::record_at(document, at);
+        let h = records::whole_at(document, at);
         let start = h.start;
         let stop = h.stop;
         let next = h.next;
@@ -169,6 +170,7 @@ fn walk(document: &[u8], set: Settings, tab: Columns, room: &mut [u8]) -> Render
         match k {
             Kind::Unknown => {}
             Kind::Start(b) => {
+                ahead = console_tabstop::look_ahead(document, next, b, ahead);
                 let s = console_blocks::started(
                     room,
                     &mut margins,
@@ -177,7 +179,7 @@ fn walk(document: &[u8], set: Settings, tab: Columns, room: &mut [u8]) -> Render
                     b,
                     tab,
                     document,
-                    next,
+                    ahead,
                 );
                 m = s.mark;
                 count = s.count;
@@ -200,6 +202,9 @@ fn walk(document: &[u8], set: Settings, tab: Columns, room: &mut [u8]) -> Render
                     let run = console_words::put_words(room, m, margin, body, from, code, set);
                     m = run.mark;
                     from = run.at;
+                    if body.len() <= from {
+                        break 'chunks;
+                    }
                     let Step::Take(piece, after) = splitter::step_at(
                         body,
                         Cursor { at: from, code },

@@ -7,7 +7,7 @@ ghost use lib.ListN.{length, take};
 ghost use Rattle.base.specs.Result.{_>>=_ as bind};
 ghost use Rattle.base.specs.Stack.{top, pushed};
 ghost use Rattle.records.specs.Records.{tokensFrom};
-ghost use Rattle.console_rules.specs.Console.{gapAhead, column, skip, put, tick, started as startedBy, ended as endedBy};
+ghost use Rattle.console_rules.specs.Console.{emptyBlock, column, skip, put, tick, started as startedBy, ended as endedBy};
 ghost use Rattle.console_chunks.specs.Shown.{held, Fits};
 ghost use Rattle.console_blocks.specs.Depth.{Shallow, Startable, Moved};
 ghost use Rattle.console_blocks.specs.Blocks.{tickIf, startLay, endLay, pushes, startMore};
@@ -162,18 +162,18 @@ fn pushes_one(i: usize) -> bool
     i == 7
 }
 
-// Whether an adjacent gap lies ahead, looked for only at a Section4: else each start would read the records after it.
-fn gap_at(document: &[u8], next: usize, i: usize) -> bool
-    ensures { λ r. ⌜ (i ≡ 3 → r ≡ gapAhead (tokensFrom (now (document .entry)) next)) ⌝ }
+// Whether an adjacent gap lies ahead, asked only at a Section4: an empty Block where the records after the next end of one begin.
+fn gap_at(document: &[u8], ahead: usize, i: usize) -> bool
+    ensures { λ r. ⌜ (i ≡ 3 → r ≡ emptyBlock (tokensFrom (now (document .entry)) ahead)) ⌝ }
 {
     if i == 3 {
-        return console_tabstop::gap_ahead(document, next);
+        return console_tabstop::empty_block(document, ahead);
     }
     false
 }
 
-// The start of a block, where the record after it is at `next`. The rules' numbers have no bound: the promise is theirs where there is a slot
-// for one margin more and the code can hold the numbers; at every record of an accepted document it is so.
+// The start of a block, where the records after the next end of a Section4 begin at `ahead`. The rules' numbers have no bound: the promise is theirs
+// where there is a slot for one margin more and the code can hold the numbers; at every record of an accepted document it is so.
 pub fn started(
     room: &mut [u8],
     margins: &mut [usize],
@@ -182,15 +182,15 @@ pub fn started(
     b: Block,
     tab: Columns,
     document: &[u8],
-    next: usize,
+    ahead: usize,
 ) -> Stand
-    ensures { λ r. ⌜ (Startable (now (margins .entry)) count (m .lay) (tab .0) → held (now (room .exit)) (take (r .count) (now (margins .exit))) (r .mark) ≡ bind (held (now (room .entry)) (take count (now (margins .entry))) m) (startedBy (length (now (room .entry))) (tab .0) b (gapAhead (tokensFrom (now (document .entry)) next)))) ⌝ }
+    ensures { λ r. ⌜ (Startable (now (margins .entry)) count (m .lay) (tab .0) → held (now (room .exit)) (take (r .count) (now (margins .exit))) (r .mark) ≡ bind (held (now (room .entry)) (take count (now (margins .entry))) m) (startedBy (length (now (room .entry))) (tab .0) b (emptyBlock (tokensFrom (now (document .entry)) ahead)))) ⌝ }
     ensures counts { λ r. ⌜ r .count ≤ count + 1 ⌝ }
     ensures moved { λ r. ⌜ Moved (m .lay) (r .mark .lay) ⌝ }
     ensures deeper { λ _. ⌜ ((n : ℕ) → Shallow n (now (margins .entry)) → Shallow (n + (tab .0 + 4)) (now (margins .exit))) ⌝ }
 {
     let i = records::index_of(b);
-    let g = gap_at(document, next, i);
+    let g = gap_at(document, ahead, i);
     let a = tick_if(room, m, i);
     let lay = start_lay(a.lay, i, g);
     let len = a.len;

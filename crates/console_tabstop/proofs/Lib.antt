@@ -1,2 +1,3 @@
 pub mod Scans
 pub mod Settled
+pub mod Ahead

@@ -1,21 +1,21 @@
 -- The records ahead, and the count of the tabstop. Assumes nothing.
-use mathlib.Core.Path.{_≡_, sym, ap, _∙_}
-use mathlib.Core.Bool.{true, false, _&&_}
+use mathlib.Core.Path.{_≡_, refl, sym, ap, _∙_}
+use mathlib.Core.Bool.{true, false, _&&_, false≢true}
 use mathlib.Core.List.{List, _∷_}
 use Prim.Native.Nat.{ℕ, _+_, _≤_, _<_}
 use native.Mathlib.Omega.{arith}
 use lib.Dec.{leb, ltb, eqb}
 use lib.ListN.{length}
-use borrow.Author.Tests.{leb-true, eq-eqb, ne-eqb, lt-ltb, le-ltb, le-leb, lt-leb}
+use borrow.Author.Tests.{leb-true, eq-eqb, lt-ltb, le-ltb, le-leb, lt-leb}
 use Rattle.base.specs.Bytes.{part}
 use Rattle.base.specs.Choice.{if_then_else_}
 use Rattle.base.proofs.Choice.{pick, if-true, if-false, and-right}
 use Rattle.utf8.specs.Utf8.{characters}
-use Rattle.records.specs.Records.{index, tokensFrom, isStart, isEnd}
+use Rattle.records.specs.Records.{index, tokensFrom, isText, isStart, isEnd}
 use Rattle.records.specs.Answers.{Read, tokenOf}
 use Rattle.records.specs.declared.Head.{Head}
-use Rattle.records.specs.declared.Style.{Style}
 use Rattle.records.specs.declared.Block.{Block}
+use Rattle.records.specs.declared.Block.the-variants as block
 use Rattle.records.specs.declared.Kind.{Kind}
 use Rattle.records.specs.declared.Kind.the-variants as kind
 use Rattle.records.proofs.Tokens.{tokens-end}
@@ -25,7 +25,7 @@ use Rattle.console_rules.specs.Console.{Terms, termStart, termEnd, term, terms,
 -- A record that was read comes first
 
 module _ (s : List ℕ) (at : ℕ) (h : Head) (r : Read s at h) (inside : at < length s) where
-  listed : tokensFrom s at ≡ tokenOf s at h ∷ tokensFrom s (h .next)
+  pub listed : tokensFrom s at ≡ tokenOf s at h ∷ tokensFrom s (h .next)
   listed = r .listed ∙ if-true _ _ (lt-ltb at (length s) inside)
 
   pub gap-next : isEnd 3 (h .kind) ≡ false → gapAhead (tokensFrom s at) ≡ gapAhead (tokensFrom s (h .next))
@@ -79,23 +79,15 @@ module _ (s : List ℕ) (at : ℕ) (past : length s ≤ at) where
 
 -- The count of the tabstop
 
-module _ (b : Block) (t : Terms) (i : ℕ) (at : i ≡ index b) where
-  pub start-term : i ≡ 4 → _≡_ {A = Terms} (record { widest = t .widest; counting = true; counted = 0 }) (termStart b t)
-  unfolding termStart
-  start-term e = sym (if-true _ _ (eq-eqb (index b) 4 (sym at ∙ e)))
+-- the end of an ItemTerm, where w is the widest after it
+pub end-term : (t : Terms) (w : ℕ) → w ≡ if ltb (t .widest) (t .counted) && leb (t .counted) 24 then t .counted else t .widest
+    → _≡_ {A = Terms} (record { widest = w; counting = false; counted = t .counted }) (termEnd block.ItemTerm t)
+unfolding termEnd
+end-term t w f = rw f (sym (if-true _ _ (eq-eqb 4 4 refl)))
 
-  pub start-other : (i ≡ 4 → ⊥) → t ≡ termStart b t
-  unfolding termStart
-  start-other e = sym (if-false _ _ (ne-eqb (index b) 4 (λ k. e (at ∙ k))))
-
-  pub end-term : (w : ℕ) → i ≡ 4 → w ≡ if ltb (t .widest) (t .counted) && leb (t .counted) 24 then t .counted else t .widest
-      → _≡_ {A = Terms} (record { widest = w; counting = false; counted = t .counted }) (termEnd b t)
-  unfolding termEnd
-  end-term w e f = rw f (sym (if-true _ _ (eq-eqb (index b) 4 (sym at ∙ e))))
-
-  pub end-other : (i ≡ 4 → ⊥) → t ≡ termEnd b t
-  unfolding termEnd
-  end-other e = sym (if-false _ _ (ne-eqb (index b) 4 (λ k. e (at ∙ k))))
+pub start-term : (t : Terms) → _≡_ {A = Terms} (record { widest = t .widest; counting = true; counted = 0 }) (termStart block.ItemTerm t)
+unfolding termStart
+start-term t = sym (if-true _ _ (eq-eqb 4 4 refl))
 
 -- whether a count is the widest so far
 module _ (w c : ℕ) where
@@ -108,15 +100,22 @@ module _ (w c : ℕ) where
   pub too-wide : w < c → 24 < c → w ≡ if ltb w c && leb c 24 then c else w
   too-wide h k = sym (if-false _ _ (rw (lt-ltb w c h, lt-leb c 24 k)))
 
-module _ (st : Style) (x : List ℕ) (t : Terms) where
-  pub text-counted : (n : ℕ) → t .counting ≡ true → n ≡ characters x
-      → _≡_ {A = Terms} (record { widest = t .widest; counting = t .counting; counted = t .counted + n }) (term (kind.Text st) x t)
+module _ (x : List ℕ) (t : Terms) where
+  pub text-counted : (k : Kind) (n : ℕ) → isText k ≡ true → t .counting ≡ true → n ≡ characters x
+      → _≡_ {A = Terms} (record { widest = t .widest; counting = t .counting; counted = t .counted + n }) (term k x t)
   unfolding term
-  text-counted n e f = rw (f, if-true (t .counted + characters x) (t .counted) e)
+  text-counted (kind.Text st) n h e f = rw (f, if-true (t .counted + characters x) (t .counted) e)
+  text-counted (kind.Start b) n h e f = absurd (false≢true h)
+  text-counted (kind.End b) n h e f = absurd (false≢true h)
+  text-counted kind.Unknown n h e f = absurd (false≢true h)
 
-  pub text-passed : t .counting ≡ false → t ≡ term (kind.Text st) x t
-  unfolding term
-  text-passed e = rw (if-false (t .counted + characters x) (t .counted) e)
+  -- text outside a term, and what neither starts nor ends one
+  pub term-passed : (k : Kind) → isStart 4 k ≡ false → isEnd 4 k ≡ false → (isText k ≡ true → t .counting ≡ false) → t ≡ term k x t
+  unfolding term termStart termEnd
+  term-passed (kind.Text st) a b h = rw (if-false (t .counted + characters x) (t .counted) (h refl))
+  term-passed (kind.Start b) a e h = sym (if-false _ _ a)
+  term-passed (kind.End b) a e h = sym (if-false _ _ e)
+  term-passed kind.Unknown a b h = refl
 
 -- How far the count goes in a record: the widest stays at most 24, and no more than the body's bytes are counted.
 

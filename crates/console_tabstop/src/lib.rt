@@ -3,18 +3,19 @@ ghost use mathlib.Core.Path.{_≡_};
 ghost use mathlib.Core.Bool.{false};
 ghost use Prim.Native.Nat.{_+_, _-_, _≤_, _<_, _^_};
 ghost use lib.ListN.{length};
-ghost use Rattle.records.specs.Records.{tokens, tokensFrom};
-ghost use Rattle.console_rules.specs.Console.{termStart, termEnd, term, settles, tabstop, settledAt, tabstopIn, settledIn, emptyBlock, gapAhead};
+ghost use Rattle.records.specs.Records.{isText, kindOf, tokens, tokensFrom};
+ghost use Rattle.records.specs.declared.Block.the-variants as block;
+ghost use Rattle.console_rules.specs.Console.{termStart, termEnd, term, settles, tabstop, settledAt, tabstopIn, settledIn, emptyBlock};
 ghost use Rattle.console_tabstop.specs.Answers.{tabstopOf, settledOf};
 ghost use Rattle.console_tabstop.specs.Counted.{termsOf};
+ghost use Rattle.console_tabstop.specs.Ahead.{Ahead, Known, Looked};
 use console_rules::Columns;
 use document::Checked;
 use records::Block;
-use records::Kind;
 use refusal::Refusal;
 
 // Whether the start and the end of a Block come first.
-fn empty_block(document: &[u8], at: usize) -> bool
+pub fn empty_block(document: &[u8], at: usize) -> bool
     ensures { λ r. ⌜ r ≡ emptyBlock (tokensFrom (now (document .entry)) at) ⌝ }
 {
     if document.len() <= at {
@@ -34,20 +35,33 @@ fn empty_block(document: &[u8], at: usize) -> bool
     false
 }
 
-// Whether the next end of a Section4 is followed at once by the start and the end of a Block.
-pub fn gap_ahead(document: &[u8], at: usize) -> bool
-    ensures { λ r. ⌜ r ≡ gapAhead (tokensFrom (now (document .entry)) at) ⌝ }
+// Where the records after the next end of a Section4 begin; the document's length where there is none. Only kinds and lengths are read.
+fn section_end(document: &[u8], at: usize) -> usize
+    ensures { λ r. ⌜ Ahead (now (document .entry)) at r ⌝ }
 {
     let mut i = at;
     while i < document.len() {
-        let h = records::record_at(document, i);
-        let k = h.kind;
-        if records::is_end(k, 3) {
-            return empty_block(document, h.next);
+        let h = records::raw_at(document, i);
+        let next = h.next;
+        if h.code == 0x0203 {
+            return next;
         }
-        i = h.next;
+        i = next;
     }
-    false
+    document.len()
+}
+
+// The same at the start of a block, where it was `known` before. It is looked for only at a Section4, and only where the place known has been
+// passed: each record is read once for it, however many starts stand before it.
+pub fn look_ahead(document: &[u8], next: usize, b: Block, known: usize) -> usize
+    ensures { λ r. ⌜ (Known (now (document .entry)) next known → Looked (now (document .entry)) next b r) ⌝ }
+{
+    if records::index_of(b) == 3 {
+        if known <= next {
+            return section_end(document, next);
+        }
+    }
+    known
 }
 
 // The tabstop.
@@ -60,59 +74,64 @@ struct Terms {
 }
 
 // 'a nested term's start sets the count back to 0'
-fn term_start(t: Terms, b: Block) -> Terms
-    ensures { λ r. ⌜ termsOf r ≡ termStart b (termsOf t) ⌝ }
+fn term_start(t: Terms) -> Terms
+    ensures { λ r. ⌜ termsOf r ≡ termStart block.ItemTerm (termsOf t) ⌝ }
 {
-    if records::index_of(b) == 4 {
-        return Terms {
-            widest: t.widest,
-            counting: 1,
-            counted: 0,
-        };
-    }
-    t
+    let mut r = t;
+    r.counting = 1;
+    r.counted = 0;
+    r
 }
 
 // 'its end stops the count', and the widest of at most 24 characters is kept.
-fn term_end(t: Terms, b: Block) -> Terms
-    ensures { λ r. ⌜ termsOf r ≡ termEnd b (termsOf t) ⌝ }
+fn term_end(t: Terms) -> Terms
+    ensures { λ r. ⌜ termsOf r ≡ termEnd block.ItemTerm (termsOf t) ⌝ }
 {
     let mut r = t;
-    if records::index_of(b) == 4 {
-        r.counting = 0;
-        if t.widest < t.counted {
-            if t.counted <= 24 {
-                r.widest = t.counted;
-            }
+    r.counting = 0;
+    if t.widest < t.counted {
+        if t.counted <= 24 {
+            r.widest = t.counted;
         }
     }
     r
 }
 
-// The count after a record.
-fn term_on(t: Terms, k: Kind, body: &[u8]) -> Terms
-    requires { ⌜ t .counted + length (now body) < 2 ^ 64 ⌝ }
-    ensures { λ r. ⌜ termsOf r ≡ term k (now (body .entry)) (termsOf t) ⌝ }
+// Whether a record's kind is that of a text.
+fn is_text(code: usize) -> bool
+    ensures { λ r. ⌜ r ≡ isText (kindOf code) ⌝ }
 {
-    match k {
-        Kind::Text(_) => {
-            let mut r = t;
-            if t.counting == 1 {
-                r.counted = t.counted + utf8::count(body);
-            }
-            r
-        }
-        Kind::Start(b) => term_start(t, b),
-        Kind::End(b) => term_end(t, b),
-        Kind::Unknown => t,
+    if code <= 0x0005 {
+        return 0 < code;
     }
+    false
+}
+
+// The count after a record. Most kinds change nothing, and none is taken apart further than this needs.
+fn term_on(t: Terms, code: usize, body: &[u8]) -> Terms
+    requires { ⌜ t .counted + length (now body) < 2 ^ 64 ⌝ }
+    ensures { λ r. ⌜ termsOf r ≡ term (kindOf code) (now (body .entry)) (termsOf t) ⌝ }
+{
+    if code == 0x0104 {
+        return term_start(t);
+    }
+    if code == 0x0204 {
+        return term_end(t);
+    }
+    let mut r = t;
+    if t.counting == 1 {
+        if is_text(code) {
+            r.counted = t.counted + utf8::count(body);
+        }
+    }
+    r
 }
 
 // Whether a record is an ItemTerm's end whose count is 24: no term that counts is wider.
-fn settles(t: Terms, k: Kind) -> bool
-    ensures { λ r. ⌜ r ≡ settles k (termsOf t) ⌝ }
+fn settles(t: Terms, code: usize) -> bool
+    ensures { λ r. ⌜ r ≡ settles (kindOf code) (termsOf t) ⌝ }
 {
-    if records::is_end(k, 4) {
+    if code == 0x0204 {
         return t.counted == 24;
     }
     false
@@ -136,18 +155,17 @@ fn find_tabstop(document: &[u8]) -> Tabstop
     };
     let mut at: usize = 0;
     while at < document.len() {
-        let h = records::record_at(document, at);
+        let h = records::raw_at(document, at);
         let start = h.start;
-        let stop = h.stop;
         let next = h.next;
-        let k = h.kind;
-        if settles(t, k) {
+        let code = h.code;
+        if settles(t, code) {
             return Tabstop {
                 columns: Columns(28),
                 at,
             };
         }
-        t = term_on(t, k, &document[start..stop]);
+        t = term_on(t, code, &document[start..next]);
         at = next;
     }
     let tab = t.widest + 4;

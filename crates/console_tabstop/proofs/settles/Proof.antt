@@ -4,21 +4,19 @@ use borrow.Author.Needs.{needs}
 use lib.Dec.{eqb}
 use Rattle.console_tabstop.proofs.settles.Statement.{statement}
 use Rattle.console_tabstop.proofs.settles.Tie as tie
+use Rattle.records.specs.Records.{isEnd}
+use Rattle.records.specs.declared.Block.the-variants as block
+use Rattle.records.proofs.Codes.{end-by-code, no-end-code}
 
 returns : tie.Need-returns
 returns c =
-    let t = c .before .before .before .args .t in
-    ap (λ (b : Bool). b && eqb (t .counted) 24) (sym (sym (c .before .before .is-end .ensures) ∙ c .before .if1 .taken))
+    let a = c .before .before .args in
+    ap (λ (b : Bool). b && eqb (a .t .counted) 24) (sym (ap (isEnd 4) (end-by-code (a .code) block.ItemTerm (c .before .if1 .taken))))
 
 returns-2 : tie.Need-returns-2
 returns-2 c =
-    let t = c .before .before .args .t in
-    ap (λ (b : Bool). b && eqb (t .counted) 24) (sym (sym (c .before .is-end .ensures) ∙ c .if1 .left))
+    let a = c .before .args in
+    ap (λ (b : Bool). b && eqb (a .t .counted) 24) (sym (no-end-code (a .code) 4 (c .if1 .left)))
 
 pub settles-spec : {M : Type 1} → statement M
-settles-spec =
-    tie.close
-    (tie.spec
-    (λ c κs. search needs)
-    returns
-    returns-2)
+settles-spec = tie.close (tie.spec returns returns-2)
