@@ -39,7 +39,8 @@ styleAt st = declared.tagOf styleType.the-type st
 some-of : (keys : List ℕ) (c : ℕ) → OneOf keys c → any (eqb c) keys ≡ true
 some-of [] c h = absurd h
 some-of (k ∷ []) c h = rw (eq-eqb c k h)
-some-of (k ∷ l ∷ keys) c h = ⊎-elim (λ (e : c ≡ k). rw (eq-eqb c k e)) (λ (r : OneOf (l ∷ keys) c). rw (some-of (l ∷ keys) c r) (or-true (eqb c k))) h
+some-of (k ∷ l ∷ keys) c h =
+    ⊎-elim (λ (e : c ≡ k). rw (eq-eqb c k e)) (λ (r : OneOf (l ∷ keys) c). rw (some-of (l ∷ keys) c r) (or-true (eqb c k))) h
 
 -- Capture
 
@@ -73,7 +74,8 @@ subsection-nothing style.Invalid h = refl
 
 module _ (p : ℕ) (kept : List ℕ) (capture : Bool) (room : List ℕ) (m : Mark) where
   -- nothing, at the start of these blocks and at the end of those
-  pub started-nothing : (b : Block) → OneOf (0 ∷ 1 ∷ 2 ∷ 3 ∷ 5 ∷ 6 ∷ 8 ∷ 9 ∷ 11 ∷ []) (place b) → Follows (started p b (locals m kept capture)) room m room m
+  pub started-nothing : (b : Block) → OneOf (0 ∷ 1 ∷ 2 ∷ 3 ∷ 5 ∷ 6 ∷ 8 ∷ 9 ∷ 11 ∷ []) (place b)
+      → Follows (started p b (locals m kept capture)) room m room m
   unfolding started
   started-nothing block.Header h = pushed-none room m
   started-nothing block.Section2 h = pushed-none room m
@@ -88,36 +90,38 @@ module _ (p : ℕ) (kept : List ℕ) (capture : Bool) (room : List ℕ) (m : Mar
   started-nothing block.Meta h = absurd (false≢true (some-of (0 ∷ 1 ∷ 2 ∷ 3 ∷ 5 ∷ 6 ∷ 8 ∷ 9 ∷ 11 ∷ []) 10 h))
   started-nothing block.Mono h = pushed-none room m
 
-  pub ended-nothing : (b : Block) → OneOf (6 ∷ 7 ∷ 8 ∷ 9 ∷ 11 ∷ []) (place b) → Follows (ended p b (locals m kept capture)) room m room m
+  pub ended-nothing : (b : Block) → isHeading b ≡ false → OneOf (0 ∷ 1 ∷ 2 ∷ 3 ∷ 6 ∷ 7 ∷ 8 ∷ 9 ∷ 11 ∷ []) (place b)
+      → Follows (ended p b (locals m kept capture)) room m room m
   unfolding ended
-  ended-nothing block.Header h = absurd (false≢true (some-of (6 ∷ 7 ∷ 8 ∷ 9 ∷ 11 ∷ []) 0 h))
-  ended-nothing block.Section2 h = absurd (false≢true (some-of (6 ∷ 7 ∷ 8 ∷ 9 ∷ 11 ∷ []) 1 h))
-  ended-nothing block.Section3 h = absurd (false≢true (some-of (6 ∷ 7 ∷ 8 ∷ 9 ∷ 11 ∷ []) 2 h))
-  ended-nothing block.Section4 h = absurd (false≢true (some-of (6 ∷ 7 ∷ 8 ∷ 9 ∷ 11 ∷ []) 3 h))
-  ended-nothing block.ItemTerm h = absurd (false≢true (some-of (6 ∷ 7 ∷ 8 ∷ 9 ∷ 11 ∷ []) 4 h))
-  ended-nothing block.ItemBody h = absurd (false≢true (some-of (6 ∷ 7 ∷ 8 ∷ 9 ∷ 11 ∷ []) 5 h))
-  ended-nothing block.DefinitionList h = pushed-none room m
-  ended-nothing block.Block h = pushed-none room m
-  ended-nothing block.InlineBlock h = pushed-none room m
-  ended-nothing block.TermRef h = tt
-  ended-nothing block.Meta h = absurd (false≢true (some-of (6 ∷ 7 ∷ 8 ∷ 9 ∷ 11 ∷ []) 10 h))
-  ended-nothing block.Mono h = pushed-none room m
+  ended-nothing block.Header e h = absurd (false≢true (sym e))
+  ended-nothing block.Section2 e h = absurd (false≢true (sym e))
+  ended-nothing block.Section3 e h = absurd (false≢true (sym e))
+  ended-nothing block.Section4 e h = absurd (false≢true (sym e))
+  ended-nothing block.ItemTerm e h = absurd (false≢true (some-of (0 ∷ 1 ∷ 2 ∷ 3 ∷ 6 ∷ 7 ∷ 8 ∷ 9 ∷ 11 ∷ []) 4 h))
+  ended-nothing block.ItemBody e h = absurd (false≢true (some-of (0 ∷ 1 ∷ 2 ∷ 3 ∷ 6 ∷ 7 ∷ 8 ∷ 9 ∷ 11 ∷ []) 5 h))
+  ended-nothing block.DefinitionList e h = pushed-none room m
+  ended-nothing block.Block e h = pushed-none room m
+  ended-nothing block.InlineBlock e h = pushed-none room m
+  ended-nothing block.TermRef e h = tt
+  ended-nothing block.Meta e h = absurd (false≢true (some-of (0 ∷ 1 ∷ 2 ∷ 3 ∷ 6 ∷ 7 ∷ 8 ∷ 9 ∷ 11 ∷ []) 10 h))
+  ended-nothing block.Mono e h = pushed-none room m
 
 -- a heading that is no Header
-pub ended-section : (p : ℕ) (l : Locals) (b : Block) → OneOf (1 ∷ 2 ∷ 3 ∷ []) (place b) → ended p b l ≡ heading (bytes "SS") l
+pub ended-section : (p : ℕ) (l : Locals) (b : Block) → isHeading b ≡ true
+    → OneOf (1 ∷ 2 ∷ 3 ∷ 4 ∷ 5 ∷ 6 ∷ 7 ∷ 8 ∷ 9 ∷ 10 ∷ 11 ∷ []) (place b) → ended p b l ≡ heading (bytes "SS") l
 unfolding ended
-ended-section p l block.Header h = absurd (false≢true (some-of (1 ∷ 2 ∷ 3 ∷ []) 0 h))
-ended-section p l block.Section2 h = refl
-ended-section p l block.Section3 h = refl
-ended-section p l block.Section4 h = refl
-ended-section p l block.ItemTerm h = absurd (false≢true (some-of (1 ∷ 2 ∷ 3 ∷ []) 4 h))
-ended-section p l block.ItemBody h = absurd (false≢true (some-of (1 ∷ 2 ∷ 3 ∷ []) 5 h))
-ended-section p l block.DefinitionList h = absurd (false≢true (some-of (1 ∷ 2 ∷ 3 ∷ []) 6 h))
-ended-section p l block.Block h = absurd (false≢true (some-of (1 ∷ 2 ∷ 3 ∷ []) 7 h))
-ended-section p l block.InlineBlock h = absurd (false≢true (some-of (1 ∷ 2 ∷ 3 ∷ []) 8 h))
-ended-section p l block.TermRef h = absurd (false≢true (some-of (1 ∷ 2 ∷ 3 ∷ []) 9 h))
-ended-section p l block.Meta h = absurd (false≢true (some-of (1 ∷ 2 ∷ 3 ∷ []) 10 h))
-ended-section p l block.Mono h = absurd (false≢true (some-of (1 ∷ 2 ∷ 3 ∷ []) 11 h))
+ended-section p l block.Header e h = absurd (false≢true (some-of (1 ∷ 2 ∷ 3 ∷ 4 ∷ 5 ∷ 6 ∷ 7 ∷ 8 ∷ 9 ∷ 10 ∷ 11 ∷ []) 0 h))
+ended-section p l block.Section2 e h = refl
+ended-section p l block.Section3 e h = refl
+ended-section p l block.Section4 e h = refl
+ended-section p l block.ItemTerm e h = absurd (false≢true e)
+ended-section p l block.ItemBody e h = absurd (false≢true e)
+ended-section p l block.DefinitionList e h = absurd (false≢true e)
+ended-section p l block.Block e h = absurd (false≢true e)
+ended-section p l block.InlineBlock e h = absurd (false≢true e)
+ended-section p l block.TermRef e h = absurd (false≢true e)
+ended-section p l block.Meta e h = absurd (false≢true e)
+ended-section p l block.Mono e h = absurd (false≢true e)
 
 -- line ends are stripped from here on, or not
 pub stripped : {ps : List Piece} {s state : Bool} {old new : List ℕ} {m n r : Mark} → (r .len ≡ n .len) × (r .fresh ≡ n .fresh) × (r .strip ≡ state)

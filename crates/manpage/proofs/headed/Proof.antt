@@ -1,56 +1,46 @@
+use mathlib.Core.Path.{sym, subst}
 use borrow.Author.Needs.{needs}
+use denote.Ref.{now}
 use Rattle.manpage.proofs.headed.Statement.{statement}
 use Rattle.manpage.proofs.headed.Tie as tie
-use Rattle.manpage.proofs.headed.Reads as reads
-use Rattle.manpage.proofs.headed.Lts as lts
-use Rattle.manpage.proofs.control.Reads as control-reads
+use Rattle.base.specs.Choice.{if_then_else_}
+use Rattle.base.specs.Result.{Result}
+use Rattle.records.specs.declared.Block.{Block}
+use Rattle.utf8.specs.Utf8.{encode, bytes}
+use Rattle.manpage.specs.Roff.{Outcome, heading, ended}
+use Rattle.manpage.specs.Parts.{locals, between, Follows}
+use Rattle.manpage.proofs.Blocks.{ended-section}
 
--- src/lib.rt:342:34
-enum-told : tie.Need-enum-told
-enum-told c = search needs
-
--- src/lib.rt:342:43
-slice-aggregate-control : tie.Need-slice-aggregate-control
-slice-aggregate-control c = search needs
-
--- src/lib.rt:342:26
-control-requires : tie.Need-control-requires
-control-requires c κs = search needs
-
--- src/lib.rt:343:31
-slice-aggregate-control-2 : tie.Need-slice-aggregate-control-2
-slice-aggregate-control-2 c = search needs
-
--- src/lib.rt:343:14
-control-requires-2 : tie.Need-control-requires-2
-control-requires-2 c κs = search needs
-
--- src/lib.rt:337:1
-same-length : tie.Need-same-length
-same-length c = search needs
-
--- src/lib.rt:337:1
 returns : tie.Need-returns
-returns c = ?
+unfolding ended heading bytes encode if_then_else_
+returns c = λ p on.
+    let g = c .before .before .control in
+    let enum-told = c .before .before .before .before .before .enum-told in
+    let a = c .before .before .before .before .before .before .before .before .before .args in
+    let l = locals (a .m) (between (now (a .document)) (a .from) (a .at)) on in
+    subst (λ (b : Block). Follows (ended p b l) (now (a .room)) (a .m) (g .last .0) (g .result)) (sym (enum-told .given .1)) (g .ensures)
 
--- src/lib.rt:337:1
-same-length-2 : tie.Need-same-length-2
-same-length-2 c = search needs
-
--- src/lib.rt:337:1
 returns-2 : tie.Need-returns-2
-returns-2 c = ?
+unfolding heading bytes encode if_then_else_
+returns-2 c = λ p on.
+    let g = c .before .before .control2 in
+    let match = c .before .before .before .before .before .match in
+    let start = c .before .before .before .before .before .before .before .before in
+    let a = start .args in
+    let l = locals (a .m) (between (now (a .document)) (a .from) (a .at)) on in
+    subst (λ (o : Result Outcome). Follows o (now (a .room)) (a .m) (g .last .0) (g .result))
+    (sym (ended-section p l (a .b) (start .pre .0) (match .keys2))) (g .ensures)
 
 pub headed-spec : {M : Type 1} → statement M
 headed-spec =
     tie.close
     (tie.spec
-    enum-told
-    slice-aggregate-control
-    control-requires
-    slice-aggregate-control-2
-    control-requires-2
-    same-length
+    (λ c. search needs)
+    (λ c. search needs)
+    (λ c κs. search needs)
+    (λ c. search needs)
+    (λ c κs. search needs)
+    (λ c. search needs)
     returns
-    same-length-2
+    (λ c. search needs)
     returns-2)

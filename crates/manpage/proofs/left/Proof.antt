@@ -1,98 +1,68 @@
+use mathlib.Core.Path.{sym, subst}
 use borrow.Author.Needs.{needs}
+use denote.Ref.{now}
 use Rattle.manpage.proofs.left.Statement.{statement}
 use Rattle.manpage.proofs.left.Tie as tie
-use Rattle.manpage.proofs.left.Reads as reads
-use Rattle.manpage.proofs.left.Lts as lts
-use Rattle.roff_escape.proofs.roff.control0.Reads as control0-reads
-use Rattle.roff_escape.proofs.roff.roff_linebreak.Reads as roff-linebreak-reads
-use Rattle.roff_escape.proofs.roff.strip_newlines.Reads as strip-newlines-reads
+use Rattle.base.specs.Choice.{if_then_else_}
+use Rattle.records.specs.declared.Block.{Block}
+use Rattle.utf8.specs.Utf8.{encode, bytes}
+use Rattle.manpage.specs.Roff.{ended}
+use Rattle.manpage.specs.Parts.{locals, Follows}
+use Rattle.manpage.proofs.Blocks.{stripped, ended-nothing}
 
--- src/lib.rt:353:70
-enum-told : tie.Need-enum-told
-enum-told c = search needs
-
--- src/lib.rt:353:49
-roff-linebreak-requires : tie.Need-roff-linebreak-requires
-roff-linebreak-requires c κs = search needs
-
--- src/lib.rt:353:28
-strip-newlines-requires : tie.Need-strip-newlines-requires
-strip-newlines-requires c κs = search needs
-
--- src/lib.rt:354:64
-enum-told-2 : tie.Need-enum-told-2
-enum-told-2 c = search needs
-
--- src/lib.rt:354:73
-slice-aggregate-control0 : tie.Need-slice-aggregate-control0
-slice-aggregate-control0 c = search needs
-
--- src/lib.rt:354:49
-control0-requires : tie.Need-control0-requires
-control0-requires c κs = search needs
-
--- src/lib.rt:354:28
-strip-newlines-requires-2 : tie.Need-strip-newlines-requires-2
-strip-newlines-requires-2 c κs = search needs
-
--- src/lib.rt:355:39
-enum-told-3 : tie.Need-enum-told-3
-enum-told-3 c = search needs
-
--- src/lib.rt:355:48
-slice-aggregate-control0-2 : tie.Need-slice-aggregate-control0-2
-slice-aggregate-control0-2 c = search needs
-
--- src/lib.rt:355:24
-control0-requires-2 : tie.Need-control0-requires-2
-control0-requires-2 c κs = search needs
-
--- src/lib.rt:348:1
-same-length : tie.Need-same-length
-same-length c = search needs
-
--- src/lib.rt:348:1
 returns : tie.Need-returns
-returns c = ?
+unfolding ended
+returns c = λ p kept on.
+    let g = c .before .before .before .roff-linebreak in
+    let r = c .strip-newlines in
+    let enum-told = c .before .before .before .before .before .enum-told in
+    let a = c .before .before .before .before .before .before .before .before .args in
+    subst (λ (b : Block). Follows (ended p b (locals (a .m) kept on)) (now (a .room)) (a .m) (g .last .0) (r .result))
+    (sym (enum-told .given .1)) (stripped (r .ensures) (g .ensures))
 
--- src/lib.rt:348:1
-same-length-2 : tie.Need-same-length-2
-same-length-2 c = search needs
-
--- src/lib.rt:348:1
 returns-2 : tie.Need-returns-2
-returns-2 c = ?
+unfolding ended bytes encode if_then_else_
+returns-2 c = λ p kept on.
+    let g = c .before .before .before .control0 in
+    let r = c .strip-newlines2 in
+    let enum-told2 = c .before .before .before .before .before .before .enum-told2 in
+    let a = c .before .before .before .before .before .before .before .before .before .args in
+    subst (λ (b : Block). Follows (ended p b (locals (a .m) kept on)) (now (a .room)) (a .m) (g .last .0) (r .result))
+    (sym (enum-told2 .given .1)) (stripped (r .ensures) (g .ensures))
 
--- src/lib.rt:348:1
-same-length-3 : tie.Need-same-length-3
-same-length-3 c = search needs
-
--- src/lib.rt:348:1
 returns-3 : tie.Need-returns-3
-returns-3 c = ?
+unfolding ended bytes encode if_then_else_
+returns-3 c = λ p kept on.
+    let g = c .before .before .control02 in
+    let enum-told3 = c .before .before .before .before .before .enum-told3 in
+    let a = c .before .before .before .before .before .before .before .before .args in
+    subst (λ (b : Block). Follows (ended p b (locals (a .m) kept on)) (now (a .room)) (a .m) (g .last .0) (g .result))
+    (sym (enum-told3 .given .1)) (g .ensures)
 
--- src/lib.rt:348:1
 returns-4 : tie.Need-returns-4
-returns-4 c = ?
+returns-4 c = λ p kept on.
+    let start = c .before .before in
+    let a = start .args in
+    ended-nothing p kept on (now (a .room)) (a .m) (a .b) (start .pre) (c .match .keys4)
 
 pub left-spec : {M : Type 1} → statement M
 left-spec =
     tie.close
     (tie.spec
-    enum-told
-    roff-linebreak-requires
-    strip-newlines-requires
-    enum-told-2
-    slice-aggregate-control0
-    control0-requires
-    strip-newlines-requires-2
-    enum-told-3
-    slice-aggregate-control0-2
-    control0-requires-2
-    same-length
+    (λ c. search needs)
+    (λ c κs. search needs)
+    (λ c κs. search needs)
+    (λ c. search needs)
+    (λ c. search needs)
+    (λ c κs. search needs)
+    (λ c κs. search needs)
+    (λ c. search needs)
+    (λ c. search needs)
+    (λ c κs. search needs)
+    (λ c. search needs)
     returns
-    same-length-2
+    (λ c. search needs)
     returns-2
-    same-length-3
+    (λ c. search needs)
     returns-3
     returns-4)

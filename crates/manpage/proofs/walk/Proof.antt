@@ -1,3 +1,5 @@
+-- Invariant: what stands in the room, and the rules run from `at` on, give the whole text; captured is the text from where capture began to `at`.
+-- What falls: what is left of the document.
 use mathlib.Core.Path.{refl, sym, ap, _∙_}
 use mathlib.Core.List.{[]}
 use mathlib.Core.Bool.{true, false, not}
@@ -14,10 +16,9 @@ use Rattle.refusal.specs.declared.Refusal.the-variants as refusal
 use Rattle.room.specs.Room.{extended}
 use Rattle.roff_escape.specs.Escape.{preamble}
 use Rattle.manpage.specs.Parts.{isTermRef}
-use Rattle.manpage.proofs.Walking.{On, on-start, Taken, taken, taken-less, on-unknown, on-started, on-ended, on-text, on-captured, refused-11, refused-13, answer-refused, done}
+use Rattle.manpage.proofs.Walking.{On, on-start, Taken, taken, taken-less, on-unknown, on-started, on-ended, on-text, on-captured}
+use Rattle.manpage.proofs.Walking.{refused-11, refused-13, answer-refused, done}
 
--- Invariant: what stands in the room, and the rules run from `at` on, give the whole text; what is captured is the text from where capture
--- began up to `at`. What falls is what is left of the document.
 abbrev Inv-loop : tie.InvT-loop
 Inv-loop document room₀ m₀ capture₀ from₀ at₀ room m capture from at = On (length room₀) document room m capture from at
 
@@ -33,48 +34,54 @@ loop-holds c =
 
 -- the record at `at`
 here : (c : tie.After-record-at Inv-loop μ-loop)
-    → let l = c .before .before .before .before .before .loop in
-    Taken (length (c .before .before .before .before .before .before .before .before .put-preamble .last .0))
-    (now (c .before .before .before .before .before .before .before .before .before .before .before .before .args .document))
+    → let after-loop = c .before .before .before .before .before in
+    let l = after-loop .loop in
+    let after-put-preamble = after-loop .before .before .before in
+    Taken (length (after-put-preamble .put-preamble .last .0)) (now (after-put-preamble .before .before .before .before .args .document))
     (l .room) (l .m) (l .capture) (c .before .begin-at .result) (l .at) (c .record-at .result)
 here c =
     taken (c .before .before .before .before .before .loop .inv) (c .record-at .ensures) (c .before .before .if2 .left)
     (c .before .begin-at .result) (c .before .begin-at .ensures)
 
 same-length : tie.Need-same-length Inv-loop μ-loop
-same-length c = c .before .before .loop .inv .same ∙ c .before .before .before .before .before .put-preamble .kept .0
+same-length c =
+    let after-loop = c .before .before in
+    after-loop .loop .inv .same ∙ after-loop .before .before .before .put-preamble .kept .0
 
 same-length-2 : tie.Need-same-length-2 Inv-loop μ-loop
-same-length-2 c = c .before .before .before .loop .inv .same ∙ c .before .before .before .before .before .before .put-preamble .kept .0
+same-length-2 c =
+    let after-loop = c .before .before .before in
+    after-loop .loop .inv .same ∙ after-loop .before .before .before .put-preamble .kept .0
 
 same-length-3 : tie.Need-same-length-3 Inv-loop μ-loop
-same-length-3 c = c .before .before .before .before .before .before .before .loop .inv .same ∙ c .before .before .before .before .before .before .before .before .before .before .put-preamble .kept .0
+same-length-3 c =
+    let after-loop = c .before .before .before .before .before .before .before in
+    after-loop .loop .inv .same ∙ after-loop .before .before .before .put-preamble .kept .0
 
 returns : tie.Need-returns Inv-loop μ-loop
 returns c =
-    let w = answer-refused _ _ (c .before .before .loop .room) refusal.NoRoom (refused-13 (c .before .before .loop .inv) (c .if1 .taken)) _ (c .before .before .before .before .before .put-preamble .kept .0) in
+    let after-loop = c .before .before in
+    let l = after-loop .loop in
+    let size = after-loop .before .before .before .put-preamble .kept .0 in
+    let w = answer-refused _ _ (l .room) refusal.NoRoom (refused-13 (l .inv) (c .if1 .taken)) _ size in
     (w .stands, w .inside)
 
 returns-2 : tie.Need-returns-2 Inv-loop μ-loop
 returns-2 c =
-    let w = done (c .before .before .before .loop .inv) (c .if2 .taken) (c .before .if1 .left) _ (c .before .before .before .before .before .before .put-preamble .kept .0) in
+    let after-loop = c .before .before .before in
+    let size = after-loop .before .before .before .put-preamble .kept .0 in
+    let w = done (after-loop .loop .inv) (c .if2 .taken) (c .before .if1 .left) _ size in
     (w .stands, w .inside)
 
 returns-3 : tie.Need-returns-3 Inv-loop μ-loop
 returns-3 c =
-    let t = here (c .before .before) in
+    let if1 = c .before .before .before .before .before .if1 in
+    let after-loop = c .before .before .before .before .before .before .before in
+    let l = after-loop .loop in
+    let size = after-loop .before .before .before .put-preamble .kept .0 in
     let e = sym (c .before .is-term-ref .ensures) ∙ c .if3 .taken in
-    let w = answer-refused _ _ (c .before .before .before .before .before .before .before .loop .room) (refusal.NoForm (c .before .before .before .before .before .before .before .loop .at)) (refused-11 t (c .before .before .before .before .before .if1 .left) e) _ (c .before .before .before .before .before .before .before .before .before .before .put-preamble .kept .0) in
+    let w = answer-refused _ _ (l .room) (refusal.NoForm (l .at)) (refused-11 (here (c .before .before)) (if1 .left) e) _ size in
     (w .stands, w .inside)
-
-sub-put-text : tie.Need-sub-put-text Inv-loop μ-loop
-sub-put-text c = let r = c .before .before .before .before .before .before .before .record-at .ensures in omega (arith, r .order, r .ends)
-
-part-put-text-start : tie.Need-part-put-text-start Inv-loop μ-loop
-part-put-text-start c = let r = c .before .before .before .before .before .before .before .record-at .ensures in omega (arith, r .order, r .ends)
-
-part-put-text-end : tie.Need-part-put-text-end Inv-loop μ-loop
-part-put-text-end c = let r = c .before .before .before .before .before .before .before .record-at .ensures in omega (arith, r .high, r .ends)
 
 ended-requires : tie.Need-ended-requires Inv-loop μ-loop
 ended-requires c κs =
@@ -82,7 +89,7 @@ ended-requires c κs =
     (omega (arith, t .inside), t .behind)
 
 loop-less : tie.Need-loop-less Inv-loop μ-loop
-loop-less c = taken-less (here (c .before .before .before .before .before .before .before .before .before .before .before))
+loop-less c = taken-less (here (c .before .before .before .before .before .before .before .before .before .before))
 
 loop-less-2 : tie.Need-loop-less-2 Inv-loop μ-loop
 loop-less-2 c = taken-less (here (c .before .before .before .before .before .before))
@@ -99,9 +106,10 @@ loop-less-5 c = taken-less (here (c .before .before .before .before))
 loop-again : tie.Need-loop-again Inv-loop μ-loop
 loop-again c =
     let g = c .before .before .put-text in
-    let k = c .before .before .before .before .before .before .before .kind .given .1 in
-    on-text (here (c .before .before .before .before .before .before .before .before .before .before .before)) (g .last .0) (g .result) (g .kept .0) k
-    (not-true _ (c .before .before .before .before .before .if4 .taken)) (g .ensures)
+    let if4 = c .before .before .before .before .if4 in
+    let kind = c .before .before .before .before .before .before .kind in
+    let t = here (c .before .before .before .before .before .before .before .before .before .before) in
+    on-text t (g .last .0) (g .result) (g .kept .0) (kind .given .1) (not-true _ (if4 .taken)) (g .ensures)
 
 loop-again-2 : tie.Need-loop-again-2 Inv-loop μ-loop
 loop-again-2 c = on-captured (here (c .before .before .before .before .before .before)) (c .before .before .kind .given .1) (not-false _ (c .if4 .left))
@@ -109,15 +117,21 @@ loop-again-2 c = on-captured (here (c .before .before .before .before .before .b
 loop-again-3 : tie.Need-loop-again-3 Inv-loop μ-loop
 loop-again-3 c =
     let g = c .before .before .before .started in
-    let n = sym (ap isTermRef (c .before .before .before .before .before .before .kind2 .given .1)) ∙ sym (c .before .before .before .before .before .before .before .before .before .is-term-ref .ensures) ∙ c .before .before .before .before .before .before .before .before .if3 .left in
-    on-started (here (c .before .before .before .before .before .before .before .before .before .before)) (g .last .0) (g .result) (g .kept .0) (c .opens-capture .result) (c .before .before .before .before .before .before .kind2 .given .1) n (c .opens-capture .ensures)
+    let k = c .before .before .before .before .before .before .kind2 .given .1 in
+    let if3 = c .before .before .before .before .before .before .before .before .if3 in
+    let after-is-term-ref = c .before .before .before .before .before .before .before .before .before in
+    let n = sym (ap isTermRef k) ∙ sym (after-is-term-ref .is-term-ref .ensures) ∙ if3 .left in
+    on-started (here (after-is-term-ref .before)) (g .last .0) (g .result) (g .kept .0) (c .opens-capture .result) k n (c .opens-capture .ensures)
     (g .ensures)
 
 loop-again-4 : tie.Need-loop-again-4 Inv-loop μ-loop
 loop-again-4 c =
     let g = c .before .before .before .ended in
-    let n = sym (ap isTermRef (c .before .before .before .before .before .before .kind3 .given .1)) ∙ sym (c .before .before .before .before .before .before .before .before .before .is-term-ref .ensures) ∙ c .before .before .before .before .before .before .before .before .if3 .left in
-    on-ended (here (c .before .before .before .before .before .before .before .before .before .before)) (g .last .0) (g .result) (g .kept .0) (c .ends-capture .result) (c .before .before .before .before .before .before .kind3 .given .1) n (c .ends-capture .ensures)
+    let k = c .before .before .before .before .before .before .kind3 .given .1 in
+    let if3 = c .before .before .before .before .before .before .before .before .if3 in
+    let after-is-term-ref = c .before .before .before .before .before .before .before .before .before in
+    let n = sym (ap isTermRef k) ∙ sym (after-is-term-ref .is-term-ref .ensures) ∙ if3 .left in
+    on-ended (here (after-is-term-ref .before)) (g .last .0) (g .result) (g .kept .0) (c .ends-capture .result) k n (c .ends-capture .ensures)
     (g .ensures)
 
 loop-again-5 : tie.Need-loop-again-5 Inv-loop μ-loop
@@ -141,9 +155,6 @@ walk-spec =
     same-length-3
     returns-3
     (λ c. search needs)
-    sub-put-text
-    part-put-text-start
-    part-put-text-end
     (λ c κs. search needs)
     (λ c. search needs)
     (λ c κs. search needs)
