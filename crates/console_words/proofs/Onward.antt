@@ -1,4 +1,4 @@
--- Words that follow on their line: the rules for one chunk, for one word after another, and a word copied byte by byte. Assumes nothing.
+-- Words that follow on their line: the rules for one chunk, and for one run of words after another. Assumes nothing.
 use Prim.Native.Nat.{ℕ, _+_, _-_, _≤_, _<_, max}
 use mathlib.Core.Path.{_≡_, refl, ap, _∙_}
 use mathlib.Core.Bool.{Bool, true, false, false≢true}
@@ -6,6 +6,7 @@ use mathlib.Core.Logic.{⊎-elim}
 use mathlib.Core.List.{List, [], _++_, append-nil}
 use lib.ListN.{length, take}
 use lib.Seq.{length-take-le}
+use native.Mathlib.Nat.{add-zero}
 use native.Mathlib.Omega.{arith}
 use lib.Dec.{leb}
 use borrow.Author.Tests.{le-ltb, le-leb, lt-leb}
@@ -13,20 +14,22 @@ use Rattle.base.specs.Bytes.{part}
 use Rattle.base.specs.Result.{gives, _>>=_}
 use Rattle.base.proofs.Choice.{if-false, le-or-lt}
 use Rattle.utf8.specs.Utf8.{characters}
-use Rattle.splitter.specs.Split.{raw}
+use Rattle.splitter.proofs.Fits.{count-short}
 use Rattle.splitter.specs.declared.Code.{Code}
 use Rattle.splitter.specs.declared.Code.the-variants as code
 use Rattle.renderer.specs.Walk.{page, withLay, empty}
-use Rattle.console_rules.specs.Console.{State, column, settled, measureOf, reach, place, put, rawChunk, chunk}
+use Rattle.console_rules.specs.Console.{State, column, settled, measureOf, measureBy, reach, place, put, rawChunk, chunk}
 use Rattle.console_rules.specs.declared.Settings.{Settings}
 use Rattle.console_rules.specs.declared.Lay.{Lay}
+use Rattle.console_rules.specs.declared.Measure.{Measure}
+use Rattle.console_rules.specs.declared.Measure.the-variants as measure
 use Rattle.console_chunks.proofs.Chunks.{line-idle, blank-idle, gap-no, put-near, empty-some}
 use Rattle.console_chunks.specs.declared.Mark.{Mark}
 use Rattle.console_words.specs.Onward.{Quiet, Task, fullOf, ruleOf, Plain, Onward, Ready, Ahead, Moves}
 use Rattle.words.specs.Copies.{Copies}
 use Rattle.words.proofs.Follow.{write-in}
-use Rattle.words.proofs.Onward.{onward-start as words-start, onward-same as words-same, onward-next as words-next, word-length}
-use Rattle.words.specs.declared.Word.{Word}
+use Rattle.words.proofs.Copying.{characters-join, part-short, part-narrow}
+use Rattle.words.proofs.Onward.{Written, onward-start as words-start, onward-run as words-run}
 
 -- A chunk that fits on its line, where nothing is due: it is written, and the column goes on by its width.
 module _ (limit margin p : ℕ) (x : List ℕ) (w : ℕ) (kept : List ℕ) (lay : Lay) (out : List ℕ) (q : Quiet margin lay) (h : length out + length x ≤ limit) where
@@ -67,7 +70,7 @@ module _ (limit margin p : ℕ) (x : List ℕ) (w : ℕ) (kept : List ℕ) (lay 
       ∙ rw (line-idle limit here (rw (q .newline, q .blank)), blank-idle limit here (q .blank))
       (if-false _ _ (le-ltb (set .width) (lay .column .0 + measure x) k) ∙ put-there)
 
--- One word after another.
+-- One run of words after another.
 
 column-same : (col : ℕ) (lay : Lay) → lay .column .0 ≡ col → column col lay ≡ lay
 column-same col lay e = rw (← e) refl
@@ -81,50 +84,44 @@ onward-start set x old len col at h k = record {
   words = words-start (fullOf set) (ruleOf set) (Plain col) x old len at (column col) (λ t lay p. column-same col lay (p .here));
 }
 
+-- what a text counts for is at most its bytes, whichever the measure
+measure-short : (m : Measure) (y : List ℕ) → measureBy m y ≤ length y
+measure-short measure.Bytes y = omega arith
+measure-short measure.Characters y = count-short y
+
+-- A run that is no longer than the line has columns left.
 module _ (set : Settings) (x old : List ℕ) (len col at : ℕ) (new : List ℕ) (len′ col′ at′ : ℕ) (o : Onward set x old len col at new len′ col′ at′)
-    (new′ : List ℕ) (w : Word) (c : Copies x at′ len′ new new′ w) (size : length new′ ≡ length new) where
-  -- a word that does not count
-  pub onward-same : Onward set x old len col at new′ len′ col′ at′
-  onward-same = record {
-    some = o .some;
-    inside = o .inside;
-    grows = o .grows;
-    near = o .near;
-    words = words-same (fullOf set) (ruleOf set) (Plain col) x old len at (column col′) new len′ at′ (o .words) new′ w c size;
+    (new′ : List ℕ) (most to width : ℕ) (c : Copies x at′ most len′ new new′ to width) (size : length new′ ≡ length new)
+    (thin : col′ + most ≤ set .width) where
+  quiet-on : (n margin : ℕ) (lay : Lay) → Quiet margin lay → lay .column .0 ≡ col → Quiet margin (column (col′ + n) lay)
+  quiet-on n margin lay q d = record { newline = q .newline; blank = q .blank; gutter = q .gutter; reached = omega (arith, q .reached, o .grows) }
+
+  -- each of its words and spaces is written where it stands
+  word-there : Written (fullOf set) (ruleOf set) (Plain col) x new′ len′ at′ to (λ n. column (col′ + n))
+  unfolding chunk
+  word-there p e a b d t kept lay q =
+      let out = take (len′ + (p - at′)) new′ in
+      let text = part x p e in
+      let fits = c .fits (omega arith) in
+      let k : length out ≡ len′ + (p - at′) = length-take-le (len′ + (p - at′)) new′ (omega arith) in
+      let joined = characters-join x at′ p e a (omega arith) in
+      let counts : col′ + characters (part x at′ p) + measureOf set text ≤ set .width =
+      omega (arith, part-narrow x at′ p, measure-short (set .measure) text, part-short x p e, c .near) in
+      raw-there (length new′) (t .margin) (t .start + p) text (characters text) kept (column (col′ + characters (part x at′ p)) lay) out
+      (quiet-on (characters (part x at′ p)) (t .margin) lay (q .quiet) (q .here)) (omega (arith, part-short x p e)) (measureOf set) set
+      (empty-some new′ (len′ + (p - at′)) (λ z. omega (arith, o .some)) (omega arith)) counts
+      ∙ ap (λ (n : ℕ). gives (page kept (column n lay) (out ++ text))) (omega arith)
+
+  pub onward-run : Onward set x old len col at new′ (len′ + (to - at′)) (col′ + width) to
+  onward-run = record {
+    some = omega (arith, o .some);
+    inside = ⊎-elim (λ (h : to ≤ at′). omega (arith, o .inside)) (λ (h : at′ < to). omega (arith, c .fits h, o .words .size)) (le-or-lt to at′);
+    grows = omega (arith, o .grows);
+    near = omega (arith, o .near, o .words .order, c .order, c .counts, part-narrow x at′ to);
+    words =
+        words-run (fullOf set) (ruleOf set) (Plain col) x old len at (column col′) new len′ at′ (o .words) new′ most to width c size
+        (λ n. column (col′ + n)) (λ lay. ap (λ (n : ℕ). column n lay) (add-zero col′)) word-there;
   }
-
-  -- a word that fits, with what it counts for
-  module _ (h : at′ < w .to) (n : ℕ) (counts : (y : List ℕ) → length y ≡ w .to - at′ → characters y ≡ w .width → n ≡ measureOf set y)
-      (thin : col′ + n ≤ set .width) where
-    abbrev text : List ℕ
-    text = part x at′ (w .to)
-
-    long : length text ≡ w .to - at′
-    long = word-length (fullOf set) (ruleOf set) (Plain col) x old len at (column col′) new len′ at′ (o .words) new′ w c size h
-
-    quiet-on : (margin : ℕ) (lay : Lay) → Quiet margin lay → lay .column .0 ≡ col → Quiet margin (column col′ lay)
-    quiet-on margin lay q d = record { newline = q .newline; blank = q .blank; gutter = q .gutter; reached = omega (arith, q .reached, o .grows) }
-
-    word-there : (t : Task) (kept : List ℕ) (lay : Lay) → Plain col t lay
-        → ruleOf set t (length new) (record { place = at′; chunk = raw text (w .width) }) (page kept (column col′ lay) (take len′ new))
-        ≡ gives (page kept (column (col′ + w .width) lay) (take len′ new ++ text))
-    unfolding chunk
-    word-there t kept lay p =
-        let k : length (take len′ new) ≡ len′ = length-take-le len′ new (omega (arith, c .fits h)) in
-        raw-there (length new) (t .margin) (t .start + at′) text (w .width) kept (column col′ lay) (take len′ new)
-        (quiet-on (t .margin) lay (p .quiet) (p .here)) (omega (arith, c .fits h, long)) (measureOf set) set
-        (empty-some new len′ (λ z. omega (arith, o .some)) (omega (arith, c .fits h))) (omega (arith, counts text long (c .counts h)))
-
-    pub onward-next : Onward set x old len col at new′ (len′ + (w .to - at′)) (col′ + w .width) (w .to)
-    onward-next = record {
-      some = omega (arith, o .some);
-      inside = omega (arith, c .fits h, o .words .size);
-      grows = omega (arith, o .grows);
-      near = omega (arith, o .near, o .words .order, c .narrow h);
-      words =
-          words-next (fullOf set) (ruleOf set) (Plain col) x old len at (column col′) new len′ at′ (o .words) new′ w c size h
-          (column (col′ + w .width)) word-there;
-    }
 
 -- Where a word would follow at once.
 

@@ -1,17 +1,12 @@
 // Words and spaces that follow on their line as they stand (src/buffer/console.rs): what the console does most, in one pass over their
 // bytes, without the tests that only another chunk can pass.
-ghost use mathlib.Core.Path.{_≡_};
-ghost use mathlib.Core.List.{List};
-ghost use Prim.Native.Nat.{ℕ, _<_, _≤_};
+ghost use Prim.Native.Nat.{_<_, _≤_};
 ghost use lib.ListN.{length};
-ghost use Rattle.utf8.specs.Utf8.{characters};
-ghost use Rattle.console_rules.specs.Console.{measureOf};
 ghost use Rattle.console_words.specs.Onward.{Onward, Ahead, Moves};
 use console_chunks::Mark;
 use console_rules::Bytes;
 use console_rules::Columns;
 use console_rules::Lay;
-use console_rules::Measure;
 use console_rules::Settings;
 use splitter::Code;
 
@@ -22,19 +17,8 @@ struct Line {
     at: usize,
 }
 
-// What a word or a space counts for in the fold test, from its bytes and its width alone; for its width at least.
-fn measure_word(set: Settings, bytes: Bytes, width: Columns) -> Bytes
-    ensures { λ r. ⌜ ((x : List ℕ) → length x ≡ bytes .0 → characters x ≡ width .0 → r .0 ≡ measureOf set x) ⌝ }
-    ensures wide { λ r. ⌜ (width .0 ≤ bytes .0 → width .0 ≤ r .0) ⌝ }
-{
-    let measure = set.measure;
-    match measure {
-        Measure::Bytes => Bytes(bytes.0),
-        Measure::Characters => Bytes(width.0),
-    }
-}
-
-// Words and spaces as long as they fit on the line and into the room.
+// Words and spaces as long as they fit on the line and into the room, run after run. A run has no more bytes than the line has columns left, so
+// that none of its chunks folds, whichever the measure. Where its columns are as many as its bytes, no further run fits.
 fn fill_line(
     room: &mut [u8],
     len: Bytes,
@@ -49,22 +33,25 @@ fn fill_line(
     let mut len = len;
     let mut column = column;
     let mut at = from;
-    loop {
-        let w = words::copy_next(room, len.0, body, at);
-        let n = w.to - at;
-        if n == 0 {
+    while at < body.len() {
+        if set.width <= column.0 {
             return Line { len, column, at };
         }
-        let counts = measure_word(set, Bytes(n), Columns(w.width));
-        if console_chunks::folds_at(set.width, column, counts) {
+        if body[at] == b'\n' {
             return Line { len, column, at };
         }
+        let run = words::copy_run(room, len.0, body, at, set.width - column.0);
+        let n = run.to - at;
         let longer = len.0 + n;
-        let wider = column.0 + w.width;
+        let wider = column.0 + run.width;
         len = Bytes(longer);
         column = Columns(wider);
-        at = w.to;
+        at = run.to;
+        if run.width == n {
+            return Line { len, column, at };
+        }
     }
+    Line { len, column, at }
 }
 
 // Whether a word would follow on the line at once: something is written, nothing is due, no column is missing to the margin.

@@ -1,4 +1,4 @@
--- Words that go out as they stand: one, one after another, and as the walk sees them. Assumes nothing.
+-- Words that go out as they stand: one, a run of them, and as the walk sees them. Assumes nothing.
 use Prim.Native.Nat.{ℕ, _+_, _-_, _≤_, _<_}
 use mathlib.Core.Path.{_≡_, refl, sym, ap, _∙_}
 use mathlib.Core.Bool.{Bool, true, false}
@@ -10,14 +10,14 @@ use borrow.Author.Tests.{ne-eqb, le-ltb}
 use Rattle.base.specs.Bytes.{part}
 use Rattle.base.specs.Result.{gives, _>>=_}
 use Rattle.base.proofs.Choice.{if-false}
-use Rattle.utf8.specs.Utf8.{bytes}
+use Rattle.utf8.specs.Utf8.{bytes, characters}
 use Rattle.splitter.specs.declared.Code.{Code}
 use Rattle.splitter.specs.declared.Code.the-variants as code
 use Rattle.renderer.specs.Walk.{page, write}
 use Rattle.words.specs.Copies.{Copies}
-use Rattle.words.specs.declared.Word.{Word}
 use Rattle.words.proofs.Follow.{write-in}
-use Rattle.words.proofs.Onward.{onward-start as words-start, onward-same as words-same, onward-next as words-next, word-length}
+use Rattle.words.proofs.Copying.{part-short, part-narrow}
+use Rattle.words.proofs.Onward.{Written, onward-start as words-start, onward-run as words-run}
 use Rattle.html_rules.specs.Markdown.{State, fenced, wordText, codeStops, rawChunk, chunk}
 use Rattle.html_rules.specs.declared.Markdown.{Markdown}
 use Rattle.markdown_chunks.specs.Onward.{ruleOf, Plain, Onward, Ready, Ahead, Moves}
@@ -47,26 +47,26 @@ module _ (limit : ℕ) (x : List ℕ) (w : ℕ) (kept : List ℕ) (lay : Markdow
       ∙ if-false _ _ (ne-eqb w 1_000_000 (λ e. omega arith))
       ∙ rw nothing-stops word-there
 
--- One word after another.
+-- No word, and a run of them.
 
 pub onward-start : (x old : List ℕ) (len at : ℕ) → Onward x old len at old len at
 onward-start x old len at = words-start (λ full. full) ruleOf (λ _ l. Plain x l) x old len at (λ l. l) (λ full lay q. refl)
 
-module _ (x old : List ℕ) (len at : ℕ) (new : List ℕ) (len′ at′ : ℕ) (o : Onward x old len at new len′ at′)
-    (new′ : List ℕ) (w : Word) (c : Copies x at′ len′ new new′ w) (size : length new′ ≡ length new) where
-  pub onward-same : Onward x old len at new′ len′ at′
-  onward-same = words-same (λ full. full) ruleOf (λ _ l. Plain x l) x old len at (λ l. l) new len′ at′ o new′ w c size
-
-  module _ (h : at′ < w .to) where
-    pub onward-next : Onward x old len at new′ (len′ + (w .to - at′)) (w .to)
-    unfolding chunk
-    onward-next =
-        let long = word-length (λ full. full) ruleOf (λ _ l. Plain x l) x old len at (λ l. l) new len′ at′ o new′ w c size h in
-        let n : length (take len′ new) ≡ len′ = length-take-le len′ new (omega (arith, c .fits h)) in
-        words-next (λ full. full) ruleOf (λ _ l. Plain x l) x old len at (λ l. l) new len′ at′ o new′ w c size h (λ l. l)
-        (λ full kept lay q.
-        raw-there (length new) (part x at′ (w .to)) (w .width) kept lay (take len′ new) q (omega (arith, c .fits h, long))
-        (omega (arith, q .few, c .narrow h, c .within h)))
+pub onward-run : (x old : List ℕ) (len at : ℕ) (new : List ℕ) (most to width : ℕ) → Copies x at most len old new to width → length new ≡ length old
+    → Onward x old len at new (len + (to - at)) to
+unfolding chunk
+onward-run x old len at new most to width c size =
+    words-run (λ full. full) ruleOf (λ _ l. Plain x l) x old len at (λ l. l) old len at (onward-start x old len at) new most to width c size
+    (λ _ l. l) (λ lay. refl) written
+  where
+    -- each of its words and spaces is written where it stands
+    written : Written (λ full. full) ruleOf (λ _ l. Plain x l) x new len at to (λ _ l. l)
+    written p e a b d full kept lay q =
+        let g : at < to = omega arith in
+        let fits = c .fits g in
+        let n : length (take (len + (p - at)) new) ≡ len + (p - at) = length-take-le (len + (p - at)) new (omega arith) in
+        raw-there (length new) (part x p e) (characters (part x p e)) kept lay (take (len + (p - at)) new) q (omega (arith, part-short x p e))
+        (omega (arith, q .few, part-narrow x p e, c .within g))
 
 -- As the walk sees them.
 

@@ -139,16 +139,17 @@ pub struct Run {
 fn put_words(room: &mut [u8], len: usize, body: &[u8], from: usize) -> Run
     ensures { λ r. ⌜ Onward (now (body .entry)) (now (room .entry)) len from (now (room .exit)) (r .len) (r .at) ⌝ }
 {
-    let mut n = len;
-    let mut at = from;
-    loop {
-        let w = words::copy_next(room, n, body, at);
-        let k = w.to - at;
-        if k == 0 {
-            return Run { len: n, at };
-        }
-        n += k;
-        at = w.to;
+    if body.len() <= from {
+        return Run { len, at: from };
+    }
+    if body[from] == b'\n' {
+        return Run { len, at: from };
+    }
+    let run = words::copy_run(room, len, body, from, body.len());
+    let n = run.to - from;
+    Run {
+        len: len + n,
+        at: run.to,
     }
 }
 

@@ -1,248 +1,247 @@
--- A word that is copied byte by byte as it is read. Assumes nothing.
-use Prim.Native.Nat.{ℕ, _+_, _-_, _/_, _≤_, _<_}
-use mathlib.Core.Path.{_≡_, refl, sym, ap, ap₂, _∙_}
-use mathlib.Core.Bool.{true, false}
-use mathlib.Core.Logic.{_⊎_, inl, inr, ⊎-elim}
-use mathlib.Core.List.{List, [], _∷_, _++_, append-nil}
-use lib.ListN.{length, take, drop, getD, set, length-set, length-drop, drop-of-length-le, List·getD-eq-default}
-use lib.Seq.{take-take, take-append-le, length-take-le, take-suc-set, getD-drop, take-set-le, drop-cons}
+-- Bytes of a line that are copied, block by block and byte by byte, and the words among them that are whole. Assumes nothing.
+use Prim.Native.Nat.{ℕ, zero, suc, _+_, _-_, _/_, _≤_, _<_}
+use mathlib.Core.Path.{_≡_, refl, sym, ap, subst, _∙_}
+use mathlib.Core.List.{List, [], _∷_, _++_, append-nil, append-assoc}
+use mathlib.Core.Bool.{true, false≢true}
+use mathlib.Core.Logic.{⊎-elim}
+use lib.ListN.{length, take, drop, getD, set, length-set, length-take}
+use lib.Seq.{take-take, take-append-add, take-add, take-suc-set, length-take-le, drop-cons, drop-drop}
 use native.Mathlib.Nat.{add-zero}
 use native.Mathlib.Numerals.{add-one}
 use native.Mathlib.Omega.{arith}
-use borrow.Author.Tests.{ne-eqb, le-leb, lt-leb}
-use Rattle.base.specs.Bytes.{startsWith}
-use Rattle.base.specs.Choice.{if_then_else_}
-use Rattle.base.proofs.Choice.{pick, if-true, if-false, le-or-lt}
+use Rattle.base.specs.Bytes.{part}
+use Rattle.base.proofs.Choice.{le-or-lt}
 use Rattle.utf8.specs.Utf8.{characters}
-use Rattle.room.proofs.Laws.{copied-more}
-use Rattle.splitter.specs.Split.{isLineEndOrSpace, raw, word}
-use Rattle.splitter.specs.Parts.{wordFrom}
-use Rattle.splitter.specs.Answers.{placedFrom, cursor}
-use Rattle.splitter.specs.declared.Code.the-variants as code
-use Rattle.splitter.specs.declared.Piece.the-variants.{Raw, Space}
-use Rattle.splitter.specs.declared.Step.the-variants.{Take}
-use Rattle.splitter.proofs.Before.{before-stop, before-go, before-none, before-part, space-ends, line-ends, neither-ends}
-use Rattle.splitter.proofs.Words.{Reading, reading-start, reading-stop, reading-end, reading-one, reading-none}
-use Rattle.splitter.proofs.Steps.{placed-take}
-use Rattle.splitter.proofs.Answers.{plain-word, plain-space, answers-some}
-use Rattle.words.specs.Copies.{nextWord, fittingWord, Copies}
-use Rattle.words.specs.declared.Word.{Word}
+use Rattle.utf8.proofs.Laws.{adds, adds-by, adds-not}
+use Rattle.splitter.specs.Split.{isLineEndOrSpace}
+use Rattle.splitter.proofs.Fits.{count-short}
+use Rattle.words.specs.Copies.{NoLineEnd, Copying, Whole, Copies}
 
--- the byte at a place of a body, as a byte after another place
-getD-after : (x : List ℕ) (at to : ℕ) → at ≤ to → getD (drop at x) (to - at) 0 ≡ getD x to 0
-getD-after x at to h = getD-drop at x (to - at) 0 ∙ ap (λ (k : ℕ). getD x k 0) (omega arith)
+-- Parts
 
--- what ends a word is not above a space
-pub above-space : (b : ℕ) → 0x20 < b → isLineEndOrSpace b ≡ false
-above-space b h = neither-ends b (λ e. omega arith) (λ e. omega arith)
+pub characters-append : (a b : List ℕ) → characters (a ++ b) ≡ characters a + characters b
+characters-append [] b = omega arith
+characters-append (x ∷ a) b = let h = characters-append a b in omega arith
 
--- a space is one character
-one-character : characters (0x20 ∷ []) ≡ 1
-unfolding if_then_else_
-one-character = refl
+module _ (x : List ℕ) (at i : ℕ) (h : at ≤ i) where
+  -- a part with some bytes more
+  pub part-more : (n : ℕ) → part x at (i + n) ≡ part x at i ++ take n (drop i x)
+  part-more n =
+      let s : i + n - at ≡ i - at + n = omega arith in
+      let d : at + (i - at) ≡ i = omega arith in
+      rw (s, take-add (i - at) n (drop at x), drop-drop (i - at) at x, d) refl
 
--- The word or the space at a place, and whether it fits
+  -- two parts of one
+  pub part-join : (to : ℕ) → i ≤ to → part x at to ≡ part x at i ++ part x i to
+  part-join to k =
+      let s : i + (to - i) ≡ to = omega arith in
+      ap (λ (e : ℕ). part x at e) (sym s) ∙ part-more (to - i)
 
--- no word: it ends where it starts
-abbrev noWord : ℕ → Word
-noWord at = record { to = at; width = 0 }
+-- its characters are those of both
+pub characters-join : (x : List ℕ) (at i to : ℕ) → at ≤ i → i ≤ to → characters (part x at to) ≡ characters (part x at i) + characters (part x i to)
+characters-join x at i to h k = ap characters (part-join x at i h to k) ∙ characters-append (part x at i) (part x i to)
 
-module _ (x : List ℕ) (at : ℕ) where
-  no-space : (getD x at 0 ≡ 0x20 → ⊥) → startsWith (0x20 ∷ []) (drop at x) ≡ false
-  unfolding startsWith
-  no-space n =
-      ⊎-elim (λ (h : length x ≤ at). rw (drop-of-length-le x h)) (λ (h : at < length x). rw (drop-cons x at 0 h, ne-eqb _ 0x20 n)) (le-or-lt (length x) at)
+-- they are no more than its bytes, and its bytes no more than its places
+pub part-short : (x : List ℕ) (at to : ℕ) → length (part x at to) ≤ to - at
+part-short x at to = omega (arith, length-take (to - at) (drop at x))
 
-  next-word : (getD x at 0 ≡ 0x20 → ⊥) → nextWord x at ≡ record { to = at + length (word (drop at x)); width = characters (word (drop at x)) }
-  unfolding nextWord
-  next-word n = if-false _ _ (no-space n)
+pub part-narrow : (x : List ℕ) (at to : ℕ) → characters (part x at to) ≤ to - at
+part-narrow x at to = omega (arith, count-short (part x at to), part-short x at to)
 
-  next-space : at < length x → getD x at 0 ≡ 0x20 → nextWord x at ≡ record { to = at + 1; width = 1 }
-  unfolding nextWord startsWith
-  next-space h e = if-true _ _ (rw (drop-cons x at 0 h, e))
+-- one byte
+pub take-one : (x : List ℕ) (i : ℕ) → i < length x → take 1 (drop i x) ≡ getD x i 0 ∷ []
+take-one x i h = rw (drop-cons x i 0 h) refl
 
-  -- a word that is empty is none
-  empty-none : (s : List ℕ) → _⊎_ (_≡_ {A = Word} (record { to = at + length s; width = characters s }) (noWord at)) (1 ≤ length s)
-  empty-none [] = inl (rw add-zero refl)
-  empty-none (b ∷ s) = inr (omega arith)
+pub count-one : (b : ℕ) → characters (b ∷ []) ≡ adds b
+count-one b = omega arith
 
-  -- there is none, or it ends further on
-  next-some : (nextWord x at ≡ noWord at) ⊎ (at < nextWord x at .to)
-  unfolding nextWord
-  next-some =
-      pick (λ (w : Word). (w ≡ noWord at) ⊎ (at < w .to)) _ (λ _. inr (omega arith))
-      (λ _. ⊎-elim inl (λ (h : 1 ≤ length (word (drop at x))). inr (omega arith)) (empty-none (word (drop at x))))
+-- what was copied up to a place was copied up to any place before
+pub copied-part : (x old new : List ℕ) (len at far e : ℕ) → len ≤ length old → at ≤ e → e ≤ far → take (len + (far - at)) new ≡ take len old ++ part x at far
+    → take (len + (e - at)) new ≡ take len old ++ part x at e
+copied-part x old new len at far e h a b copied =
+    let n : length (take len old) ≡ len = length-take-le len old h in
+    sym (take-take (len + (e - at)) (len + (far - at)) new (omega arith))
+    ∙ ap (λ (l : List ℕ). take (len + (e - at)) l) copied
+    ∙ ap (λ (m : ℕ). take (m + (e - at)) (take len old ++ part x at far)) (sym n)
+    ∙ take-append-add (take len old) (part x at far) (e - at)
+    ∙ ap (λ (l : List ℕ). take len old ++ l) (take-take (e - at) (far - at) (drop at x) (omega arith))
 
-  next-past : length x ≤ at → nextWord x at ≡ noWord at
-  next-past h =
-      next-word (λ e. let z : getD x at 0 ≡ 0 = List·getD-eq-default x 0 h in omega arith)
-      ∙ rw (before-none isLineEndOrSpace x at h, add-zero)
+-- Bytes of a line
 
-  module _ (room len : ℕ) where
-    -- the word fits
-    fitting-word : (w : Word) → nextWord x at ≡ w → len + (w .to - at) ≤ room → w ≡ fittingWord room len x at
-    unfolding fittingWord
-    fitting-word w e h = sym (if-true _ _ (rw e (le-leb (len + (w .to - at)) room h)) ∙ e)
-
-    -- it does not
-    fitting-none : (w : Word) → nextWord x at ≡ w → room < len + (w .to - at) → noWord at ≡ fittingWord room len x at
-    unfolding fittingWord
-    fitting-none w e h = sym (if-false _ _ (rw e (lt-leb (len + (w .to - at)) room h)))
-
-    -- in a full room none does
-    pub fitting-full : room ≤ len → noWord at ≡ fittingWord room len x at
-    unfolding fittingWord
-    fitting-full h = ⊎-elim (λ e. pick (λ w. noWord at ≡ w) _ (λ _. sym e) (λ _. refl)) (λ l. fitting-none _ refl (omega arith)) next-some
-
-    -- past the body's end there is none
-    pub fitting-past : length x ≤ at → noWord at ≡ fittingWord room len x at
-    unfolding fittingWord
-    fitting-past h = pick (λ w. noWord at ≡ w) _ (λ _. sym (next-past h)) (λ _. refl)
-
--- a word from `at` on is read up to `to` and copied after the first `len` bytes
-pub record Copying (x : List ℕ) (at len : ℕ) (old new : List ℕ) (to width : ℕ) : Type 0 where
-  pub reading : Reading x at to width
-  pub size : length new ≡ length old
-  pub order : at ≤ to
-  pub within : to ≤ length x
-  pub narrow : width ≤ to - at
-  pub fits : len + (to - at) ≤ length old
-  pub copied : take (len + (to - at)) new ≡ take len old ++ take (to - at) (drop at x)
-
-module _ (x : List ℕ) (at len : ℕ) (old : List ℕ) where
-  pub copying-start : len ≤ length old → at < length x → Copying x at len old old at 0
-  copying-start h k =
+module _ (x : List ℕ) (at stop len : ℕ) (old : List ℕ) where
+  pub copying-start : at ≤ stop → Copying x at stop len old old at 0
+  copying-start h =
       let z : at - at ≡ 0 = omega arith in
       record {
-        reading = reading-start x at;
         size = refl;
         order = omega arith;
-        within = omega arith;
-        narrow = omega arith;
-        fits = omega arith;
-        copied = rw (z, add-zero, append-nil);
+        near = h;
+        plain = λ k a b e. omega arith;
+        counts = rw z refl;
+        copied = rw (z, add-zero, append-nil) refl;
       }
 
-  module _ (new : List ℕ) (to width : ℕ) (c : Copying x at len old new to width) where
-    -- the bytes before the word are as they were
-    stays-there : take len new ≡ take len old
-    stays-there =
-        let n : length (take len old) ≡ len = length-take-le len old (omega (arith, c .fits)) in
-        sym (take-take len (len + (to - at)) new (omega arith))
-        ∙ ap (λ (l : List ℕ). take len l) (c .copied)
-        ∙ take-append-le len (take len old) (take (to - at) (drop at x)) (omega arith)
-        ∙ take-take len len old (omega arith)
+  module _ (mid : List ℕ) (i width : ℕ) (c : Copying x at stop len old mid i width) where
+    -- some bytes more
+    pub copying-more : (n w : ℕ) (new : List ℕ) → i + n ≤ stop → length new ≡ length mid → NoLineEnd x i (i + n)
+        → w ≡ width + characters (take n (drop i x)) → take (len + (i - at) + n) new ≡ take (len + (i - at)) mid ++ take n (drop i x)
+        → Copying x at stop len old new (i + n) w
+    copying-more n w new h size plain e f =
+        let more = part-more x at i (c .order) n in
+        let s : len + (i + n - at) ≡ len + (i - at) + n = omega (arith, c .order) in
+        record {
+          size = size ∙ c .size;
+          order = omega (arith, c .order);
+          near = h;
+          plain = λ k a b. ⊎-elim (λ (l : i ≤ k). plain k l b) (λ (l : k < i). c .plain k a l) (le-or-lt i k);
+          counts = ap characters more ∙ characters-append (part x at i) (take n (drop i x)) ∙ omega (arith, c .counts);
+          copied =
+              rw (s, more) (f ∙ ap (λ (y : List ℕ). y ++ take n (drop i x)) (c .copied)
+              ∙ append-assoc (take len old) (part x at i) (take n (drop i x)));
+        }
 
-    -- a word that goes on where the room ends
-    pub copied-none : (getD x at 0 ≡ 0x20 → ⊥) → to < length x → isLineEndOrSpace (getD x to 0) ≡ false → length old ≤ len + (to - at)
-        → Copies x at len old new (record { to = at; width = 0 })
-    copied-none n h e f = record {
-      exact =
-          let g = ap length (before-go isLineEndOrSpace x to h e) in
-          fitting-none x at (length old) len _ (next-word x at n) (omega (arith, c .reading .ends, c .order));
-      stays = stays-there;
-      order = omega arith;
-      copied = λ h. absurd (omega arith);
-      fits = λ h. absurd (omega arith);
-      within = λ h. absurd (omega arith);
-      narrow = λ h. absurd (omega arith);
-      counts = λ h. absurd (omega arith);
-      next = λ h. absurd (omega arith);
-    }
-
-    -- the word is whole
-    copied-whole : (getD x at 0 ≡ 0x20 → ⊥) → record { to = to; width = width } ≡ wordFrom x at → Copies x at len old new (record { to = to; width = width })
-    copied-whole n e = record {
-      exact =
-          let p : to ≡ at + length (word (drop at x)) = λ i. e i .to in
-          let q : width ≡ characters (word (drop at x)) = λ i. e i .width in
-          let w : nextWord x at ≡ record { to = to; width = width } = next-word x at n ∙ sym (ap₂ (λ (i j : ℕ). record { to = i; width = j }) p q) in
-          fitting-word x at (length old) len _ w (c .fits);
-      stays = stays-there;
-      order = c .order;
-      copied = λ h. c .copied;
-      fits = λ h. c .fits;
-      within = λ h. c .within;
-      narrow = λ h. c .narrow;
-      counts = λ h. ap characters (before-part isLineEndOrSpace x at to (λ i. e i .to)) ∙ sym (λ i. e i .width);
-      next = λ h. word-next h;
-    }
-      where
-        first-none : at < to → isLineEndOrSpace (getD x at 0) ≡ true → ⊥
-        first-none h f =
-            let b = ap length (before-stop isLineEndOrSpace x at (omega (arith, c .within)) f) in
-            omega (arith, c .reading .ends)
-
-        word-next : at < to
-            → placedFrom x (cursor at code.No) ≡ record { place = at; chunk = raw (take (to - at) (drop at x)) width } ∷ placedFrom x (cursor to code.No)
-        word-next h =
-            let l : at < length x = omega (arith, c .within) in
-            placed-take x (cursor at code.No) (Raw at to width) (cursor to code.No)
-            (answers-some x (cursor at code.No) code.No (Take (Raw at to width) (cursor to code.No)) l refl
-            (plain-word x at l (λ f. first-none h (line-ends (getD x at 0) f)) (record { to = to; width = width })
-            (λ f. first-none h (space-ends (getD x at 0) f)) e) .0)
-
-    pub copied-stop : (getD x at 0 ≡ 0x20 → ⊥) → to < length x → isLineEndOrSpace (getD x to 0) ≡ true
-        → Copies x at len old new (record { to = to; width = width })
-    copied-stop n h e = copied-whole n (reading-stop x at to width (c .reading) h e)
-
-    pub copied-end : (getD x at 0 ≡ 0x20 → ⊥) → length x ≤ to → Copies x at len old new (record { to = to; width = width })
-    copied-end n h = copied-whole n (reading-end x at to width (c .reading) h)
+    -- the bytes that follow
+    pub copying-join : (new : List ℕ) (to w : ℕ) → Copying x i stop (len + (i - at)) mid new to w → Copying x at stop len old new to (width + w)
+    copying-join new to w d =
+        let s : i + (to - i) ≡ to = omega (arith, d .order) in
+        subst (λ (e : ℕ). Copying x at stop len old new e (width + w)) s
+        (copying-more (to - i) (width + w) new (omega (arith, d .near)) (d .size) (λ k a b. d .plain k a (omega (arith, d .order)))
+        (omega (arith, d .counts)) (d .copied))
 
     -- one byte more
-    module _ (h : to < length x) (f : to - at < length new - len) (w : ℕ) where
-      on : Reading x at (to + 1) w → w ≤ width + 1 → Copying x at len old (set new (len + (to - at)) (getD x to 0)) (to + 1) w
-      on r k =
-          let z : to + 1 - at ≡ to - at + 1 = omega (arith, c .order) in
-          record {
-            reading = r;
-            size = length-set new (len + (to - at)) (getD x to 0) ∙ c .size;
-            order = omega (arith, c .order);
-            within = omega arith;
-            narrow = omega (arith, c .narrow, c .order);
-            fits = omega (arith, c .size, c .order);
-            copied = rw (z, ← getD-after x at to (c .order))
-                (copied-more old new (drop at x) len (to - at) (omega (arith, c .size)) (omega (arith, length-drop at x, c .order)) (c .copied));
-          }
+    module _ (w : ℕ) (h : i < stop) (inside : stop ≤ length x) (fits : len + (stop - at) ≤ length old) (n : getD x i 0 ≡ 0x0A → ⊥) where
+      on : w ≡ width + adds (getD x i 0) → Copying x at stop len old (set mid (len + (i - at)) (getD x i 0)) (i + 1) w
+      on e =
+          let one = take-one x i (omega arith) in
+          copying-more 1 w (set mid (len + (i - at)) (getD x i 0)) (omega arith) (length-set mid (len + (i - at)) (getD x i 0))
+          (λ k a b f. n (ap (λ (j : ℕ). getD x j 0) (omega arith) ∙ f))
+          (rw one (omega (arith, count-one (getD x i 0))))
+          (rw (one, add-one (len + (i - at))) (take-suc-set mid (len + (i - at)) (getD x i 0) (omega (arith, c .size, c .order))))
 
-      pub copying-one : w ≡ width + 1 → isLineEndOrSpace (getD x to 0) ≡ false → (getD x to 0 / 64 ≡ 2 → ⊥)
-          → Copying x at len old (set new (len + (to - at)) (getD x to 0)) (to + 1) w
-      copying-one k e n = on (reading-one x at to width (c .reading) h e w k n) (omega arith)
+      pub copying-one : w ≡ width + 1 → (getD x i 0 / 64 ≡ 2 → ⊥) → Copying x at stop len old (set mid (len + (i - at)) (getD x i 0)) (i + 1) w
+      copying-one e m = on (omega (arith, adds-by (getD x i 0) m))
 
-      pub copying-more : w ≡ width → isLineEndOrSpace (getD x to 0) ≡ false → getD x to 0 / 64 ≡ 2
-          → Copying x at len old (set new (len + (to - at)) (getD x to 0)) (to + 1) w
-      copying-more k e n = on (reading-none x at to width (c .reading) h e w k n) (omega arith)
+      pub copying-none : w ≡ width → getD x i 0 / 64 ≡ 2 → Copying x at stop len old (set mid (len + (i - at)) (getD x i 0)) (i + 1) w
+      copying-none e m = on (omega (arith, adds-not (getD x i 0) m))
 
-  -- a space
-  pub copied-space : at < length x → len < length old → getD x at 0 ≡ 0x20 → Copies x at len old (set old len 0x20) (record { to = at + 1; width = 1 })
-  copied-space h k e =
-      let z : at + 1 - at ≡ 1 = omega arith in
-      let one : take 1 (drop at x) ≡ 0x20 ∷ [] = rw (drop-cons x at 0 h, e) refl in
+-- Eight bytes
+
+module _ (s : List ℕ) (at i : ℕ) where
+  -- one byte more without a line end
+  pub plain-more : NoLineEnd s at (at + i) → (getD s (at + i) 0 ≡ 0x0A → ⊥) → NoLineEnd s at (at + (i + 1))
+  plain-more p n k a b e =
+      ⊎-elim (λ (l : at + i ≤ k). n (ap (λ (j : ℕ). getD s j 0) (omega arith) ∙ e)) (λ (l : k < at + i). p k a l e) (le-or-lt (at + i) k)
+
+  module _ (h : at + i < length s) where
+    take-more : take (i + 1) (drop at s) ≡ take i (drop at s) ++ getD s (at + i) 0 ∷ []
+    take-more = take-add i 1 (drop at s) ∙ ap (λ (l : List ℕ). take i (drop at s) ++ take 1 l) (drop-drop i at s)
+        ∙ ap (λ (l : List ℕ). take i (drop at s) ++ l) (take-one s (at + i) h)
+
+    -- one byte more is counted
+    pub count-more : characters (take (i + 1) (drop at s)) ≡ characters (take i (drop at s)) + adds (getD s (at + i) 0)
+    count-more = ap characters take-more ∙ characters-append (take i (drop at s)) (getD s (at + i) 0 ∷ []) ∙ omega (arith, count-one (getD s (at + i) 0))
+
+-- the first bytes of a block stand in a room
+pub record Block (x : List ℕ) (at len : ℕ) (old new : List ℕ) (i : ℕ) : Type 0 where
+  pub size : length new ≡ length old
+  pub copied : take (len + i) new ≡ take len old ++ take i (drop at x)
+
+module _ (x : List ℕ) (at len : ℕ) (old : List ℕ) where
+  block-first : at < length x → len < length old → Block x at len old (set old len (getD x at 0)) 1
+  block-first h k = record {
+    size = length-set old len (getD x at 0);
+    copied = rw (take-one x at h, add-one len) (take-suc-set old len (getD x at 0) k);
+  }
+
+  block-more : (new : List ℕ) (i : ℕ) → at + i < length x → len + i < length old → Block x at len old new i
+      → Block x at len old (set new (len + i) (getD x (at + i) 0)) (suc i)
+  block-more new i h k b =
+      let s : len + suc i ≡ suc (len + i) = omega arith in
+      let more : take (suc i) (drop at x) ≡ take i (drop at x) ++ getD x (at + i) 0 ∷ [] = rw (← add-one i) (take-more x at i h) in
       record {
-        exact = fitting-word x at (length old) len _ (next-space x at h e) (omega arith);
-        stays = take-set-le len old len 0x20 (omega arith);
-        order = omega arith;
-        copied = λ _. rw (z, add-one len, one) (take-suc-set old len 0x20 k);
-        fits = λ _. omega arith;
-        within = λ _. omega arith;
-        narrow = λ _. omega arith;
-        counts = λ _. rw (z, one) one-character;
-        next = λ _. rw (z, one)
-            (placed-take x (cursor at code.No) (Space at) (cursor (at + 1) code.No)
-            (answers-some x (cursor at code.No) code.No (Take (Space at) (cursor (at + 1) code.No)) h refl
-            (plain-space x at h (λ f. omega arith) e) .0));
+        size = length-set new (len + i) (getD x (at + i) 0) ∙ b .size;
+        copied =
+            rw (s, take-suc-set new (len + i) (getD x (at + i) 0) (omega (arith, b .size)), more, b .copied)
+            (append-assoc (take len old) (take i (drop at x)) (getD x (at + i) 0 ∷ []));
       }
 
-  -- nothing was copied
-  pub copied-nothing : record { to = at; width = 0 } ≡ fittingWord (length old) len x at → Copies x at len old old (record { to = at; width = 0 })
-  copied-nothing e = record {
-    exact = e;
-    stays = refl;
-    order = omega arith;
-    copied = λ h. absurd (omega arith);
-    fits = λ h. absurd (omega arith);
-    within = λ h. absurd (omega arith);
-    narrow = λ h. absurd (omega arith);
-    counts = λ h. absurd (omega arith);
-    next = λ h. absurd (omega arith);
+  -- the room after one byte of a block, and after each byte more
+  abbrev pub stored : ℕ → List ℕ
+  stored zero = set old len (getD x at 0)
+  stored (suc i) = set (stored i) (len + suc i) (getD x (at + suc i) 0)
+
+  pub stored-block : (i : ℕ) → at + i < length x → len + i < length old → Block x at len old (stored i) (suc i)
+  stored-block zero h k = block-first (omega arith) (omega arith)
+  stored-block (suc i) h k = block-more (stored i) (suc i) h k (stored-block i (omega arith) (omega arith))
+
+  -- the next byte's place is in the room
+  pub stored-below : (i : ℕ) → at + i < length x → len + suc i < length old → len + suc i < length (stored i)
+  stored-below i h k = omega (arith, stored-block i h (omega arith) .size)
+
+-- Whole words
+
+module _ (x : List ℕ) (at far to width : ℕ) (order : at ≤ to) (near : to ≤ far) (counts : characters (part x at to) ≡ width) where
+  -- the last byte counts as it adds
+  pub counts-back : at < to → to ≤ length x → characters (part x at (to - 1)) + adds (getD x (to - 1) 0) ≡ width
+  counts-back h k =
+      let s : to - 1 + 1 ≡ to = omega arith in
+      let one = take-one x (to - 1) (omega arith) in
+      sym (ap (λ (e : ℕ). characters (part x at e)) (sym s) ∙ ap characters (part-more x at (to - 1) (omega arith) 1 ∙ ap (λ (l : List ℕ). part x at (to - 1) ++ l) one)
+      ∙ characters-append (part x at (to - 1)) (getD x (to - 1) 0 ∷ []) ∙ omega (arith, count-one (getD x (to - 1) 0))) ∙ counts
+
+  -- a run that cuts no word
+  pub whole-end : length x ≤ to → Whole x at far to width
+  whole-end h = record { order = order; near = near; counts = counts; whole = λ _ k. absurd (omega arith) }
+
+  pub whole-stop : isLineEndOrSpace (getD x to 0) ≡ true → Whole x at far to width
+  whole-stop e = record { order = order; near = near; counts = counts; whole = λ _ _ f. absurd (false≢true (sym f ∙ e)) }
+
+  pub whole-space : getD x (to - 1) 0 ≡ 0x20 → Whole x at far to width
+  whole-space e = record { order = order; near = near; counts = counts; whole = λ _ _ _. e }
+
+  -- no word at all
+  pub whole-none : to ≤ at → Whole x at far to width
+  whole-none h = record { order = order; near = near; counts = counts; whole = λ k. absurd (omega arith) }
+
+-- A run
+
+module _ (x : List ℕ) (at most len : ℕ) (old : List ℕ) where
+  -- none
+  pub copies-none : Copies x at most len old old at 0
+  copies-none =
+      let z : at - at ≡ 0 = omega arith in
+      record {
+        order = omega arith;
+        near = omega arith;
+        within = λ h. absurd (omega arith);
+        fits = λ h. absurd (omega arith);
+        stays = refl;
+        copied = rw (z, add-zero, append-nil) refl;
+        counts = rw z refl;
+        plain = λ k a b e. omega arith;
+        whole = λ h. absurd (omega arith);
+      }
+
+  -- the whole words of what was copied
+  pub copies-whole : (new : List ℕ) (stop far width to w : ℕ) → len ≤ length old → stop ≤ at + most → stop ≤ length x → len + (stop - at) ≤ length old
+      → Copying x at stop len old new far width → Whole x at far to w → Copies x at most len old new to w
+  copies-whole new stop far width to w h near inside fits c v = record {
+    order = v .order;
+    near = omega (arith, v .near, c .near);
+    within = λ k. omega (arith, v .near, c .near);
+    fits = λ k. omega (arith, v .near, c .near, c .order);
+    stays = ap (λ (n : ℕ). take n new) y ∙ there at (omega arith) (c .order) ∙ rw (z, append-nil) refl;
+    copied = there to (v .order) (v .near);
+    counts = v .counts;
+    plain = λ k a b. c .plain k a (omega (arith, v .near));
+    whole = v .whole;
   }
+    where
+      z : at - at ≡ 0
+      z = omega arith
+
+      y : len ≡ len + (at - at)
+      y = omega arith
+
+      there : (e : ℕ) → at ≤ e → e ≤ far → take (len + (e - at)) new ≡ take len old ++ part x at e
+      there e a b = copied-part x old new len at far e h a b (c .copied)

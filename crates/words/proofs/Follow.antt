@@ -33,12 +33,12 @@ module _ {L : Type 0} where
       (le-or-lt len (length old))
 
   -- the next chunk is a text that a renderer writes as it stands
-  pub word-follows : (full : Bool) (chunk : Placed → Page L → Result (Page L)) (x old new text : List ℕ) (len k at to w : ℕ) (kept : List ℕ) (lay lay′ : L)
-      → length new ≡ length old → len + k ≤ length old → take (len + k) new ≡ take len old ++ text
+  pub word-follows : (full : Bool) (chunk : Placed → Page L → Result (Page L)) (x room text : List ℕ) (len len′ at to w : ℕ) (kept : List ℕ) (lay lay′ : L)
+      → len ≤ length room → len′ ≤ length room → take len′ room ≡ take len room ++ text
       → placedFrom x (cursor at code.No) ≡ record { place = at; chunk = raw text w } ∷ placedFrom x (cursor to code.No)
-      → chunk (record { place = at; chunk = raw text w }) (page kept lay (take len old)) ≡ gives (page kept lay′ (take len old ++ text))
-      → (shown new (len + k) kept lay′ >>= body full chunk (placedFrom x (cursor to code.No)))
-      ≡ (shown old len kept lay >>= body full chunk (placedFrom x (cursor at code.No)))
+      → chunk (record { place = at; chunk = raw text w }) (page kept lay (take len room)) ≡ gives (page kept lay′ (take len room ++ text))
+      → (shown room len′ kept lay′ >>= body full chunk (placedFrom x (cursor to code.No)))
+      ≡ (shown room len kept lay >>= body full chunk (placedFrom x (cursor at code.No)))
   unfolding body _>>=_ if_then_else_
-  word-follows full chunk x old new text len k at to w kept lay lay′ size fits copied next e =
-      rw (shown-in new (len + k) kept lay′ (omega arith), shown-in old len kept lay (omega arith), copied, next) (rw e refl)
+  word-follows full chunk x room text len len′ at to w kept lay lay′ h k copied next e =
+      rw (shown-in room len′ kept lay′ k, shown-in room len kept lay h, copied, next) (rw e refl)

@@ -1,38 +1,46 @@
--- What copying a word promises; no rule of 01 stands here.
+-- What copying a run of words promises; no rule of 01 stands here.
 use Prim.Native.Nat.{ℕ, _+_, _-_, _≤_, _<_}
 use mathlib.Core.Path.{_≡_}
-use mathlib.Core.List.{List, [], _∷_, _++_}
-use lib.Dec.{leb}
-use lib.ListN.{length, take, drop}
-use Rattle.base.specs.Bytes.{part, startsWith}
-use Rattle.base.specs.Choice.{if_then_else_}
+use mathlib.Core.Bool.{false}
+use mathlib.Core.List.{List, _++_}
+use lib.ListN.{length, take, getD}
+use Rattle.base.specs.Bytes.{part}
 use Rattle.utf8.specs.Utf8.{characters}
-use Rattle.splitter.specs.Split.{raw, word}
-use Rattle.splitter.specs.Answers.{placedFrom, cursor}
-use Rattle.splitter.specs.declared.Code.the-variants as code
-use Rattle.words.specs.declared.Word.{Word}
+use Rattle.splitter.specs.Split.{isLineEndOrSpace}
 
--- The word or the space at a place of a body, outside ticks: where it ends, and its width. Where a line ends, and at the body's end,
--- there is none: it ends where it starts.
-unfoldable pub nextWord : List ℕ → ℕ → Word
-nextWord x at =
-    if startsWith (0x20 ∷ []) (drop at x) then record { to = at + 1; width = 1 } else
-    record { to = at + length (word (drop at x)); width = characters (word (drop at x)) }
+-- no line end stands from a place up to another
+abbrev pub NoLineEnd : List ℕ → ℕ → ℕ → Type 0
+NoLineEnd x at to = (k : ℕ) → at ≤ k → k < to → getD x k 0 ≡ 0x0A → ⊥
 
--- the same, where a room of so many bytes holds it after the first `len`; else none
-unfoldable pub fittingWord : ℕ → ℕ → List ℕ → ℕ → Word
-fittingWord room len x at = if leb (len + (nextWord x at .to - at)) room then nextWord x at else record { to = at; width = 0 }
+-- a word does not go on across a place: where none ends there, a space stands before it
+abbrev pub NoWordCut : List ℕ → ℕ → Type 0
+NoWordCut x to = to < length x → isLineEndOrSpace (getD x to 0) ≡ false → getD x (to - 1) 0 ≡ 0x20
 
--- It is that word. The bytes up to the length stay, and of a word that ends past `at` all bytes were copied after them; it is the next
--- chunk, at its place. Free are the bytes of the room past those.
-pub record Copies (x : List ℕ) (at len : ℕ) (old new : List ℕ) (w : Word) : Type 0 where
-  pub exact : w ≡ fittingWord (length old) len x at
+-- The bytes from `at` up to `to`, at most up to `stop`, were copied after the first `len` of a room; none is a line end.
+pub record Copying (x : List ℕ) (at stop len : ℕ) (old new : List ℕ) (to width : ℕ) : Type 0 where
+  pub size : length new ≡ length old
+  pub order : at ≤ to
+  pub near : to ≤ stop
+  pub plain : NoLineEnd x at to
+  pub counts : characters (part x at to) ≡ width
+  pub copied : take (len + (to - at)) new ≡ take len old ++ part x at to
+
+-- A run from `at` up to `far` without the word that it cuts.
+pub record Whole (x : List ℕ) (at far to width : ℕ) : Type 0 where
+  pub order : at ≤ to
+  pub near : to ≤ far
+  pub counts : characters (part x at to) ≡ width
+  pub whole : at < to → NoWordCut x to
+
+-- The bytes from `at` up to `to`, at most `most`, were copied after the first `len` of a room, which stay; `width` is the number of their
+-- characters. They are words and spaces of one line. Free are the bytes of the room past those.
+pub record Copies (x : List ℕ) (at most len : ℕ) (old new : List ℕ) (to width : ℕ) : Type 0 where
+  pub order : at ≤ to
+  pub near : to ≤ at + most
+  pub within : at < to → to ≤ length x
+  pub fits : at < to → len + (to - at) ≤ length old
   pub stays : take len new ≡ take len old
-  pub order : at ≤ w .to
-  pub copied : at < w .to → take (len + (w .to - at)) new ≡ take len old ++ part x at (w .to)
-  pub fits : at < w .to → len + (w .to - at) ≤ length old
-  pub within : at < w .to → w .to ≤ length x
-  pub narrow : at < w .to → w .width ≤ w .to - at
-  pub counts : at < w .to → characters (part x at (w .to)) ≡ w .width
-  pub next : at < w .to
-      → placedFrom x (cursor at code.No) ≡ record { place = at; chunk = raw (part x at (w .to)) (w .width) } ∷ placedFrom x (cursor (w .to) code.No)
+  pub copied : take (len + (to - at)) new ≡ take len old ++ part x at to
+  pub counts : characters (part x at to) ≡ width
+  pub plain : NoLineEnd x at to
+  pub whole : at < to → NoWordCut x to

@@ -1,16 +1,16 @@
 -- Invariant: the words up to `at` stand in the room, and from there on the rule goes on as it does from `from` (Onward).
 -- What falls: the bytes of the body after `at`.
-use mathlib.Core.Path.{sym, _∙_}
-use Prim.Native.Nat.{_+_, _-_, _≤_}
+use mathlib.Core.Path.{_∙_}
+use Prim.Native.Nat.{_+_, _-_, _^_, _≤_, _<_}
 use native.Mathlib.Omega.{arith}
 use borrow.Author.Needs.{needs}
-use borrow.Author.Tests.{ltb-false}
 use denote.Ref.{now}
 use lib.ListN.{length}
+use Rattle.words.proofs.Copying.{part-narrow}
 use Rattle.console_words.proofs.fill_line.Statement.{statement}
 use Rattle.console_words.proofs.fill_line.Tie as tie
 use Rattle.console_words.specs.Onward.{Onward}
-use Rattle.console_words.proofs.Onward.{onward-start, onward-same, onward-next}
+use Rattle.console_words.proofs.Onward.{onward-start, onward-run}
 
 abbrev Inv-loop : tie.InvT-loop
 Inv-loop room₀ body from set len₀ column₀ at₀ room len column at = Onward set body room₀ (len₀ .0) (column₀ .0) from room (len .0) (column .0) at
@@ -18,84 +18,95 @@ Inv-loop room₀ body from set len₀ column₀ at₀ room len column at = Onwar
 abbrev μ-loop : tie.MeasureT-loop
 μ-loop room₀ body from set len₀ column₀ at₀ room len column at = length body - at
 
+-- the turn in which a run is copied, and what the function began with
+abbrev turn : (r : tie.After-copy-run Inv-loop μ-loop) → tie.At-loop Inv-loop μ-loop
+turn r = r .before .before .before .before .before .before .before .before .before .before
+
+-- the column after a run is no further on than the width
+narrow : (r : tie.After-copy-run Inv-loop μ-loop)
+    → let l = turn r .loop in let a = turn r .before .before .before .args in l .column .0 + r .copy-run .result .width ≤ a .set .width
+narrow r =
+    let e = r .copy-run .ensures in
+    let if1 = r .before .before .before .before .before .before .if1 in
+    let l = turn r .loop in
+    let a = turn r .before .before .before .args in
+    omega (arith, e .near, e .counts, part-narrow (now (a .body)) (l .at) (r .copy-run .result .to), if1 .left)
+
+-- a run more
+ran : (r : tie.After-copy-run Inv-loop μ-loop)
+    → let l = turn r .loop in
+    let a = turn r .before .before .before .args in
+    let w = r .copy-run .result in
+    Onward (a .set) (now (a .body)) (now (a .room)) (a .len .0) (a .column .0) (a .from) (r .copy-run .last .0)
+    (l .len .0 + (w .to - l .at)) (l .column .0 + w .width) (w .to)
+ran r =
+    let run = r .copy-run in
+    let if1 = r .before .before .before .before .before .before .if1 in
+    let l = turn r .loop in
+    let a = turn r .before .before .before .args in
+    onward-run (a .set) (now (a .body)) (now (a .room)) (a .len .0) (a .column .0) (a .from) (l .room) (l .len .0) (l .column .0) (l .at) (l .inv)
+    (run .last .0) (a .set .width - l .column .0) (run .result .to) (run .result .width) (run .ensures) (run .kept .0) (omega (arith, if1 .left))
+
 loop-holds : tie.Need-loop-holds Inv-loop μ-loop
 loop-holds c =
-    let a = c .before .before .args in
-    onward-start (a .set) (now (a .body)) (now (a .room)) (a .len .0) (a .column .0) (a .from) (c .before .before .pre .0) (c .before .before .pre .1)
-
-sub-n : tie.Need-sub-n Inv-loop μ-loop
-sub-n c = c .before .before .before .copy-next .ensures .order
+    let start = c .before .before in
+    let a = start .args in
+    onward-start (a .set) (now (a .body)) (now (a .room)) (a .len .0) (a .column .0) (a .from) (start .pre .0) (start .pre .1)
 
 same-length : tie.Need-same-length Inv-loop μ-loop
-same-length c = c .before .before .before .before .copy-next .kept .0 ∙ c .before .before .before .before .before .before .loop .inv .words .size
+same-length c = c .before .before .before .before .loop .inv .words .size
 
 returns : tie.Need-returns Inv-loop μ-loop
-returns c =
-    let g = c .before .before .before .before .copy-next in
-    let after-loop = c .before .before .before .before .before .before in
-    let l = after-loop .loop in
-    let a = after-loop .before .before .before .args in
-    onward-same (a .set) (now (a .body)) (now (a .room)) (a .len .0) (a .column .0) (a .from) (l .room) (l .len .0) (l .column .0) (l .at) (l .inv)
-    (g .last .0) (g .result) (g .ensures) (g .kept .0)
+returns c = c .before .before .before .before .loop .inv
 
 same-length-2 : tie.Need-same-length-2 Inv-loop μ-loop
-same-length-2 c =
-    let after-copy-next = c .before .before .before .before .before .before .before in
-    let copy-next = after-copy-next .copy-next in
-    let loop = after-copy-next .before .before .loop in
-    copy-next .kept .0 ∙ loop .inv .words .size
+same-length-2 c = c .before .before .before .before .before .before .loop .inv .words .size
 
 returns-2 : tie.Need-returns-2 Inv-loop μ-loop
-returns-2 c =
-    let after-copy-next = c .before .before .before .before .before .before .before in
-    let g = after-copy-next .copy-next in
-    let l = after-copy-next .before .before .loop in
-    let a = after-copy-next .before .before .before .before .before .args in
-    onward-same (a .set) (now (a .body)) (now (a .room)) (a .len .0) (a .column .0) (a .from) (l .room) (l .len .0) (l .column .0) (l .at) (l .inv)
-    (g .last .0) (g .result) (g .ensures) (g .kept .0)
+returns-2 c = c .before .before .before .before .before .before .loop .inv
+
+sub-n : tie.Need-sub-n Inv-loop μ-loop
+sub-n c = c .before .before .before .copy-run .ensures .order
 
 add-longer : tie.Need-add-longer Inv-loop μ-loop
 add-longer c =
-    let after-copy-next = c .before .before .before .before .before .before .before .before in
-    let copy-next = after-copy-next .copy-next in
-    let l = after-copy-next .before .before .loop in
-    let args = after-copy-next .before .before .before .before .before .args in
-    let e = copy-next .ensures in
-    let f : l .len .0 + (copy-next .result .to - l .at) ≤ length (now (args .room)) =
-    omega (arith, e .fits (omega (arith, e .order)), l .inv .words .size) in
-    search needs
+    let r = c .before .before .before .before in
+    let l = turn r .loop in
+    let start = turn r .before .before .before in
+    let f : l .len .0 + (r .copy-run .result .to - l .at) < 2 ^ 64 = omega (arith, ran r .inside, start .good .0 .0) in
+    search (needs, f)
 
 add-wider : tie.Need-add-wider Inv-loop μ-loop
 add-wider c =
-    let if2 = c .before .before .before .if2 in
-    let folds-at = c .before .before .before .before .folds-at in
-    let after-measure-word = c .before .before .before .before .before in
-    let measure-word = after-measure-word .measure-word in
-    let copy-next = after-measure-word .before .before .before .before .before .copy-next in
-    let e = copy-next .ensures in
-    let f = measure-word .ensures .1 (omega (arith, e .narrow (omega (arith, e .order)))) in
-    omega (arith, f, folds-at .ensures .1 (if2 .left))
+    let f = narrow (c .before .before .before .before .before .before) in
+    search needs
+
+same-length-3 : tie.Need-same-length-3 Inv-loop μ-loop
+same-length-3 c =
+    let r = c .before .before .before .before .before .before .before .before in
+    ran r .words .size
+
+returns-3 : tie.Need-returns-3 Inv-loop μ-loop
+returns-3 c = ran (c .before .before .before .before .before .before .before .before)
 
 loop-less : tie.Need-loop-less Inv-loop μ-loop
 loop-less c =
-    let earlier = c .before .before .before .before .before .before .before .before in
-    let copy-next = earlier .before .before .copy-next in
-    let e = copy-next .ensures in
-    omega (arith, e .order, e .within (omega (arith, e .order)))
+    let r = c .before .before .before .before .before .before .before .before in
+    let e = r .copy-run .ensures in
+    let l = turn r .loop in
+    let a = turn r .before .before .before .args in
+    let n = part-narrow (now (a .body)) (l .at) (r .copy-run .result .to) in
+    let further : l .at + 1 ≤ r .copy-run .result .to = omega (arith, e .order, e .counts, n, c .if3 .left) in
+    omega (arith, further, e .within (omega arith))
 
 loop-again : tie.Need-loop-again Inv-loop μ-loop
-loop-again c =
-    let if2 = c .before .before .before .if2 in
-    let folds-at = c .before .before .before .before .folds-at in
-    let after-measure-word = c .before .before .before .before .before in
-    let m = after-measure-word .measure-word in
-    let after-copy-next = after-measure-word .before .before .before .before .before in
-    let g = after-copy-next .copy-next in
-    let l = after-copy-next .before .before .loop in
-    let a = after-copy-next .before .before .before .before .before .args in
-    onward-next (a .set) (now (a .body)) (now (a .room)) (a .len .0) (a .column .0) (a .from) (l .room) (l .len .0) (l .column .0) (l .at) (l .inv)
-    (g .last .0) (g .result) (g .ensures) (g .kept .0) (omega (arith, g .ensures .order)) (m .result .0) (m .ensures .0)
-    (ltb-false _ _ (sym (folds-at .ensures .0) ∙ if2 .left))
+loop-again c = ran (c .before .before .before .before .before .before .before .before)
+
+same-length-4 : tie.Need-same-length-4 Inv-loop μ-loop
+same-length-4 c = c .before .loop .inv .words .size
+
+returns-4 : tie.Need-returns-4 Inv-loop μ-loop
+returns-4 c = c .before .loop .inv
 
 pub fill-line-spec : {M : Type 1} → statement M
 fill-line-spec =
@@ -104,15 +115,19 @@ fill-line-spec =
     Inv-loop
     μ-loop
     loop-holds
-    (λ c κs. search needs)
-    sub-n
     same-length
     returns
-    (λ c κs. search needs)
-    (λ c κs. search needs)
+    (λ c. search needs)
     same-length-2
     returns-2
+    (λ c. search needs)
+    (λ c κs. search needs)
+    sub-n
     add-longer
     add-wider
+    same-length-3
+    returns-3
     loop-less
-    loop-again)
+    loop-again
+    same-length-4
+    returns-4)

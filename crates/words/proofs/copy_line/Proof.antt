@@ -1,0 +1,41 @@
+use Prim.Native.Nat.{_+_, _≤_}
+use native.Mathlib.Omega.{arith}
+use borrow.Author.Needs.{needs}
+use denote.Ref.{now}
+use lib.ListN.{length}
+use Rattle.words.proofs.copy_line.Statement.{statement}
+use Rattle.words.proofs.copy_line.Tie as tie
+use Rattle.words.proofs.Copying.{part-narrow, copying-join}
+
+add-t13 : tie.Need-add-t13
+add-t13 c =
+    let rest = c .before .before .before .before .copy-bytes in
+    let blocks = c .before .before .before .before .before .before .before .before .copy-blocks in
+    let start = c .before .before .before .before .before .before .before .before .before .before .before .before in
+    let a = start .args in
+    let x = now (a .body) in
+    let n = part-narrow x (a .at) (blocks .result .to) in
+    let m = part-narrow x (blocks .result .to) (rest .result .to) in
+    let f : blocks .result .width + rest .result .width ≤ length x =
+    omega (arith, n, m, blocks .ensures .counts, rest .ensures .counts, blocks .ensures .order, rest .ensures .order, rest .ensures .near, start .pre .1) in
+    search needs
+
+returns : tie.Need-returns
+returns c =
+    let rest = c .before .before .before .before .copy-bytes in
+    let blocks = c .before .before .before .before .before .before .before .before .copy-blocks in
+    let a = c .before .before .before .before .before .before .before .before .before .before .before .before .args in
+    copying-join (now (a .body)) (a .at) (a .stop) (a .len) (now (a .room)) (blocks .last .0) (blocks .result .to) (blocks .result .width)
+    (blocks .ensures) (rest .last .0) (rest .result .to) (rest .result .width) (rest .ensures)
+
+pub copy-line-spec : {M : Type 1} → statement M
+copy-line-spec =
+    tie.close
+    (tie.spec
+    (λ c κs. search needs)
+    (λ c. search needs)
+    (λ c. search needs)
+    (λ c κs. search needs)
+    add-t13
+    (λ c. search needs)
+    returns)
