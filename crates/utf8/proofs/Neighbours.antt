@@ -5,7 +5,7 @@ use mathlib.Core.Path.{_≡_, refl, ap, sym, _∙_}
 use mathlib.Core.Logic.{⊎-elim}
 use mathlib.Core.Bool.{Bool, true, false, not, _&&_, _||_, or-true, false≢true}
 use mathlib.Core.List.{List, [], _∷_}
-use Prim.Native.Nat.{ℕ, zero, suc, _+_, _-_, _<_, _≤_}
+use Prim.Native.Nat.{ℕ, zero, suc, _+_, _-_, _/_, _<_, _≤_}
 use native.Mathlib.Nat.{add-zero}
 use native.Mathlib.Numerals.{add-one}
 use native.Mathlib.Omega.{arith}
@@ -14,10 +14,10 @@ use lib.ListN.{length, getD, drop}
 use lib.Seq.{drop-cons, drop-length}
 use borrow.Author.Tests.{le-leb, lt-leb, lt-ltb, le-ltb, ne-eqb, leb-true, leb-false}
 use Rattle.base.specs.Choice.{if_then_else_, among}
-use Rattle.base.proofs.Choice.{pick, le-or-lt, eq-or-not, and-left, and-right, if-true, if-false, same-test, not-passed}
+use Rattle.base.proofs.Choice.{pick, le-or-lt, eq-or-not, and-left, and-right, and-both, if-true, if-false, same-test, not-passed}
 use Rattle.utf8.specs.Utf8.{Range, _to_, within, rowOf, never, fits, utf8}
 use Rattle.utf8.specs.Neighbours.{asks, low, high, starts, beside, sound}
-use Rattle.utf8.specs.Parts.{AtMost, Ascii, soundAt, Passed, Begun}
+use Rattle.utf8.specs.Parts.{AtMost, Ascii, soundAt, Sure, Passed, Begun}
 use Rattle.utf8.proofs.Laws.{tail, begins-never, fits-begins, ascii-run, block-run}
 use Rattle.utf8.proofs.Laws.{due-1, due-none, due-over, due-2, due-E0, due-ED, due-3, due-F0, due-F4, due-4}
 
@@ -259,6 +259,27 @@ pub fault-start : (r q p b : ℕ) {x : Bool} {f : ℕ} → x ≡ asks r q p → 
     → f ≡ if beside r q p b then 0 else 1
 fault-start r q p b e t h d = rw (beside-start r q p b (sym e ∙ t), le-ltb b 0x80 h) d
 
+-- where p narrows no range and b may stand in a text, b stands after the three where it goes on with a character exactly if they ask for that
+pub sure-due : (r q p b : ℕ) {x : Bool} → x ≡ asks r q p → x ≡ true → (p ≡ 0xE0 → ⊥) → (p ≡ 0xED → ⊥) → p < 0xF0 → b / 64 ≡ 2 → beside r q p b ≡ true
+sure-due r q p b e t k l h d =
+    let u = any-after p k l (λ z. omega arith) (λ z. omega arith) in
+    beside-due r q p b (sym e ∙ t) ∙ ap (within b) (sym u) ∙ and-both (le-leb 0x80 b (omega arith)) (le-leb b 0xBF (omega arith))
+
+pub sure-start : (r q p b : ℕ) {x : Bool} → x ≡ asks r q p → x ≡ false → b < 0xF5 → (b / 2 ≡ 0x60 → ⊥) → (b / 64 ≡ 2 → ⊥) → beside r q p b ≡ true
+sure-start r q p b e t h n d =
+    beside-start r q p b (sym e ∙ t)
+    ∙ ⊎-elim (λ (l : 0x80 ≤ b). starts-more b (⊎-elim (λ (g : 0xC2 ≤ b). g) (λ (g : b < 0xC2). absurd (no l g)) (le-or-lt 0xC2 b)) h)
+    (λ (l : b < 0x80). starts-ascii b l) (le-or-lt 0x80 b)
+  where
+    no : 0x80 ≤ b → b < 0xC2 → ⊥
+    no l g = ⊎-elim (λ (u : 0xC0 ≤ b). n (omega arith)) (λ (u : b < 0xC0). d (omega arith)) (le-or-lt 0xC0 b)
+
+pub sure-not : (t : Bool) → Sure t 1
+sure-not t = record { few = omega arith; sure = λ z. let o : ⊥ = omega arith in absurd o }
+
+pub sure-is : {t : Bool} → t ≡ true → Sure t 0
+sure-is e = record { few = omega arith; sure = λ z. e }
+
 -- the bytes from a on, tested one by one
 module _ (s : List ℕ) (a : ℕ) where
   pub passed-none : Passed s a 0 0
@@ -274,6 +295,12 @@ module _ (s : List ℕ) (a : ℕ) where
             (λ (o : m ≡ 0). t .all o ∙ step ∙ rw (fault-some (besideAt s (a + i)) e (λ z. n (omega arith))))
             (λ (o : m ≡ 0 → ⊥). t .some o) (eq-or-not m 0);
       }
+
+  pub sure-more : (i m : ℕ) {x : ℕ} → (m ≡ 0 → soundAt s a ≡ soundAt s (a + i)) → 3 ≤ a → a + i < length s → Sure (besideAt s (a + i)) x → m + x ≡ 0
+      → soundAt s a ≡ soundAt s (a + (i + 1))
+  sure-more i m {x} t g h u z =
+      let q : a + i + 1 ≡ a + (i + 1) = omega arith in
+      t (omega arith) ∙ sound-step s (a + i) (omega arith) h ∙ rw (u .sure (omega arith)) (ap (soundAt s) q)
 
 -- ASCII
 module _ (s : List ℕ) where

@@ -20,6 +20,11 @@ pub record Ascii (s : List ℕ) (i : ℕ) : Type 0 where
 abbrev pub soundAt : List ℕ → ℕ → Bool
 soundAt s i = sound (getD s (i - 3) 0) (getD s (i - 2) 0) (getD s (i - 1) 0) (drop i s)
 
+-- where x is 0, a test holds; else x is 1, and nothing is said of the test
+pub record Sure (t : Bool) (x : ℕ) : Type 0 where
+  pub few : x ≤ 1
+  pub sure : x ≡ 0 → t ≡ true
+
 -- where r is 0, the n bytes from a on do; else not all of them
 pub record Passed (s : List ℕ) (a n r : ℕ) : Type 0 where
   pub all : r ≡ 0 → soundAt s a ≡ soundAt s (a + n)

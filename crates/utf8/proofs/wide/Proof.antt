@@ -42,17 +42,17 @@ loop-again c =
 returns-2 : tie.Need-returns-2 Inv-loop μ-loop
 returns-2 c =
     let v = c .before .before .before .before .before .loop in
-    sym (v .inv .2 ∙ c .before .faults .ensures .some (c .if3 .taken))
+    sym (v .inv .2 ∙ c .before .quick-faults .ensures .some (c .if3 .taken))
 
 loop-again-2 : tie.Need-loop-again-2 Inv-loop μ-loop
 loop-again-2 c =
     let v = c .before .before .before .before .before .loop in
-    (omega arith, omega arith, v .inv .2 ∙ c .before .faults .ensures .all (c .if3 .left))
+    (omega arith, omega arith, v .inv .2 ∙ c .before .quick-faults .ensures .all (c .if3 .left))
 
 returns-3 : tie.Need-returns-3 Inv-loop μ-loop
 returns-3 c =
     let s = c .before .before .before .before .before .before .before .before .args .s .now in
-    last-fails s (length s - 32) (omega arith) (omega arith) (c .before .faults2 .ensures .some (c .if5 .taken))
+    last-fails s (length s - 32) (omega arith) (omega arith) (c .before .faults .ensures .some (c .if5 .taken))
 
 -- the text, where the last block has been tested or there was none
 abbrev text : tie.Joined4 Inv-loop μ-loop → List ℕ
