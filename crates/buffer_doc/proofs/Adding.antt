@@ -12,10 +12,8 @@ use Rattle.base.specs.Result.{Result, gives, refused, _>>=_, measured}
 use Rattle.base.specs.Stack.{top, pushed, popped}
 use Rattle.base.proofs.Choice.{if-true, if-false, and-both}
 use Rattle.base.proofs.Stack.{length-pushed}
-use Rattle.base.proofs.Results.{refused-gives, gives-same, bind-gives}
 use Rattle.records.specs.Records.{index}
 use Rattle.document.specs.Document.{opens, closes, reads, openBlocks, check}
-use Rattle.refusal.specs.Numbers.{refusalNumber, refusalPlace}
 use Rattle.document.specs.Answers.{verdictOf, openedAs}
 use Rattle.records.specs.Stored.{stored, start, end, around, head}
 use Rattle.records.specs.declared.Block.{Block}
@@ -25,7 +23,7 @@ use Rattle.refusal.specs.declared.Refusal.the-variants as refusal
 use Rattle.document.specs.declared.Opened.{Opened}
 use Rattle.document.specs.declared.Checked.{Checked}
 use Rattle.document.specs.declared.Checked.the-variants as checked
-use Rattle.document.proofs.Walks.{verdict-gives, verdict-refused, check-gives}
+use Rattle.document.proofs.Walks.{verdict-refused}
 use Rattle.buffer.specs.Builder.{soFar, fit, add, addsAs}
 use Rattle.buffer.specs.declared.Built.{Built}
 use Rattle.buffer.specs.declared.Built.the-variants as built

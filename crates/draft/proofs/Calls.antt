@@ -1,9 +1,9 @@
 -- The functions' promises: the quick test, the draft after a record, and the calls. Assumes nothing.
-use Prim.Native.Nat.{ℕ, zero, suc, _+_, _-_, _%_, _≤_, _<_}
+use Prim.Native.Nat.{ℕ, _+_, _-_, _%_, _≤_, _<_}
 use mathlib.Core.Path.{_≡_, refl, sym, ap, ap₂, _∙_, subst}
-use mathlib.Core.Bool.{Bool, true, false, _&&_}
-use mathlib.Core.List.{List, [], _∷_, _++_}
-use lib.Dec.{leb, eqb}
+use mathlib.Core.Bool.{true, false}
+use mathlib.Core.List.{List, [], _++_}
+use lib.Dec.{eqb}
 use lib.ListN.{length, take, drop, length-drop}
 use lib.Seq.{length-take-le}
 use native.Mathlib.Omega.{arith}
@@ -32,7 +32,7 @@ use Rattle.buffer.specs.Parts.{longer}
 use Rattle.buffer.specs.declared.Built.{Built}
 use Rattle.buffer.specs.declared.Built.the-variants as built
 use Rattle.buffer.proofs.Answering.{So-far, says-same, stops, writes-not, writes-in}
-use Rattle.draft.specs.Draft.{styleIn, oneRecord, Opens, Of, Holds, plausible, draftedAs, HoldsAfter, Resumed, Does}
+use Rattle.draft.specs.Draft.{styleIn, oneRecord, Opens, Of, Holds, plausible, draftedAs, Resumed, Does}
 use Rattle.draft.specs.Parts.{textAt, Turned}
 use Rattle.draft.specs.declared.Draft.{Draft}
 use Rattle.draft.specs.declared.Drafted.{Drafted}

@@ -1,14 +1,12 @@
 -- Documents added by a draft. Assumes nothing.
-use Prim.Native.Nat.{ℕ, _+_, _-_, _≤_}
+use Prim.Native.Nat.{ℕ, _+_, _-_}
 use mathlib.Core.Bool.{Bool}
 use mathlib.Core.Path.{_≡_, refl, sym, ap, _∙_, subst}
 use mathlib.Core.List.{List, [], _++_, append-assoc}
 use lib.ListN.{length, take, length-append}
 use native.Mathlib.Omega.{arith}
 use Rattle.base.specs.Result.{Result, gives, _>>=_, measured}
-use Rattle.base.specs.Stack.{pushed}
 use Rattle.base.proofs.Results.{bind-gives}
-use Rattle.records.specs.Records.{index}
 use Rattle.records.specs.Stored.{stored, start, end, around}
 use Rattle.records.specs.declared.Block.the-variants as block
 use Rattle.records.specs.declared.Kind.the-variants as kind
@@ -21,11 +19,10 @@ use Rattle.buffer.specs.Answers.{builtAs, kept}
 use Rattle.buffer.specs.declared.Built.{Built}
 use Rattle.buffer.specs.declared.Built.the-variants as built
 use Rattle.buffer.proofs.Pasting.{length-stored}
-use Rattle.buffer.proofs.Records.{reads-before}
 use Rattle.buffer.proofs.Answering.{so-far-on, says-same}
 use Rattle.buffer_doc.specs.Parts.{Ready, Joins, madeOf}
 use Rattle.buffer_doc.proofs.Laws.{fit-gives, Nested, around-leaves, around-front, made-nested}
-use Rattle.draft.specs.Draft.{Last, Opens, Of, Holds, Does}
+use Rattle.draft.specs.Draft.{Last, Opens, Holds, Does}
 use Rattle.draft.specs.declared.Draft.{Draft}
 use Rattle.draft.specs.declared.Drafted.the-variants as drafted
 use Rattle.draft.proofs.Packing.{opens-length, opens-same}

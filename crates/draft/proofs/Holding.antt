@@ -1,18 +1,18 @@
 -- A draft after one more record, and after a call. Assumes nothing.
-use Prim.Native.Nat.{ℕ, zero, suc, _+_, _-_, _%_, _≤_, _<_}
+use Prim.Native.Nat.{ℕ, suc, _+_, _-_, _%_, _≤_, _<_}
 use mathlib.Core.Path.{_≡_, refl, sym, ap, ap₂, _∙_, subst}
-use mathlib.Core.Bool.{Bool, true, false, _&&_}
+use mathlib.Core.Bool.{true, false, _&&_}
 use mathlib.Core.List.{List, [], _∷_, _++_, append-nil}
 use lib.Dec.{leb, eqb}
 use lib.ListN.{length, take, drop, length-append, length-drop, drop-of-length-le}
-use lib.Seq.{length-take-le, take-add, take-all, take-at, drop-at, take-append-seam}
+use lib.Seq.{length-take-le, take-add, take-all, take-at, drop-at}
 use native.Mathlib.Omega.{arith}
 use borrow.Author.Tests.{eq-eqb, ne-eqb, le-leb, lt-leb}
-use Rattle.base.specs.Result.{Result, gives, refused, _>>=_, measured}
+use Rattle.base.specs.Result.{Result, gives, refused, _>>=_}
 use Rattle.base.specs.Stack.{top, pushed, popped}
 use Rattle.base.proofs.Choice.{if-true, if-false, and-both}
 use Rattle.base.proofs.Results.{bind-gives, gives-same}
-use Rattle.records.specs.Records.{Token, tokenAt, size, number, index, kindOf, fits}
+use Rattle.records.specs.Records.{Token, tokenAt, size, number, index, kindOf}
 use Rattle.records.specs.Answers.{Read}
 use Rattle.records.specs.Stored.{stored, text, start, end}
 use Rattle.records.specs.declared.Style.{Style}
@@ -22,8 +22,8 @@ use Rattle.records.specs.declared.Kind.{Kind}
 use Rattle.records.specs.declared.Kind.the-variants as kind
 use Rattle.records.proofs.Reading.{fits-room, read-token}
 use Rattle.records.proofs.Tokens.{nextAt}
-use Rattle.records.proofs.Tables.{kind-style, kind-opens, kind-closes, index-small}
-use Rattle.document.specs.Document.{opens, closes, bodiless, accept, first, reads, openBlocks}
+use Rattle.records.proofs.Tables.{kind-style}
+use Rattle.document.specs.Document.{opens, closes, accept, first, reads, openBlocks}
 use Rattle.document.proofs.Refusals.{reads-some, reads-at}
 use Rattle.document.proofs.Walks.{first-gives}
 use Rattle.utf8.specs.Utf8.{utf8}
@@ -40,7 +40,7 @@ use Rattle.draft.specs.Draft.{styleIn, oneRecord, Last, none, stands, Op
 use Rattle.draft.specs.Parts.{textAt, Turned}
 use Rattle.draft.specs.declared.Draft.{Draft}
 use Rattle.draft.proofs.Packing.{opens-length, opens-top, opens-same, opens-none}
-use Rattle.draft.proofs.Places.{one-long, Placed, placed}
+use Rattle.draft.proofs.Places.{one-long, placed}
 
 -- One more record
 

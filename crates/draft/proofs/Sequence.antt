@@ -1,6 +1,6 @@
 -- A page that is built through a draft from nothing is the page that the builder's own calls build, call by call, refusals too. Assumes nothing.
 use Prim.Native.Nat.{ℕ}
-use mathlib.Core.Path.{_≡_, refl, sym, ap, ap₂, _∙_, subst}
+use mathlib.Core.Path.{_≡_, refl, sym, ap, _∙_, subst}
 use mathlib.Core.List.{List, [], _∷_}
 use Rattle.base.specs.Result.{Result, gives, refused, measured}
 use Rattle.base.proofs.Results.{refused-gives}
@@ -8,8 +8,6 @@ use Rattle.records.specs.declared.Style.{Style}
 use Rattle.records.specs.declared.Block.{Block}
 use Rattle.buffer.specs.Builder.{writes, opensBlock, closesBlock, addsDoc, addsEmDoc}
 use Rattle.buffer.specs.Answers.{kept}
-use Rattle.refusal.specs.declared.Refusal.{Refusal}
-use Rattle.refusal.specs.Numbers.{refusalNumber, refusalPlace}
 use native.Mathlib.Omega.{arith}
 use Rattle.draft.specs.Draft.{Holds, Sound, Does}
 use Rattle.draft.specs.declared.Draft.{Draft}

@@ -8,6 +8,8 @@ use Rattle.buffer.proofs.last_text.Tie as tie
 use mathlib.Core.Logic.{inl, inr}
 use Rattle.buffer.proofs.Written.{Going, going-0, going-last, going-next, going-done}
 
+-- Text goes into the record that the records from the place on give; none before it takes it.
+-- The distance from the place to the document's end falls.
 abbrev Inv-loop : tie.InvT-loop
 Inv-loop document style at₀ at = Going style document at
 

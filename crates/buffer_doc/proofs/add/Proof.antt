@@ -3,7 +3,6 @@ use Rattle.buffer_doc.proofs.add.Statement.{statement}
 use Rattle.buffer_doc.proofs.add.Tie as tie
 use native.Mathlib.Omega.{arith}
 use denote.Ref.{now}
-use borrow.Author.Tests.{not-true, not-false}
 use mathlib.Core.List.{[]}
 use Rattle.document.proofs.Walks.{verdict-gives}
 use Rattle.buffer_doc.specs.Parts.{madeOf}

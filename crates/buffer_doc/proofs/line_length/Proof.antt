@@ -12,6 +12,8 @@ use Rattle.buffer_doc.proofs.line_length.Tie as tie
 use Rattle.splitter.specs.Split.{isLineEnd, line}
 use Rattle.splitter.proofs.Before.{before-stop, before-go, before-none}
 
+-- No line end stands before the place: the line is what was passed, and the line of the rest.
+-- The distance from the place to the body's end falls.
 abbrev Inv-loop : tie.InvT-loop
 Inv-loop body i₀ i = (length (line body) ≡ i + length (line (drop i body)))
 

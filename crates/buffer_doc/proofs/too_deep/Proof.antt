@@ -9,6 +9,8 @@ use Rattle.buffer_doc.proofs.too_deep.Statement.{statement}
 use Rattle.buffer_doc.proofs.too_deep.Tie as tie
 use Rattle.buffer_doc.proofs.Nesting.{Reached, reached-0, reached-next, reached-deep, reached-end}
 
+-- So many blocks are open at the place, at most 32, and the records from there on give what the whole gives.
+-- The distance from the place to the document's end falls.
 abbrev Inv-loop : tie.InvT-loop
 Inv-loop document from depth count₀ at₀ count at = (count ≤ 32) × Reached document from depth count at
 
