@@ -5,15 +5,14 @@ use mathlib.Core.List.{List}
 use lib.ListN.{length, take}
 use lib.Seq.{length-take-le}
 use native.Mathlib.Omega.{arith}
-use Rattle.base.specs.Result.{Result, gives, refused, _>>=_, measured}
+use Rattle.base.specs.Result.{Result, gives, refused}
 use Rattle.base.proofs.Results.{refused-gives, gives-same}
 use Rattle.refusal.specs.Numbers.{refusalNumber, refusalPlace}
 use Rattle.refusal.specs.declared.Refusal.{Refusal}
-use Rattle.document.specs.Document.{openBlocks}
 use Rattle.buffer.specs.Builder.{soFar}
-use Rattle.buffer.specs.Answers.{kept, Of01}
+use Rattle.buffer.specs.Answers.{Of01}
 use Rattle.buffer.proofs.Answering.{stops, so-far-on}
-use Rattle.draft.specs.Draft.{draftIn, draftedAs, HoldsAfter, Holds, Sound, Resumed, Does}
+use Rattle.draft.specs.Draft.{draftIn, draftedAs, Holds, Sound, Resumed, Does}
 use Rattle.draft.specs.declared.Draft.{Draft}
 use Rattle.draft.specs.declared.Drafted.{Drafted}
 use Rattle.draft.specs.declared.Drafted.the-variants as drafted
