@@ -107,7 +107,8 @@ module _ (room : List ℕ) (m : Mark) (l : Locals) where
   marked-out h = rw (seen-out room (m .len) h)
 
 -- two rules that agree on what can stand in a room
-seen-then : {A : Type 0} (room : List ℕ) (len : ℕ) (f g : List ℕ → Result A) → ((x : List ℕ) → length x ≤ length room → f x ≡ g x) → (seen room len >>= f) ≡ (seen room len >>= g)
+seen-then : {A : Type 0} (room : List ℕ) (len : ℕ) (f g : List ℕ → Result A) → ((x : List ℕ) → length x ≤ length room → f x ≡ g x)
+    → (seen room len >>= f) ≡ (seen room len >>= g)
 unfolding _>>=_
 seen-then room len f g h =
     ⊎-elim
@@ -118,7 +119,8 @@ seen-then room len f g h =
 -- a token's pieces were pushed: its turn
 module _ (limit p q : ℕ) (k : Kind) (x : List ℕ) (ts : List Token) (l : Locals) (o : Outcome) (gave : token p k x l ≡ gives o) where
   turn-writes : (w : Written) → length (w .out) ≤ limit → turn limit p q k x ts (state l w)
-      ≡ (extended limit (escapeAll (w .fresh) (o .pushed)) (w .out) >>= λ y. gives (state (o .after) (record { out = y; fresh = lineAfter (w .fresh) (o .pushed) })))
+      ≡ (extended limit (escapeAll (w .fresh) (o .pushed)) (w .out)
+      >>= λ y. gives (state (o .after) (record { out = y; fresh = lineAfter (w .fresh) (o .pushed) })))
   unfolding turn writes _>>=_
   turn-writes w h =
       ap (λ (t : Result Outcome). t >>= λ o. pushes limit (o .pushed) w >>= λ v. gives (state (o .after) v)) gave
@@ -173,7 +175,8 @@ on-start limit document room m v k e f = record {
   behind = v;
   chain = chain-here document 0;
   leads = rw (e, f .0, f .1, between-none document 0 0 (le-refl 0))
-      (sym (bind-assoc (extended limit preamble []) _ _) ∙ bind-assoc (extended limit preamble []) _ (λ w. walk (turn limit) (tokens 0 0 document) (state initial w)));
+      (sym (bind-assoc (extended limit preamble []) _ _)
+      ∙ bind-assoc (extended limit preamble []) _ (λ w. walk (turn limit) (tokens 0 0 document) (state initial w)));
 }
 
 token-refused : (p : ℕ) (k : Kind) (x : List ℕ) (l : Locals) → isTermRef k ≡ true → token p k x l ≡ refused 11 p
@@ -208,7 +211,8 @@ taken {limit} {document} {room} {m} {on} {from} {at} o r l f e = record {
   behind = subst (λ (x : ℕ). textsValid (tokensFrom document x) ≡ true) (sym e) (o .behind);
   chain = subst (λ (x : ℕ). Chain document x at) (sym e) (o .chain);
   none = λ q. ap (λ (x : ℕ). between document x at) e ∙ idle document on from at q;
-  leads = subst (λ (x : ℕ). Leads (whole limit document) (records (turn limit) document at) (marked room m (locals m (between document x at) on))) (sym e) (o .leads);
+  leads = subst (λ (x : ℕ). Leads (whole limit document) (records (turn limit) document at) (marked room m (locals m (between document x at) on)))
+      (sym e) (o .leads);
 }
 
 module _ {limit : ℕ} {document room : List ℕ} {m : Mark} {on : Bool} {f at : ℕ} {h : Head} (t : Taken limit document room m on f at h) where
@@ -239,7 +243,8 @@ module _ {limit : ℕ} {document room : List ℕ} {m : Mark} {on : Bool} {f at :
     behind = behind-on on′;
     chain = chain-on (t .reads) (t .inside) f (t .chain) on′;
     leads = leads-on (whole limit document) (records (turn limit) document at) (marked room m here) (t .leads)
-        (turned (turn limit) document at h) (records (turn limit) document (h .next)) (marked room′ m′ _) (walk-record (turn limit) document at h (t .reads) (t .inside))
+        (turned (turn limit) document at h) (records (turn limit) document (h .next)) (marked room′ m′ _)
+        (walk-record (turn limit) document at h (t .reads) (t .inside))
         (ap (marked room′ m′) (λ i. record { strip = w .strip i; kept = sym kept i; capture = sym c i })
         ∙ turn-made limit at (h .start) (h .kind) body (tokensFrom document (h .next)) here q e room room′ m m′ (t .same) w);
   }

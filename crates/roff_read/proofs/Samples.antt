@@ -71,7 +71,10 @@ shared =
 
 pub shared-hold : map (λ (s : Shared). roff 60 (s .one) ∷ roff 60 (s .other) ∷ []) shared
     ≡ map (λ (s : Shared). gives (preamble ++ bytes (s .page)) ∷ gives (preamble ++ bytes (s .page)) ∷ []) shared
-unfolding shared if_then_else_ _>>=_ top pushed popped table rowOf encode bytes little styles blocks kindOf size tokenAt tokens fits opens closes bodiless accept first reads openBlocks short closed check littleBytes stored text start end around extended walk guard backslash replaced specialByte spacesByte escapeByte escape lineStart preamble writes begun newLine put push pushes fontEscape argument linebreak control0 control plaintext roffText mappings mapsTo upper captures heading subsection started ended token turn roff
+unfolding shared if_then_else_ _>>=_ top pushed popped table rowOf encode bytes little styles blocks kindOf size tokenAt tokens fits opens closes
+    bodiless accept first reads openBlocks short closed check littleBytes stored text start end around extended walk guard backslash replaced specialByte
+    spacesByte escapeByte escape lineStart preamble writes begun newLine put push pushes fontEscape argument linebreak control0 control plaintext roffText
+    mappings mapsTo upper captures heading subsection started ended token turn roff
 shared-hold = refl
 
 -- so that no page tells its document: the first two are told apart by their fifth byte

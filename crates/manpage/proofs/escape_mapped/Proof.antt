@@ -1,3 +1,5 @@
+-- Invariant: the text from i on is left to be escaped, in upper case, and is UTF-8.
+-- What falls: the bytes after i.
 use mathlib.Core.Path.{sym, _∙_}
 use Prim.Native.Nat.{_-_}
 use native.Mathlib.Omega.{arith}
@@ -13,7 +15,6 @@ use Rattle.roff_escape.specs.declared.escape.Escape.the-variants as mode
 use Rattle.roff_escape.proofs.Escaping.{Escaped, escaped-start, escaped-part, escaped-end}
 use Rattle.manpage.proofs.Capturing.{upper-end}
 
--- Invariant: the text from i on is left to be escaped, in upper case, and is UTF-8. What falls is how many bytes it has.
 abbrev Inv-loop : tie.InvT-loop
 Inv-loop room₀ len start characters capitals bytes at n₀ fresh₀ i₀ room n fresh i =
     Escaped mode.Spaces start (upper (drop at bytes)) room₀ len room n fresh (upper (drop i bytes)) × Valid (drop i bytes)

@@ -1,3 +1,5 @@
+-- Invariant: the text from i on is left to be escaped, in upper case, and is UTF-8.
+-- What falls: the bytes after i.
 use mathlib.Core.Bool.{Bool}
 use mathlib.Core.List.{List}
 use Prim.Native.Nat.{ℕ, _-_}
@@ -13,7 +15,6 @@ use Rattle.roff_escape.proofs.Escaping.{Escaped, escaped-start, escaped-byte}
 use Rattle.manpage.specs.Parts.{CasedTo}
 use Rattle.manpage.proofs.Capturing.{Valid-from, valid-past-ascii, upper-here}
 
--- Invariant: the text from i on is left to be escaped, in upper case, and is UTF-8. What falls is how many bytes it has.
 abbrev Inv-loop : tie.InvT-loop
 Inv-loop room₀ len start bytes n₀ fresh₀ i₀ room n fresh i =
     Valid-from bytes i × Escaped mode.Spaces start (upper bytes) room₀ len room n fresh (upper (drop i bytes))

@@ -8,7 +8,9 @@ use Rattle.records.specs.declared.Kind.{Kind}
 use Rattle.manpage.specs.Parts.{isText}
 
 returns : tie.Need-returns
-returns c = ap (λ (k : Kind). isText k && ltb (c .before .before .before .args .h .start) (c .before .before .before .args .h .stop)) (sym (c .before .enum-told .given .1))
+returns c =
+    let a = c .before .before .before .args in
+    ap (λ (k : Kind). isText k && ltb (a .h .start) (a .h .stop)) (sym (c .before .enum-told .given .1))
 
 pub holds-text-spec : {M : Type 1} → statement M
 holds-text-spec =

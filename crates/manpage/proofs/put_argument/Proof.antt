@@ -18,12 +18,15 @@ returns c =
 
 returns-2 : tie.Need-returns-2
 returns-2 c =
-    let a = c .before .before .before .before .before .before .before .before .before .before .before .before .before .before .before .before .before .args in
-    let s = c .before .before .before .before .before .before .before .before .before .before .before .before .push in
-    let g = c .before .before .before .before .before .before .before .before .put-captured in
     let q = c .before .before .push2 in
+    let if1 = c .before .before .before .before .before .if1 in
+    let after-put-captured = c .before .before .before .before .before .before .before .before in
+    let g = after-put-captured .put-captured in
+    let after-push = after-put-captured .before .before .before .before in
+    let s = after-push .push in
+    let a = after-push .before .before .before .before .before .args in
     argument-none (between (now (a .document)) (a .from) (a .to)) (now (a .room)) (s .last .0) (g .last .0) (a .m) (s .result) _ (s .kept .0) (s .ensures)
-    (g .ensures .0) (g .ensures .1 .0) refl (g .result .some) (g .ensures .1 .1) (c .before .before .before .before .before .if1 .left) (q .last .0) (q .result) (g .kept .0) (q .ensures)
+    (g .ensures .0) (g .ensures .1 .0) refl (g .result .some) (g .ensures .1 .1) (if1 .left) (q .last .0) (q .result) (g .kept .0) (q .ensures)
 
 pub put-argument-spec : {M : Type 1} → statement M
 put-argument-spec =

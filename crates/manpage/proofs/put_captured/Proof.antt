@@ -1,3 +1,5 @@
+-- Invariant: of the text between the places that from `at` on is left, and whether any was met; from `at` on text is UTF-8.
+-- What falls: what is left up to the second place.
 use mathlib.Core.Path.{_≡_, refl, sym, ap, _∙_}
 use mathlib.Core.Bool.{true, not, _&&_}
 use Prim.Native.Nat.{_-_}
@@ -17,8 +19,6 @@ use Rattle.manpage.specs.Parts.{isText, textsValid, between}
 use Rattle.manpage.proofs.Capturing.{Again, captured-part, captured-some, holds-valid, passed-over, between-none, further, valid-next, captured-all}
 use Rattle.manpage.proofs.Casing.{further-out, escaped-cased, escaped-all, escaped-rest}
 
--- Invariant: of the text between the places that from `at` on is left, and whether any was met; from `at` on text is UTF-8. What falls is
--- what is left of the document.
 abbrev Inv-loop : tie.InvT-loop
 Inv-loop room₀ len start document from to n₀ fresh₀ some₀ at₀ room n fresh some at =
     Escaped mode.Spaces start (upper (between document from to)) room₀ len room n fresh (upper (between document at to))

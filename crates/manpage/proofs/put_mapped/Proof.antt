@@ -1,3 +1,5 @@
+-- Invariant: of the text between the places that from `at` on is left; from `at` on text is UTF-8.
+-- What falls: what is left up to the second place.
 use mathlib.Core.Path.{_≡_, refl, sym, ap, _∙_}
 use mathlib.Core.Bool.{true, _&&_}
 use mathlib.Core.List.{_++_}
@@ -18,7 +20,6 @@ use Rattle.manpage.specs.Parts.{isText, textsValid, between}
 use Rattle.manpage.proofs.Capturing.{Again, captured-part, holds-valid, passed-over, between-none, further, valid-next}
 use Rattle.manpage.proofs.Casing.{escaped-rest}
 
--- Invariant: of the text between the places that from `at` on is left; from `at` on text is UTF-8. What falls is what is left of the document.
 abbrev Inv-loop : tie.InvT-loop
 Inv-loop room₀ len start bytes i document from to characters capitals n₀ fresh₀ at₀ room n fresh at =
     Escaped mode.Spaces fresh₀ (upper (between document from to)) room₀ n₀ room n fresh (upper (between document at to))

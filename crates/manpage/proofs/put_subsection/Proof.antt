@@ -15,7 +15,9 @@ unfolding subsection bytes encode if_then_else_
 returns c = pushed-same (ap subsection (c .before .before .before .before .before .enum-told .given .1)) (c .before .before .control0 .ensures)
 
 returns-2 : tie.Need-returns-2
-returns-2 c = pushed-same (subsection-nothing (c .before .before .args .style) (c .match .keys2)) (pushed-none (now (c .before .before .args .room)) (c .before .before .args .m))
+returns-2 c =
+    let a = c .before .before .args in
+    pushed-same (subsection-nothing (a .style) (c .match .keys2)) (pushed-none (now (a .room)) (a .m))
 
 pub put-subsection-spec : {M : Type 1} → statement M
 put-subsection-spec =

@@ -20,17 +20,23 @@ walk-requires c κs =
 
 returns : tie.Need-returns
 returns c =
-    let a = c .before .before .before .before .before .before .before .before .before .before .before .before .before .args in
-    let w = c .before .before .before .before .before .before .walk in
-    let e = w .ensures .0 ∙ roff-accepted (length (now (a .room))) (now (a .document)) (verdict-gives [] (c .before .before .before .before .before .before .before .before .before .before .check .ensures) (c .before .before .before .before .before .before .before .before .enum-told .given .1)) in (
+    let after-walk = c .before .before .before .before .before .before in
+    let w = after-walk .walk in
+    let enum-told = after-walk .before .before .enum-told in
+    let after-check = after-walk .before .before .before .before in
+    let a = after-check .before .before .before .args in
+    let e = w .ensures .0 ∙ roff-accepted (length (now (a .room))) (now (a .document)) (verdict-gives [] (after-check .check .ensures) (enum-told .given .1)) in (
       standing-measured (w .last .1 .0) (w .result) _ e (w .ensures .1),
-      c .before .before .clear-after .ensures ∙ ap (λ (n : ℕ). filled n (standing (w .last .1 .0) (w .result))) (w .kept .1 .0) ∙ ap (filled (length (now (a .room)))) e,
+      c .before .before .clear-after .ensures
+          ∙ ap (λ (n : ℕ). filled n (standing (w .last .1 .0) (w .result))) (w .kept .1 .0) ∙ ap (filled (length (now (a .room)))) e,
     )
 
 returns-2 : tie.Need-returns-2
 returns-2 c =
-    let a = c .before .before .before .before .before .before .before .before .before .before .args in
-    let e = roff-refused (length (now (a .room))) (now (a .document)) _ _ (verdict-refused [] (c .before .before .before .before .before .before .before .check .ensures) (c .before .before .before .before .before .verdict .given .1)) in (
+    let verdict = c .before .before .before .before .before .verdict in
+    let after-check = c .before .before .before .before .before .before .before in
+    let a = after-check .before .before .before .args in
+    let e = roff-refused (length (now (a .room))) (now (a .document)) _ _ (verdict-refused [] (after-check .check .ensures) (verdict .given .1)) in (
       sym (ap measured e),
       c .before .before .clear-after2 .ensures ∙ ap (filled (length (now (a .room)))) (sym e),
     )

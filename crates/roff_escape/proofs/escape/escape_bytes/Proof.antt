@@ -9,7 +9,6 @@ use Rattle.roff_escape.proofs.escape.escape_bytes.Tie as tie
 use lib.ListN.{drop-of-length-le}
 use Rattle.roff_escape.proofs.Escaping.{Escaped, escaped-start, escaped-byte, escaped-end, from-here}
 
--- Invariant: the bytes from i on are left to be escaped. What falls is how many these are.
 abbrev Inv-loop : tie.InvT-loop
 Inv-loop room₀ len mode start bytes n₀ fresh₀ i₀ room n fresh i = Escaped mode start bytes room₀ len room n fresh (drop i bytes)
 
