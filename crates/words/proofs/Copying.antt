@@ -186,8 +186,9 @@ module _ (x : List ℕ) (at far to width : ℕ) (order : at ≤ to) (near : to �
   counts-back h k =
       let s : to - 1 + 1 ≡ to = omega arith in
       let one = take-one x (to - 1) (omega arith) in
-      sym (ap (λ (e : ℕ). characters (part x at e)) (sym s) ∙ ap characters (part-more x at (to - 1) (omega arith) 1 ∙ ap (λ (l : List ℕ). part x at (to - 1) ++ l) one)
-      ∙ characters-append (part x at (to - 1)) (getD x (to - 1) 0 ∷ []) ∙ omega (arith, count-one (getD x (to - 1) 0))) ∙ counts
+      let cut : part x at to ≡ part x at (to - 1) ++ getD x (to - 1) 0 ∷ [] =
+      ap (λ (e : ℕ). part x at e) (sym s) ∙ part-more x at (to - 1) (omega arith) 1 ∙ ap (λ (l : List ℕ). part x at (to - 1) ++ l) one in
+      omega (arith, counts, ap characters cut, characters-append (part x at (to - 1)) (getD x (to - 1) 0 ∷ []), count-one (getD x (to - 1) 0))
 
   -- a run that cuts no word
   pub whole-end : length x ≤ to → Whole x at far to width

@@ -20,7 +20,7 @@ abbrev μ-loop : tie.MeasureT-loop
 
 -- the turn in which a run is copied, and what the function began with
 abbrev turn : (r : tie.After-copy-run Inv-loop μ-loop) → tie.At-loop Inv-loop μ-loop
-turn r = r .before .before .before .before .before .before .before .before .before .before
+turn r = let test = r .before .before .before .before .before .before in test .before .before .before .before
 
 -- the column after a run is no further on than the width
 narrow : (r : tie.After-copy-run Inv-loop μ-loop)

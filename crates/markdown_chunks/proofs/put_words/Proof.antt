@@ -20,8 +20,9 @@ returns-2 c =
 
 add-t7 : tie.Need-add-t7
 add-t7 c =
-    let run = c .before .before .before .copy-run in
-    let start = c .before .before .before .before .before .before .before .before .before .before in
+    let after-run = c .before .before .before in
+    let start = after-run .before .before .before .before .before .before .before in
+    let run = after-run .copy-run in
     let a = start .args in
     let to = run .result .to in
     let f : a .len + (to - a .from) < 2 ^ 64 =
@@ -31,8 +32,9 @@ add-t7 c =
 
 returns-3 : tie.Need-returns-3
 returns-3 c =
-    let run = c .before .before .before .copy-run in
-    let a = c .before .before .before .before .before .before .before .before .before .before .args in
+    let after-run = c .before .before .before in
+    let run = after-run .copy-run in
+    let a = after-run .before .before .before .before .before .before .before .args in
     onward-run (now (a .body)) (now (a .room)) (a .len) (a .from) (run .last .0) _ (run .result .to) (run .result .width) (run .ensures) (run .kept .0)
 
 pub put-words-spec : {M : Type 1} → statement M

@@ -55,17 +55,22 @@ copy-block-requires c κs =
     let pre = c .before .before .before .before .before .before .before .pre in
     (omega (arith, loop-test .taken, i .near, pre .1), omega (arith, loop-test .taken, i .near, i .order, i .size, pre .2))
 
+-- the turn in which a block is copied
+abbrev turn : (b : tie.After-copy-block Inv-loop μ-loop) → tie.At-loop Inv-loop μ-loop
+turn b = b .before .before .before .before .before
+
 count-requires : tie.Need-count-requires Inv-loop μ-loop
 count-requires c κs =
-    let loop-test = c .before .before .before .before .before .before .loop-test in
-    let loop = c .before .before .before .before .before .before .before .loop in
-    let start = c .before .before .before .before .before .before .before .before .before .before in
-    omega (arith, loop-test .taken, loop .inv .near, start .pre .1)
+    let b = c .before .before in
+    let loop-test = b .before .before .before .before .loop-test in
+    let start = turn b .before .before .before in
+    omega (arith, loop-test .taken, turn b .loop .inv .near, start .pre .1)
 
 add-width : tie.Need-add-width Inv-loop μ-loop
 add-width c =
-    let l = c .before .before .before .before .before .before .before .before .before .loop in
-    let start = c .before .before .before .before .before .before .before .before .before .before .before .before in
+    let b = c .before .before .before .before in
+    let l = turn b .loop in
+    let start = turn b .before .before .before in
     let a = start .args in
     let n = part-narrow (now (a .body)) (a .at) (l .to) in
     let f : l .width + c .usize-from .result ≤ length (now (a .body)) + 255 =
@@ -73,19 +78,21 @@ add-width c =
     search needs
 
 loop-less : tie.Need-loop-less Inv-loop μ-loop
-loop-less c = omega (arith, c .before .before .before .before .before .before .before .before .loop-test .taken)
+loop-less c =
+    let b = c .before .before .before .before in
+    omega (arith, b .before .before .before .before .loop-test .taken)
 
 loop-again : tie.Need-loop-again Inv-loop μ-loop
 loop-again c =
-    let block = c .before .before .before .before .copy-block in
-    let if1 = c .before .before .before .before .before .before .if1 in
-    let has-line-end = c .before .before .before .before .before .before .before .has-line-end in
-    let loop-test = c .before .before .before .before .before .before .before .before .loop-test in
-    let l = c .before .before .before .before .before .before .before .before .before .loop in
-    let a = c .before .before .before .before .before .before .before .before .before .before .before .before .args in
-    copying-more (now (a .body)) (a .at) (a .stop) (a .len) (now (a .room)) (l .room) (l .to) (l .width) (l .inv) 8 _ (block .last .0)
-    (omega (arith, loop-test .taken, l .inv .near)) (block .kept .0) (has-line-end .ensures (if1 .left))
-    (omega (arith, c .usize-from .ensures .0, c .before .count .ensures)) (block .ensures)
+    let b = c .before .before .before .before in
+    let if1 = b .before .before .if1 in
+    let has-line-end = b .before .before .before .has-line-end in
+    let loop-test = b .before .before .before .before .loop-test in
+    let l = turn b .loop in
+    let a = turn b .before .before .before .args in
+    copying-more (now (a .body)) (a .at) (a .stop) (a .len) (now (a .room)) (l .room) (l .to) (l .width) (l .inv) 8 _ (b .copy-block .last .0)
+    (omega (arith, loop-test .taken, l .inv .near)) (b .copy-block .kept .0) (has-line-end .ensures (if1 .left))
+    (omega (arith, c .usize-from .ensures .0, c .before .count .ensures)) (b .copy-block .ensures)
 
 same-length-2 : tie.Need-same-length-2 Inv-loop μ-loop
 same-length-2 c = c .before .loop .inv .size

@@ -9,9 +9,11 @@ use Rattle.words.proofs.Copying.{part-narrow, copying-join}
 
 add-t13 : tie.Need-add-t13
 add-t13 c =
-    let rest = c .before .before .before .before .copy-bytes in
-    let blocks = c .before .before .before .before .before .before .before .before .copy-blocks in
-    let start = c .before .before .before .before .before .before .before .before .before .before .before .before in
+    let after-rest = c .before .before .before .before in
+    let after-blocks = after-rest .before .before .before .before in
+    let start = after-blocks .before .before .before .before in
+    let rest = after-rest .copy-bytes in
+    let blocks = after-blocks .copy-blocks in
     let a = start .args in
     let x = now (a .body) in
     let n = part-narrow x (a .at) (blocks .result .to) in
@@ -22,9 +24,11 @@ add-t13 c =
 
 returns : tie.Need-returns
 returns c =
-    let rest = c .before .before .before .before .copy-bytes in
-    let blocks = c .before .before .before .before .before .before .before .before .copy-blocks in
-    let a = c .before .before .before .before .before .before .before .before .before .before .before .before .args in
+    let after-rest = c .before .before .before .before in
+    let after-blocks = after-rest .before .before .before .before in
+    let rest = after-rest .copy-bytes in
+    let blocks = after-blocks .copy-blocks in
+    let a = after-blocks .before .before .before .before .args in
     copying-join (now (a .body)) (a .at) (a .stop) (a .len) (now (a .room)) (blocks .last .0) (blocks .result .to) (blocks .result .width)
     (blocks .ensures) (rest .last .0) (rest .result .to) (rest .result .width) (rest .ensures)
 

@@ -20,11 +20,12 @@ returns-3 : tie.Need-returns-3
 returns-3 c =
     let whole-words = c .whole-words in
     let copy-line = c .before .before .before .copy-line in
-    let most = c .before .before .before .before .before .min2 in
-    let fits = c .before .before .before .before .before .before .min in
-    let if2 = c .before .before .before .before .before .before .before .if2 in
-    let if1 = c .before .before .before .before .before .before .before .before .if1 in
-    let a = c .before .before .before .before .before .before .before .before .before .before .before .args in
+    let after-most = c .before .before .before .before .before in
+    let most = after-most .min2 in
+    let fits = after-most .before .min in
+    let if2 = after-most .before .before .if2 in
+    let if1 = after-most .before .before .before .if1 in
+    let a = after-most .before .before .before .before .before .before .args in
     copies-whole (now (a .body)) (a .at) (a .most) (a .len) (now (a .room)) (copy-line .last .0) (a .at + most .result)
     (copy-line .result .to) (copy-line .result .width) (whole-words .result .to) (whole-words .result .width) (omega (arith, if1 .left))
     (omega (arith, most .ensures)) (omega (arith, most .ensures, fits .ensures, if2 .left))

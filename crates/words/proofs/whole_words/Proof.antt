@@ -40,15 +40,17 @@ loop-holds c =
 
 returns-3 : tie.Need-returns-3 Inv-loop μ-loop
 returns-3 c =
-    let l = c .before .before .before .loop in
-    let a = c .before .before .before .before .before .before .before .before .before .args in
+    let turn = c .before .before .before in
+    let l = turn .loop in
+    let a = turn .before .before .before .before .before .before .args in
     whole-space (now (a .body)) (a .at) (a .run .to) (l .to) (l .width) (l .inv .0) (l .inv .1) (l .inv .3) (c .if3 .taken)
 
 sub-width : tie.Need-sub-width Inv-loop μ-loop
 sub-width c =
     let loop-test = c .before .before .before .loop-test in
-    let l = c .before .before .before .before .loop in
-    let a = c .before .before .before .before .before .before .before .before .before .before .args in
+    let turn = c .before .before .before .before in
+    let l = turn .loop in
+    let a = turn .before .before .before .before .before .before .args in
     let x = now (a .body) in
     let back = counts-back x (a .at) (a .run .to) (l .to) (l .width) (l .inv .0) (l .inv .1) (l .inv .3) (loop-test .taken) (omega arith) in
     omega (arith, back, adds-by (getD x (l .to - 1) 0) (c .if4 .taken))
@@ -56,13 +58,17 @@ sub-width c =
 loop-again : tie.Need-loop-again Inv-loop μ-loop
 loop-again c =
     let loop-test = c .before .before .before .loop-test in
-    let l = c .before .before .before .before .loop in
-    let a = c .before .before .before .before .before .before .before .before .before .before .args in
+    let turn = c .before .before .before .before in
+    let l = turn .loop in
+    let a = turn .before .before .before .before .before .before .args in
     let x = now (a .body) in
     let b = getD x (l .to - 1) 0 in
-    let back = counts-back x (a .at) (a .run .to) (l .to) (l .width) (l .inv .0) (l .inv .1) (l .inv .3) (loop-test .taken) (omega arith) in
-    (omega arith, omega arith, l .inv .2,
-    ⊎-elim (λ w. omega (arith, back, w .1, adds-by b (w .0 .taken))) (λ w. omega (arith, back, w .1, adds-not b (w .0 .left))) (c .if4 .came))
+    let back = counts-back x (a .at) (a .run .to) (l .to) (l .width) (l .inv .0) (l .inv .1) (l .inv .3) (loop-test .taken) (omega arith) in (
+      omega arith,
+      omega arith,
+      l .inv .2,
+      ⊎-elim (λ w. omega (arith, back, w .1, adds-by b (w .0 .taken))) (λ w. omega (arith, back, w .1, adds-not b (w .0 .left))) (c .if4 .came),
+    )
 
 returns-4 : tie.Need-returns-4 Inv-loop μ-loop
 returns-4 c =
