@@ -1,3 +1,4 @@
 pub mod Scans
 pub mod Settled
 pub mod Ahead
+pub mod Searching

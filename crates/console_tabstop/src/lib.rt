@@ -5,7 +5,7 @@ ghost use Prim.Native.Nat.{_+_, _-_, _≤_, _<_, _^_};
 ghost use lib.ListN.{length};
 ghost use Rattle.records.specs.Records.{isText, kindOf, tokens, tokensFrom};
 ghost use Rattle.records.specs.declared.Block.the-variants as block;
-ghost use Rattle.console_rules.specs.Console.{termStart, termEnd, term, settles, tabstop, settledAt, tabstopIn, settledIn, emptyBlock};
+ghost use Rattle.console_rules.specs.Console.{termStart, termEnd, term, terms, settles, tabstop, settledFrom, settledAt, tabstopIn, settledIn, emptyBlock};
 ghost use Rattle.console_tabstop.specs.Answers.{tabstopOf, settledOf};
 ghost use Rattle.console_tabstop.specs.Counted.{termsOf};
 ghost use Rattle.console_tabstop.specs.Ahead.{Ahead, Known, Looked};
@@ -143,7 +143,37 @@ pub struct Tabstop {
     pub at: usize,
 }
 
-// The search for the tabstop, which stops at the record that settles it.
+// The search for the tabstop from a record on, where so much was counted before: it stops at the record that settles it.
+fn find_from(document: &[u8], from: usize, first: Terms) -> Tabstop
+    requires { ⌜ (first .widest ≤ 24) × (first .counted ≤ from) × (from ≤ length (now document)) ⌝ }
+    ensures tabstop { λ r. ⌜ (r .columns .0 ≡ (terms (tokensFrom (now (document .entry)) from) (termsOf first)) .widest + 4) × (r .columns .0 ≤ 28) ⌝ }
+    ensures settled { λ r. ⌜ r .at ≡ settledFrom (length (now (document .entry))) (tokensFrom (now (document .entry)) from) (termsOf first) ⌝ }
+{
+    let mut t = first;
+    let mut i = from;
+    while i < document.len() {
+        let h = records::raw_at(document, i);
+        let start = h.start;
+        let next = h.next;
+        let code = h.code;
+        if settles(t, code) {
+            return Tabstop {
+                columns: Columns(28),
+                at: i,
+            };
+        }
+        t = term_on(t, code, &document[start..next]);
+        i = next;
+    }
+    let tab = t.widest + 4;
+    Tabstop {
+        columns: Columns(tab),
+        at: document.len(),
+    }
+}
+
+// The search in a whole document. A record that is cut short, which an accepted document has none of, is left to `find_from`: so that here no place is
+// compared with the document's end before the next record can be read.
 fn find_tabstop(document: &[u8]) -> Tabstop
     ensures tabstop { λ r. ⌜ (r .columns .0 ≡ tabstop (tokens 0 0 (now (document .entry)))) × (r .columns .0 ≤ 28) ⌝ }
     ensures settled { λ r. ⌜ r .at ≡ settledAt (length (now (document .entry))) (tokens 0 0 (now (document .entry))) ⌝ }
@@ -155,7 +185,10 @@ fn find_tabstop(document: &[u8]) -> Tabstop
     };
     let mut at: usize = 0;
     while at < document.len() {
-        let h = records::raw_at(document, at);
+        if !records::fits_at(document, at) {
+            return find_from(document, at, t);
+        }
+        let h = records::whole_raw_at(document, at);
         let start = h.start;
         let next = h.next;
         let code = h.code;

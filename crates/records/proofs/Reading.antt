@@ -1,5 +1,5 @@
 -- A record's bytes as numbers, its kind, and where it ends. Assumes nothing.
-use Prim.Native.Nat.{ℕ, suc, _+_, _-_, _*_, _%_, _^_, _≤_, _<_}
+use Prim.Native.Nat.{ℕ, suc, _+_, _-_, _*_, _≤_, _<_}
 use mathlib.Core.Path.{_≡_, refl, sym, ap, ap₂, _∙_, subst}
 use mathlib.Core.Bool.{true, false}
 use mathlib.Core.List.{List, [], _∷_}
@@ -7,13 +7,13 @@ use lib.Dec.{leb, ltb}
 use lib.ListN.{length, take, drop, getD, length-drop, drop-of-length-le, List·getD-eq-default}
 use lib.Seq.{drop-drop, getD-drop, take-all, take-nil, length-take-le}
 use native.Mathlib.Omega.{arith}
-use native.Mathlib.Nat.{le-refl, add-zero, mod-eq-of-lt}
+use native.Mathlib.Nat.{le-refl, add-zero}
 use borrow.Author.Tests.{lt-ltb, le-ltb, le-leb, lt-leb, leb-true}
 use Rattle.base.specs.Bytes.{part}
 use Rattle.base.specs.Choice.{if_then_else_}
 use Rattle.base.proofs.Choice.{and-left, and-right, if-true, if-false}
 use Rattle.records.specs.Records.{Token, little, styles, blocks, kindOf, size, tokenAt, tokensFrom, fits}
-use Rattle.records.specs.Answers.{headOf, tokenOf, Read}
+use Rattle.records.specs.Answers.{tokenOf, Read}
 use Rattle.records.specs.declared.Kind.{Kind}
 use Rattle.records.specs.declared.Kind.the-variants as kind
 use Rattle.records.specs.declared.Block.{Block}
@@ -21,7 +21,6 @@ use Rattle.records.specs.declared.Block.the-variants as block
 use Rattle.records.specs.declared.Style.{Style}
 use Rattle.records.specs.declared.Style.the-variants as style
 use Rattle.records.specs.declared.Head.{Head}
-use Rattle.records.specs.declared.Raw.{Raw}
 use Rattle.records.proofs.Tokens.{tokens-at, tokens-end, nextAt}
 
 -- Numbers
@@ -135,11 +134,6 @@ module _ (s : List ℕ) (at : ℕ) where
   read-past-raw h =
       subst (λ (k : Kind). Read s at (record { kind = k; start = length s; stop = length s; next = length s })) (kind-0 0 (omega arith)) (read-past h)
 
-  -- what was read with its kind as a number, and then with the kind that the number says
-  pub read-by-code : (r : Raw) (k : Kind) → k ≡ kindOf (r .code) → Read s at (headOf r)
-      → Read s at (record { kind = k; start = r .start; stop = r .next; next = r .next })
-  read-by-code r k e = subst (λ (k : Kind). Read s at (record { kind = k; start = r .start; stop = r .next; next = r .next })) (sym e)
-
   module _ (k : Kind) (h : at < length s) (ek : k ≡ kindOf (little (take 2 (drop (at + 4) s)))) where
     listed-here : (start next : ℕ) → start ≡ at + length (take 6 (drop at s)) → part s start next ≡ take (size (drop at s)) (drop (at + 6) s)
         → tokensFrom s next ≡ tokensFrom s (nextAt s at)
@@ -197,12 +191,8 @@ module _ (s : List ℕ) (at : ℕ) where
             whole = λ _ _. (refl, f);
           }
 
-      -- the same of a record that fits, whose end is a sum that could wrap
-      pub read-fits : fits (drop at s) ≡ true → length s < 2 ^ 64 → (stop : ℕ) → stop ≡ (at + 6 + n) % 2 ^ 64
-          → Read s at (record { kind = k; start = at + 6; stop = stop; next = stop })
-      read-fits f small stop e =
-          let m : n ≤ length s - (at + 6) = omega (arith, fits-room (drop at s) f, length-drop at s, en) in
-          subst (λ (i : ℕ). Read s at (record { kind = k; start = at + 6; stop = i; next = i })) (sym (e ∙ mod-eq-of-lt (omega arith))) (read-whole m)
+      pub read-fits : fits (drop at s) ≡ true → Read s at (record { kind = k; start = at + 6; stop = at + 6 + n; next = at + 6 + n })
+      read-fits f = read-whole (omega (arith, fits-room (drop at s) f, length-drop at s, en))
 
 -- What was read is the record at that place.
 

@@ -238,11 +238,10 @@ pub fn raw_at(document: &[u8], at: usize) -> Raw
     Raw { code, start, next }
 }
 
-// The record at `at`. A body that is cut short ends with the document, and past the end the kind is Unknown.
-pub fn record_at(document: &[u8], at: usize) -> Head
-    ensures { λ r. ⌜ Read (now (document .entry)) at r ⌝ }
+// A record with the kind that its number says.
+fn head_of(r: Raw) -> Head
+    ensures { λ h. ⌜ h ≡ headOf r ⌝ }
 {
-    let r = raw_at(document, at);
     let kind = kind_of(r.code);
     let start = r.start;
     let next = r.next;
@@ -254,19 +253,26 @@ pub fn record_at(document: &[u8], at: usize) -> Head
     }
 }
 
+// The record at `at`. A body that is cut short ends with the document, and past the end the kind is Unknown.
+pub fn record_at(document: &[u8], at: usize) -> Head
+    ensures { λ r. ⌜ Read (now (document .entry)) at r ⌝ }
+{
+    let r = raw_at(document, at);
+    head_of(r)
+}
+
 // A record of no kind and no bytes at a place.
-fn nothing_at(at: usize) -> Head {
-    Head {
-        kind: Kind::Unknown,
+fn nothing_at(at: usize) -> Raw {
+    Raw {
+        code: 0,
         start: at,
-        stop: at,
         next: at,
     }
 }
 
-// The record at `at`, where one lies whole: no place is compared with the document's end. Elsewhere the answer is free.
-pub fn whole_at(document: &[u8], at: usize) -> Head
-    ensures { λ r. ⌜ (fits (drop at (now (document .entry))) ≡ true → Read (now (document .entry)) at r) ⌝ }
+// The record at `at`, its kind as a number, where one lies whole: no place is compared with the document's end. Elsewhere the answer is free.
+pub fn whole_raw_at(document: &[u8], at: usize) -> Raw
+    ensures { λ r. ⌜ (fits (drop at (now (document .entry))) ≡ true → Read (now (document .entry)) at (headOf r)) ⌝ }
 {
     if document.len() <= at {
         return nothing_at(at);
@@ -274,9 +280,29 @@ pub fn whole_at(document: &[u8], at: usize) -> Head
     if document.len() - at < 6 {
         return nothing_at(at);
     }
+    let kind = whole_two(document, at + 4);
+    let body = at + 6;
+    let next = body + whole_four(document, at);
+    Raw {
+        code: kind,
+        start: body,
+        next,
+    }
+}
+
+// The same with the kind that its number says, in one piece: made of the two functions, it is slower.
+pub fn whole_at(document: &[u8], at: usize) -> Head
+    ensures { λ r. ⌜ (fits (drop at (now (document .entry))) ≡ true → Read (now (document .entry)) at r) ⌝ }
+{
+    if document.len() <= at {
+        return head_of(nothing_at(at));
+    }
+    if document.len() - at < 6 {
+        return head_of(nothing_at(at));
+    }
     let kind = kind_of(whole_two(document, at + 4));
     let body = at + 6;
-    let stop = std::num::wrapping_add_usize(body, whole_four(document, at));
+    let stop = body + whole_four(document, at);
     Head {
         kind,
         start: body,

@@ -1,14 +1,15 @@
+use mathlib.Core.Path.{sym, subst}
 use borrow.Author.Needs.{needs}
 use denote.Ref.{now}
 use Rattle.records.proofs.record_at.Statement.{statement}
 use Rattle.records.proofs.record_at.Tie as tie
-use Rattle.records.proofs.Reading.{read-by-code}
+use Rattle.records.specs.Answers.{Read}
+use Rattle.records.specs.declared.Head.{Head}
 
 returns : tie.Need-returns
 returns c =
-    let r = c .before .raw-at in
     let a = c .before .before .before .args in
-    read-by-code (now (a .document)) (a .at) (r .result) (c .kind-of .result) (c .kind-of .ensures) (r .ensures)
+    subst (λ (h : Head). Read (now (a .document)) (a .at) h) (sym (c .head-of .ensures)) (c .before .raw-at .ensures)
 
 pub record-at-spec : {M : Type 1} → statement M
 record-at-spec =

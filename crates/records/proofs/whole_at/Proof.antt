@@ -10,31 +10,35 @@ use Rattle.records.proofs.Reading.{fits-short, read-fits}
 
 returns : tie.Need-returns
 returns c =
-    let a = c .before .before .before .args in
+    let a = c .before .before .before .before .args in
     λ f. absurd (false≢true (fits-short (now (a .document)) (a .at) (omega arith) ∙ f))
 
 returns-2 : tie.Need-returns-2
 returns-2 c =
-    let a = c .before .before .before .before .args in
+    let a = c .before .before .before .before .before .args in
     λ f. absurd (false≢true (fits-short (now (a .document)) (a .at) (omega arith) ∙ f))
+
+-- a slice has fewer than 2^63 bytes
+add-stop : tie.Need-add-stop
+add-stop c = omega (arith, c .before .before .before .before .before .before .good .0 .1, c .whole-four .ensures .1)
 
 returns-3 : tie.Need-returns-3
 unfolding size
 returns-3 c =
-    let after-whole-two = c .before .before .before in
-    let k = c .before .before .kind-of .ensures ∙ ap kindOf (after-whole-two .whole-two .ensures .0) in
-    let after-if1 = after-whole-two .before .before in
+    let after-if1 = c .before .before .before .before in
     let a = after-if1 .before .before .args in
-    λ f. read-fits (now (a .document)) (a .at) _ (after-if1 .if1 .left) k _ (c .before .whole-four .ensures .0) (omega arith) f (omega arith) _
-    (c .wrapping-add-usize .ensures)
+    let k = c .before .kind-of .ensures ∙ ap kindOf (c .before .before .whole-two .ensures .0) in
+    read-fits (now (a .document)) (a .at) _ (after-if1 .if1 .left) k _ (c .whole-four .ensures .0) (omega arith)
 
 pub whole-at-spec : {M : Type 1} → statement M
 whole-at-spec =
     tie.close
     (tie.spec
     (λ c κs. search needs)
+    (λ c κs. search needs)
     returns
     (λ c. search needs)
+    (λ c κs. search needs)
     (λ c κs. search needs)
     returns-2
     (λ c. search needs)
@@ -42,5 +46,5 @@ whole-at-spec =
     (λ c κs. search needs)
     (λ c. search needs)
     (λ c κs. search needs)
-    (λ c κs. search needs)
+    add-stop
     returns-3)
