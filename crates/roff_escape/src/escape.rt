@@ -241,9 +241,9 @@ fn starts_text_line(strip: bool, c: u8) -> bool
     ensures { λ r. ⌜ r ≡ startsLine (textMode strip) c ⌝ }
 {
     if strip {
-        return false;
+        return starts_line(Escape::SpecialNoNewline, c);
     }
-    c == b'\n'
+    starts_line(Escape::Special, c)
 }
 
 // The bytes of a text from a place up to another, as `escape_bytes` writes them; most are plain, and those are copied by runs.
