@@ -249,7 +249,8 @@ pub most-more : (s : List ℕ) (a i m n : ℕ) → ((k : ℕ) → k < i → getD
 most-more s a i m n h l g = below-more (λ k. getD s (a + k) 0 ≤ n) i (λ k q. let w = h k q in omega arith) g
 
 -- a run of ASCII
-pub ascii-run : (s : List ℕ) (i n : ℕ) → i + n ≤ length s → ((k : ℕ) → k < n → getD s (i + k) 0 < 0x80) → fits [] (drop i s) ≡ fits [] (drop (i + n) s)
+pub ascii-run : (s : List ℕ) (i n : ℕ) → i + n ≤ length s → ((k : ℕ) → k < n → getD s (i + k) 0 < 0x80)
+    → fits [] (drop i s) ≡ fits [] (drop (i + n) s)
 ascii-run s i zero h l = rw add-zero
 ascii-run s i (suc n) h l =
     let q : i + n + 1 ≡ i + suc n = omega arith in

@@ -1,4 +1,5 @@
--- Well-formed UTF-8 by each byte and the three before it, r, q and p in that order. The law `Neighbours.utf8-sound` says that this is `utf8`.
+-- Well-formed UTF-8 by each byte and the three before it, r, q and p in that order; no rule stands here. The law `Neighbours.utf8-sound` says that this
+-- is `utf8`.
 use mathlib.Core.Bool.{Bool, not, _&&_, _||_}
 use mathlib.Core.List.{List, [], _∷_}
 use Prim.Native.Nat.{ℕ}
