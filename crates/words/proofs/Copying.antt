@@ -2,7 +2,7 @@
 use Prim.Native.Nat.{ℕ, zero, suc, _+_, _-_, _/_, _≤_, _<_}
 use mathlib.Core.Path.{_≡_, refl, sym, ap, subst, _∙_}
 use mathlib.Core.List.{List, [], _∷_, _++_, append-nil, append-assoc}
-use mathlib.Core.Bool.{true, false≢true}
+use mathlib.Core.Bool.{true, false, false≢true}
 use mathlib.Core.Logic.{⊎-elim}
 use lib.ListN.{length, take, drop, getD, set, length-set, length-take}
 use lib.Seq.{take-take, take-append-add, take-add, take-suc-set, length-take-le, drop-cons, drop-drop}
@@ -15,7 +15,7 @@ use Rattle.utf8.specs.Utf8.{characters}
 use Rattle.utf8.proofs.Laws.{adds, adds-by, adds-not}
 use Rattle.splitter.specs.Split.{isLineEndOrSpace}
 use Rattle.splitter.proofs.Fits.{count-short}
-use Rattle.words.specs.Copies.{NoLineEnd, Copying, Whole, Copies}
+use Rattle.words.specs.Copies.{NoLineEnd, NoWordCut, Copying, Stopped, Whole, Copies}
 
 -- Parts
 
@@ -180,7 +180,14 @@ module _ (x : List ℕ) (at len : ℕ) (old : List ℕ) where
 
 -- Whole words
 
-module _ (x : List ℕ) (at far to width : ℕ) (order : at ≤ to) (near : to ≤ far) (counts : characters (part x at to) ≡ width) where
+-- where a word goes on across a place that is no space's end, no more of a run is whole than before it
+pub cut-back : (x : List ℕ) (far to : ℕ) → to < length x → isLineEndOrSpace (getD x to 0) ≡ false → (getD x (to - 1) 0 ≡ 0x20 → ⊥)
+    → ((k : ℕ) → to < k → k ≤ far → NoWordCut x k → ⊥) → (k : ℕ) → to - 1 < k → k ≤ far → NoWordCut x k → ⊥
+cut-back x far to h e n last k a b w =
+    ⊎-elim (λ (l : k ≤ to). n (subst (NoWordCut x) (omega arith) w h e)) (λ (l : to < k). last k l b w) (le-or-lt k to)
+
+module _ (x : List ℕ) (at far to width : ℕ) (order : at ≤ to) (near : to ≤ far) (counts : characters (part x at to) ≡ width)
+    (last : (k : ℕ) → to < k → k ≤ far → NoWordCut x k → ⊥) where
   -- the last byte counts as it adds
   pub counts-back : at < to → to ≤ length x → characters (part x at (to - 1)) + adds (getD x (to - 1) 0) ≡ width
   counts-back h k =
@@ -192,24 +199,24 @@ module _ (x : List ℕ) (at far to width : ℕ) (order : at ≤ to) (near : to �
 
   -- a run that cuts no word
   pub whole-end : length x ≤ to → Whole x at far to width
-  whole-end h = record { order = order; near = near; counts = counts; whole = λ _ k. absurd (omega arith) }
+  whole-end h = record { order = order; near = near; counts = counts; whole = λ _ k. absurd (omega arith); last = last }
 
   pub whole-stop : isLineEndOrSpace (getD x to 0) ≡ true → Whole x at far to width
-  whole-stop e = record { order = order; near = near; counts = counts; whole = λ _ _ f. absurd (false≢true (sym f ∙ e)) }
+  whole-stop e = record { order = order; near = near; counts = counts; whole = λ _ _ f. absurd (false≢true (sym f ∙ e)); last = last }
 
   pub whole-space : getD x (to - 1) 0 ≡ 0x20 → Whole x at far to width
-  whole-space e = record { order = order; near = near; counts = counts; whole = λ _ _ _. e }
+  whole-space e = record { order = order; near = near; counts = counts; whole = λ _ _ _. e; last = last }
 
   -- no word at all
   pub whole-none : to ≤ at → Whole x at far to width
-  whole-none h = record { order = order; near = near; counts = counts; whole = λ k. absurd (omega arith) }
+  whole-none h = record { order = order; near = near; counts = counts; whole = λ k. absurd (omega arith); last = last }
 
 -- A run
 
 module _ (x : List ℕ) (at most len : ℕ) (old : List ℕ) where
-  -- none
-  pub copies-none : Copies x at most len old old at 0
-  copies-none =
+  -- none, where the room is full or the body at its end
+  pub copies-none : ((k : ℕ) → at < k → k ≤ length x → len + (k - at) ≤ length old → ⊥) → Copies x at most len old old at 0
+  copies-none full =
       let z : at - at ≡ 0 = omega arith in
       record {
         order = omega arith;
@@ -221,12 +228,14 @@ module _ (x : List ℕ) (at most len : ℕ) (old : List ℕ) where
         counts = rw z refl;
         plain = λ k a b e. omega arith;
         whole = λ h. absurd (omega arith);
+        last = λ k a _ c d _ _. full k a c d;
       }
 
   -- the whole words of what was copied
   pub copies-whole : (new : List ℕ) (stop far width to w : ℕ) → len ≤ length old → stop ≤ at + most → stop ≤ length x → len + (stop - at) ≤ length old
-      → Copying x at stop len old new far width → Whole x at far to w → Copies x at most len old new to w
-  copies-whole new stop far width to w h near inside fits c v = record {
+      → ((k : ℕ) → k ≤ at + most → k ≤ length x → len + (k - at) ≤ length old → k ≤ stop)
+      → Copying x at stop len old new far width → Stopped x stop far → Whole x at far to w → Copies x at most len old new to w
+  copies-whole new stop far width to w h near inside fits most-is c stopped v = record {
     order = v .order;
     near = omega (arith, v .near, c .near);
     within = λ k. omega (arith, v .near, c .near);
@@ -236,6 +245,8 @@ module _ (x : List ℕ) (at most len : ℕ) (old : List ℕ) where
     counts = v .counts;
     plain = λ k a b. c .plain k a (omega (arith, v .near));
     whole = v .whole;
+    last = λ k a b d e p q.
+        ⊎-elim (λ (l : k ≤ far). v .last k a l q) (λ (l : far < k). p far (c .order) l (stopped (omega (arith, most-is k b d e)))) (le-or-lt k far);
   }
     where
       z : at - at ≡ 0

@@ -25,15 +25,20 @@ pub record Copying (x : List ℕ) (at stop len : ℕ) (old new : List ℕ) (to w
   pub counts : characters (part x at to) ≡ width
   pub copied : take (len + (to - at)) new ≡ take len old ++ part x at to
 
--- A run from `at` up to `far` without the word that it cuts.
+-- it was copied up to a line end, if not up to `stop`
+abbrev pub Stopped : List ℕ → ℕ → ℕ → Type 0
+Stopped x stop to = to < stop → getD x to 0 ≡ 0x0A
+
+-- A run from `at` up to `far` without the word that it cuts, if it cuts one; no more of it is without.
 pub record Whole (x : List ℕ) (at far to width : ℕ) : Type 0 where
   pub order : at ≤ to
   pub near : to ≤ far
   pub counts : characters (part x at to) ≡ width
   pub whole : at < to → NoWordCut x to
+  pub last : (k : ℕ) → to < k → k ≤ far → NoWordCut x k → ⊥
 
 -- The bytes from `at` up to `to`, at most `most`, were copied after the first `len` of a room, which stay; `width` is the number of their
--- characters. They are words and spaces of one line. Free are the bytes of the room past those.
+-- characters. They are words and spaces of one line, and no more would be. Free are the bytes of the room past those.
 pub record Copies (x : List ℕ) (at most len : ℕ) (old new : List ℕ) (to width : ℕ) : Type 0 where
   pub order : at ≤ to
   pub near : to ≤ at + most
@@ -44,3 +49,4 @@ pub record Copies (x : List ℕ) (at most len : ℕ) (old new : List ℕ) (to wi
   pub counts : characters (part x at to) ≡ width
   pub plain : NoLineEnd x at to
   pub whole : at < to → NoWordCut x to
+  pub last : (k : ℕ) → to < k → k ≤ at + most → k ≤ length x → len + (k - at) ≤ length old → NoLineEnd x at k → NoWordCut x k → ⊥

@@ -7,7 +7,7 @@ ghost use lib.ListN.{length, take, drop};
 ghost use Rattle.base.specs.Bytes.{part};
 ghost use Rattle.utf8.specs.Utf8.{characters};
 ghost use Rattle.splitter.specs.Split.{isLineEndOrSpace};
-ghost use Rattle.words.specs.Copies.{NoLineEnd, Copying, Whole, Copies};
+ghost use Rattle.words.specs.Copies.{NoLineEnd, Copying, Stopped, Whole, Copies};
 
 // Where a run ends, and its width.
 pub struct Run {
@@ -105,6 +105,7 @@ fn copy_blocks(room: &mut [u8], len: usize, body: &[u8], at: usize, stop: usize)
 fn copy_bytes(room: &mut [u8], len: usize, body: &[u8], at: usize, stop: usize) -> Run
     requires { ⌜ (at ≤ stop) × (stop ≤ length (now body)) × (len + (stop - at) ≤ length (now room)) ⌝ }
     ensures { λ r. ⌜ Copying (now (body .entry)) at stop len (now (room .entry)) (now (room .exit)) (r .to) (r .width) ⌝ }
+    ensures stopped { λ r. ⌜ Stopped (now (body .entry)) stop (r .to) ⌝ }
 {
     let mut to = at;
     let mut width: usize = 0;
@@ -126,6 +127,7 @@ fn copy_bytes(room: &mut [u8], len: usize, body: &[u8], at: usize, stop: usize) 
 fn copy_line(room: &mut [u8], len: usize, body: &[u8], at: usize, stop: usize) -> Run
     requires { ⌜ (at ≤ stop) × (stop ≤ length (now body)) × (len + (stop - at) ≤ length (now room)) ⌝ }
     ensures { λ r. ⌜ Copying (now (body .entry)) at stop len (now (room .entry)) (now (room .exit)) (r .to) (r .width) ⌝ }
+    ensures stopped { λ r. ⌜ Stopped (now (body .entry)) stop (r .to) ⌝ }
 {
     let blocks = copy_blocks(room, len, body, at, stop);
     let middle = blocks.to;
@@ -138,7 +140,7 @@ fn copy_line(room: &mut [u8], len: usize, body: &[u8], at: usize, stop: usize) -
 
 // A run without the word that it cuts in two, if it does: back to the last space.
 fn whole_words(body: &[u8], at: usize, run: Run) -> Run
-    requires { ⌜ (at ≤ run .to) × (run .to ≤ length (now body)) × (characters (part (now body) at (run .to)) ≡ run .width) ⌝ }
+    requires { ⌜ (at ≤ run .to) × (run .to ≤ length (now body)) × (characters (part (now body) at (run .to)) ≡ run .width) × NoLineEnd (now body) at (run .to) ⌝ }
     ensures { λ r. ⌜ Whole (now (body .entry)) at (run .to) (r .to) (r .width) ⌝ }
 {
     let mut to = run.to;

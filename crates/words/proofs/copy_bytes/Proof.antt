@@ -31,7 +31,7 @@ same-length : tie.Need-same-length Inv-loop μ-loop
 same-length c = c .before .before .before .loop .inv .size
 
 returns : tie.Need-returns Inv-loop μ-loop
-returns c = c .before .before .before .loop .inv
+returns c = (c .before .before .before .loop .inv, λ _. c .if1 .taken)
 
 sub-room : tie.Need-sub-room Inv-loop μ-loop
 sub-room c = c .before .before .before .loop .inv .order
@@ -82,7 +82,7 @@ same-length-2 : tie.Need-same-length-2 Inv-loop μ-loop
 same-length-2 c = c .before .loop .inv .size
 
 returns-2 : tie.Need-returns-2 Inv-loop μ-loop
-returns-2 c = c .before .loop .inv
+returns-2 c = (c .before .loop .inv, λ h. absurd (omega (arith, c .loop-test .left)))
 
 pub copy-bytes-spec : {M : Type 1} → statement M
 copy-bytes-spec =

@@ -18,8 +18,10 @@ add-t13 c =
     let x = now (a .body) in
     let n = part-narrow x (a .at) (blocks .result .to) in
     let m = part-narrow x (blocks .result .to) (rest .result .to) in
+    let p = blocks .ensures in
+    let q = rest .ensures .0 in
     let f : blocks .result .width + rest .result .width ≤ length x =
-    omega (arith, n, m, blocks .ensures .counts, rest .ensures .counts, blocks .ensures .order, rest .ensures .order, rest .ensures .near, start .pre .1) in
+    omega (arith, n, m, p .counts, q .counts, p .order, q .order, q .near, start .pre .1) in
     search needs
 
 returns : tie.Need-returns
@@ -28,9 +30,11 @@ returns c =
     let after-blocks = after-rest .before .before .before .before in
     let rest = after-rest .copy-bytes in
     let blocks = after-blocks .copy-blocks in
-    let a = after-blocks .before .before .before .before .args in
-    copying-join (now (a .body)) (a .at) (a .stop) (a .len) (now (a .room)) (blocks .last .0) (blocks .result .to) (blocks .result .width)
-    (blocks .ensures) (rest .last .0) (rest .result .to) (rest .result .width) (rest .ensures)
+    let a = after-blocks .before .before .before .before .args in (
+      copying-join (now (a .body)) (a .at) (a .stop) (a .len) (now (a .room)) (blocks .last .0) (blocks .result .to) (blocks .result .width)
+          (blocks .ensures) (rest .last .0) (rest .result .to) (rest .result .width) (rest .ensures .0),
+      rest .ensures .1,
+    )
 
 pub copy-line-spec : {M : Type 1} → statement M
 copy-line-spec =

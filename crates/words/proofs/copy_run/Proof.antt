@@ -9,12 +9,12 @@ use Rattle.words.proofs.Copying.{copies-none, copies-whole}
 returns : tie.Need-returns
 returns c =
     let a = c .before .before .before .args in
-    copies-none (now (a .body)) (a .at) (a .most) (a .len) (now (a .room))
+    copies-none (now (a .body)) (a .at) (a .most) (a .len) (now (a .room)) (λ k b d e. omega (arith, c .if1 .taken))
 
 returns-2 : tie.Need-returns-2
 returns-2 c =
     let a = c .before .before .before .before .args in
-    copies-none (now (a .body)) (a .at) (a .most) (a .len) (now (a .room))
+    copies-none (now (a .body)) (a .at) (a .most) (a .len) (now (a .room)) (λ k b d e. omega (arith, c .if2 .taken))
 
 returns-3 : tie.Need-returns-3
 returns-3 c =
@@ -29,7 +29,8 @@ returns-3 c =
     copies-whole (now (a .body)) (a .at) (a .most) (a .len) (now (a .room)) (copy-line .last .0) (a .at + most .result)
     (copy-line .result .to) (copy-line .result .width) (whole-words .result .to) (whole-words .result .width) (omega (arith, if1 .left))
     (omega (arith, most .ensures)) (omega (arith, most .ensures, fits .ensures, if2 .left))
-    (omega (arith, most .ensures, fits .ensures, if1 .left)) (copy-line .ensures) (whole-words .ensures)
+    (omega (arith, most .ensures, fits .ensures, if1 .left)) (λ k b d e. omega (arith, most .ensures, fits .ensures, if1 .left, if2 .left))
+    (copy-line .ensures .0) (copy-line .ensures .1) (whole-words .ensures)
 
 pub copy-run-spec : {M : Type 1} → statement M
 copy-run-spec =
