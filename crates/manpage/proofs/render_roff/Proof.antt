@@ -25,7 +25,8 @@ returns c =
     let enum-told = after-walk .before .before .enum-told in
     let after-check = after-walk .before .before .before .before in
     let a = after-check .before .before .before .args in
-    let e = w .ensures .0 ∙ roff-accepted (length (now (a .room))) (now (a .document)) (verdict-gives [] (after-check .check .ensures) (enum-told .given .1)) in (
+    let accepted = verdict-gives [] (after-check .check .ensures) (enum-told .given .1) in
+    let e = w .ensures .0 ∙ roff-accepted (length (now (a .room))) (now (a .document)) accepted in (
       standing-measured (w .last .1 .0) (w .result) _ e (w .ensures .1),
       c .before .before .clear-after .ensures
           ∙ ap (λ (n : ℕ). filled n (standing (w .last .1 .0) (w .result))) (w .kept .1 .0) ∙ ap (filled (length (now (a .room)))) e,

@@ -2,7 +2,6 @@
 -- What falls: what is left of the document.
 use mathlib.Core.Path.{refl, sym, ap, _∙_}
 use mathlib.Core.List.{[]}
-use mathlib.Core.Bool.{true, false, not}
 use Prim.Native.Nat.{ℕ, _-_}
 use native.Mathlib.Omega.{arith}
 use borrow.Author.Needs.{needs}
@@ -11,7 +10,6 @@ use denote.Ref.{now}
 use lib.ListN.{length}
 use Rattle.manpage.proofs.walk.Statement.{statement}
 use Rattle.manpage.proofs.walk.Tie as tie
-use Rattle.records.specs.declared.Kind.the-variants as kind
 use Rattle.refusal.specs.declared.Refusal.the-variants as refusal
 use Rattle.room.specs.Room.{extended}
 use Rattle.roff_escape.specs.Escape.{preamble}

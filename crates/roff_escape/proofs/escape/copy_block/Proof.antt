@@ -5,7 +5,7 @@ use native.Mathlib.Omega.{arith}
 use borrow.Author.Needs.{needs}
 use borrow.Author.Tests.{le-leb}
 use denote.Ref.{now}
-use lib.ListN.{length, take, drop, replicate, length-drop, length-replicate}
+use lib.ListN.{length, take, drop, replicate, length-drop}
 use lib.Seq.{length-take-le}
 use Rattle.base.specs.Bytes.{overwritten}
 use Rattle.base.proofs.Choice.{if-true}

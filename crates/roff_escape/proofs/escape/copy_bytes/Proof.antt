@@ -1,7 +1,7 @@
 -- Invariant: the plain bytes from `at` up to i stand in the room after the first `len`, and n counts both.
 -- What falls: the bytes from i up to `stop`.
 use mathlib.Core.Path.{_≡_, refl, sym, ap, _∙_}
-use Prim.Native.Nat.{ℕ, _+_, _-_, _<_}
+use Prim.Native.Nat.{ℕ, _+_, _-_}
 use native.Mathlib.Omega.{arith}
 use borrow.Author.Needs.{needs}
 use borrow.Author.Tests.{not-false}
@@ -47,8 +47,8 @@ loop-again c =
     let byte : getD x (l .i) 0 ≡ getD bytes (l .i) 0 = getD-take (a .stop) bytes (l .i) 0 (loop-test .taken) in
     let same = ap (λ (b : ℕ). set (l .room) (l .n) b) byte in (
       rw same at
-      (copies-more x (a .at) (a .len) (now (a .room)) (l .room) (l .i) (l .n) (l .inv .0) (l .inv .1) (l .inv .2) (omega (arith, loop-test .taken))
-      (c .if2 .left) (ap plain byte ∙ sym (c .before .before .is-plain .ensures) ∙ not-false _ (c .before .if1 .left))),
+          (copies-more x (a .at) (a .len) (now (a .room)) (l .room) (l .i) (l .n) (l .inv .0) (l .inv .1) (l .inv .2) (omega (arith, loop-test .taken))
+          (c .if2 .left) (ap plain byte ∙ sym (c .before .before .is-plain .ensures) ∙ not-false _ (c .before .if1 .left))),
       length-set (l .room) (l .n) _ ∙ l .inv .1,
       omega (arith, l .inv .0 .order),
     )

@@ -1,7 +1,7 @@
 -- Invariant: the plain bytes from `at` up to i stand in the room after the first `len`, and n counts both.
 -- What falls: the bytes from i up to `stop`.
 use mathlib.Core.Path.{_≡_, refl, subst, _∙_}
-use Prim.Native.Nat.{ℕ, _+_, _-_, _≤_, _<_}
+use Prim.Native.Nat.{ℕ, _+_, _-_, _≤_}
 use native.Mathlib.Omega.{arith}
 use borrow.Author.Needs.{needs}
 use denote.Ref.{now}

@@ -1,4 +1,4 @@
-use mathlib.Core.Path.{sym, ap, _∙_}
+use mathlib.Core.Path.{sym, _∙_}
 use Prim.Native.Nat.{_-_}
 use borrow.Author.Needs.{needs}
 use denote.Ref.{now}

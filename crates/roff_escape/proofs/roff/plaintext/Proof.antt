@@ -1,5 +1,4 @@
 use mathlib.Core.Path.{refl}
-use mathlib.Core.List.{[], _∷_}
 use borrow.Author.Needs.{needs}
 use denote.Ref.{now}
 use Rattle.base.specs.Bytes.{part}
