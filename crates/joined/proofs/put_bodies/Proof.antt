@@ -1,4 +1,5 @@
--- The loop over the records: the text up to the record at `at` was written, and the rest of it is left to write. The bytes from `at` on fall.
+-- The loop over the records: the text up to the record at `at` was written, and the rest of it is left to write.
+-- The bytes from `at` on fall.
 use mathlib.Core.Path.{refl}
 use Prim.Native.Nat.{_-_}
 use native.Mathlib.Omega.{arith}

@@ -6,11 +6,13 @@ use Rattle.markdown_marks.proofs.Texts.{ended-wrote}
 
 returns : tie.Need-returns
 returns c =
-    let a = c .before .before .before .before .before .before .before .before .before .before .before .before .args in
-    let s = c .before .before .before .before .before .before .before .before .change-to-markdown-style in
-    λ e.
-    ended-wrote _ _ _ _ _ _ _ _ (a .b) (a .l) _ (c .before .before .before .end-span .result) (s .kept .0)
-    (c .before .before .before .before .before .styled .ensures) e (c .before .before .before .end-span .ensures) (s .ensures e)
+    let end-span = c .before .before .before .end-span in
+    let after-styled = c .before .before .before .before .before in
+    let styled = after-styled .styled in
+    let after-change-to-markdown-style = after-styled .before .before .before in
+    let s = after-change-to-markdown-style .change-to-markdown-style in
+    let a = after-change-to-markdown-style .before .before .before .before .args in
+    λ e. ended-wrote _ _ _ _ _ _ _ _ (a .b) (a .l) _ (end-span .result) (s .kept .0) (styled .ensures) e (end-span .ensures) (s .ensures e)
     (c .before .before .put-span .ensures)
 
 pub put-end-spec : {M : Type 1} → statement M

@@ -6,10 +6,12 @@ use Rattle.markdown_marks.proofs.Texts.{started-wrote}
 
 returns : tie.Need-returns
 returns c =
-    let a = c .before .before .before .before .before .before .before .before .before .before .before .args in
-    let s = c .before .before .before .before .before .before .before .change-to-markdown-style in
-    λ e. started-wrote _ _ _ _ _ _ _ (a .b) (a .l) _ (s .kept .0) (c .before .before .before .styled .ensures) (s .ensures e)
-    (c .before .before .put-texts .ensures e)
+    let after-styled = c .before .before .before in
+    let styled = after-styled .styled in
+    let after-change-to-markdown-style = after-styled .before .before .before .before in
+    let s = after-change-to-markdown-style .change-to-markdown-style in
+    let a = after-change-to-markdown-style .before .before .before .before .args in
+    λ e. started-wrote _ _ _ _ _ _ _ (a .b) (a .l) _ (s .kept .0) (styled .ensures) (s .ensures e) (c .before .before .put-texts .ensures e)
 
 pub put-start-spec : {M : Type 1} → statement M
 put-start-spec =

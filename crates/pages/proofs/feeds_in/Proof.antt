@@ -1,4 +1,5 @@
--- n line feeds stand from a up to i, no more than bytes, and those after i make up the rest. What is left up to e falls.
+-- n line feeds stand from a up to i, no more than bytes, and those after i make up the rest.
+-- What is left up to e falls.
 use mathlib.Core.Path.{_≡_, ap}
 use mathlib.Core.Logic.{⊎-elim}
 use Prim.Native.Nat.{ℕ, _≤_, _-_, _+_}

@@ -1,4 +1,5 @@
--- n line feeds stand up to i, no more than bytes, and those after i make up the rest. What is left of the text falls.
+-- n line feeds stand up to i, no more than bytes, and those after i make up the rest.
+-- What is left of the text falls.
 use mathlib.Core.Path.{_≡_, ap}
 use Prim.Native.Nat.{ℕ, _≤_, _-_, _+_}
 use native.Mathlib.Omega.{arith}

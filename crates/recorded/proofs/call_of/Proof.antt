@@ -12,12 +12,16 @@ use Rattle.recorded.proofs.Cases.{call-is}
 
 returns : tie.Need-returns
 returns c =
-    let from = c .before .before .before .before .before .before .before .get-from .ensures in
-    let f = c .before .before .before .before .before .before .past .ensures ∙ ap past from in
-    call-is (now (c .before .before .before .before .before .before .before .before .before .args .case))
-    (c .before .before .before .before .byte-or2 .ensures)
-    (c .before .before .before .number .ensures .0 ∙ ap numberIn from)
-    (c .before .before .before .before .before .byte-or .ensures ∙ ap (λ (l : List ℕ). getD l 0 0) f)
+    let number = c .before .before .before .number in
+    let byte-or2 = c .before .before .before .before .byte-or2 in
+    let byte-or = c .before .before .before .before .before .byte-or in
+    let after-past = c .before .before .before .before .before .before in
+    let the-past = after-past .past in
+    let get-from = after-past .before .get-from in
+    let args = after-past .before .before .before .args in
+    let from = get-from .ensures in
+    let f = the-past .ensures ∙ ap past from in
+    call-is (now (args .case)) (byte-or2 .ensures) (number .ensures .0 ∙ ap numberIn from) (byte-or .ensures ∙ ap (λ (l : List ℕ). getD l 0 0) f)
     (ap (λ (n : ℕ). eqb n 1) (c .before .before .byte-or3 .ensures ∙ ap (λ (l : List ℕ). getD l 1 0) f))
     (c .number2 .ensures .0 ∙ ap numberIn (c .before .get-from2 .ensures ∙ ap (drop 2) f))
 

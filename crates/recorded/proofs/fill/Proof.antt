@@ -1,4 +1,5 @@
--- The bytes up to `i` are those of the room before a call; what is left of the room falls.
+-- The bytes up to `i` are those of the room before a call.
+-- What is left of the room falls.
 use mathlib.Core.Path.{_≡_, refl, sym, ap, _∙_}
 use Prim.Native.Nat.{ℕ, _-_, _≤_}
 use native.Mathlib.Omega.{arith}

@@ -1,3 +1,5 @@
+-- No more chunks were compared than are listed, and each took at most 16 bytes of the list.
+-- The chunks that are left to compare fall.
 use Prim.Native.Nat.{_-_, _*_, _≤_, _<_}
 use borrow.Author.Needs.{needs}
 use Rattle.replay.proofs.has_chunks.Statement.{statement}

@@ -10,19 +10,20 @@ use Rattle.sample_calls.proofs.Calls.{cleared-gives, cleared-refused}
 
 returns : tie.Need-returns
 returns c =
-    let v = verdict-gives [] (c .before .before .check .ensures) (c .enum-told .given .1) in (
-      sym (ap measured v),
-      cleared-gives _ (now (c .before .before .before .before .before .before .before .before .before .args .room)) _ _
-          (c .before .before .before .before .before .clear-from .ensures) v,
-    )
+    let after-clear-from = c .before .before .before .before .before in
+    let clear-from = after-clear-from .clear-from in
+    let args = after-clear-from .before .before .before .before .args in
+    let v = verdict-gives [] (c .before .before .check .ensures) (c .enum-told .given .1) in
+    (sym (ap measured v), cleared-gives _ (now (args .room)) _ _ (clear-from .ensures) v)
 
 returns-2 : tie.Need-returns-2
 returns-2 c =
-    let v = verdict-refused [] (c .before .before .before .check .ensures) (c .before .verdict .given .1) in (
-      sym (ap measured v),
-      cleared-refused _ (now (c .before .before .before .before .before .before .before .before .before .before .args .room)) _ _ _ _
-          (c .before .before .before .before .before .before .clear-from .ensures) v,
-    )
+    let check = c .before .before .before .check in
+    let after-clear-from = c .before .before .before .before .before .before in
+    let clear-from = after-clear-from .clear-from in
+    let args = after-clear-from .before .before .before .before .args in
+    let v = verdict-refused [] (check .ensures) (c .before .verdict .given .1) in
+    (sym (ap measured v), cleared-refused _ (now (args .room)) _ _ _ _ (clear-from .ensures) v)
 
 pub check-in-spec : {M : Type 1} → statement M
 check-in-spec =

@@ -12,9 +12,10 @@ use Rattle.sample_calls.proofs.Calls.{wrote-two}
 returns : tie.Need-returns
 unfolding preamble bytes encode if_then_else_
 returns c =
-    let a = c .before .before .before .before .before .before .before .before .before .before .before .args in
-    wrote-two (length (now (a .text))) _ (now (a .text)) preamble (textFrom (now (a .line)) 2)
-    (c .before .before .before .before .before .before .put-all .kept .0) (c .before .before .before .before .before .before .put-all .ensures)
+    let after-put-all = c .before .before .before .before .before .before in
+    let put-all = after-put-all .put-all in
+    let a = after-put-all .before .before .before .before .before .args in
+    wrote-two (length (now (a .text))) _ (now (a .text)) preamble (textFrom (now (a .line)) 2) (put-all .kept .0) (put-all .ensures)
     (c .before .before .put-text .ensures)
 
 pub put-wanted-spec : {M : Type 1} → statement M

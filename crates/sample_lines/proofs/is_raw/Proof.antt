@@ -12,15 +12,21 @@ returns c =
 
 returns-2 : tie.Need-returns-2
 returns-2 c =
-    let a = c .before .before .before .before .before .before .before .args in
-    raw-width (now (a .line)) (now (a .text)) (a .width) _ (c .before .before .before .before .byte-or .ensures) (c .before .before .before .if1 .left) _
-    (c .before .before .number-at .ensures .0) (c .if2 .taken)
+    let if1 = c .before .before .before .if1 in
+    let after-byte-or = c .before .before .before .before in
+    let byte-or = after-byte-or .byte-or in
+    let a = after-byte-or .before .before .before .args in
+    raw-width (now (a .line)) (now (a .text)) (a .width) _ (byte-or .ensures) (if1 .left) _ (c .before .before .number-at .ensures .0) (c .if2 .taken)
 
 returns-3 : tie.Need-returns-3
 returns-3 c =
-    let a = c .before .before .before .before .before .before .before .before .before .args in
-    c .is-text .ensures ∙ raw-text (now (a .line)) (now (a .text)) (a .width) _ (c .before .before .before .before .before .before .byte-or .ensures)
-    (c .before .before .before .before .before .if1 .left) _ (c .before .before .before .before .number-at .ensures .0) (c .before .before .if2 .left) _
+    let number-at = c .before .before .before .before .number-at in
+    let if1 = c .before .before .before .before .before .if1 in
+    let after-byte-or = c .before .before .before .before .before .before in
+    let byte-or = after-byte-or .byte-or in
+    let a = after-byte-or .before .before .before .args in
+    c .is-text .ensures
+    ∙ raw-text (now (a .line)) (now (a .text)) (a .width) _ (byte-or .ensures) (if1 .left) _ (number-at .ensures .0) (c .before .before .if2 .left) _
     (c .before .get-from .ensures)
 
 pub is-raw-spec : {M : Type 1} → statement M

@@ -1,4 +1,5 @@
--- What is left of the text beside the text from `i` on says whether all is the same; what is left of the line falls.
+-- What is left of the text beside the text from `i` on says whether all is the same.
+-- What is left of the line falls.
 use mathlib.Core.Path.{_≡_, refl, sym, _∙_}
 use Prim.Native.Nat.{_-_, _≤_}
 use native.Mathlib.Omega.{arith}
@@ -29,17 +30,21 @@ returns c =
 
 returns-2 : tie.Need-returns-2 Inv-loop μ-loop
 returns-2 c =
-    let l = c .before .before .before .before .before .before .loop in
-    sym (other-rest (now (c .before .before .before .before .before .before .before .before .before .args .text)) (l .at) _ _ _
-    (c .before .before .before .before .written-at .ensures .0) (c .before .before .before .if1 .left) (c .if2 .taken)) ∙ l .inv .0
+    let if1 = c .before .before .before .if1 in
+    let written-at = c .before .before .before .before .written-at in
+    let after-loop = c .before .before .before .before .before .before in
+    let l = after-loop .loop in
+    let args = after-loop .before .before .before .args in
+    sym (other-rest (now (args .text)) (l .at) _ _ _ (written-at .ensures .0) (if1 .left) (c .if2 .taken)) ∙ l .inv .0
 
 loop-again : tie.Need-loop-again Inv-loop μ-loop
 loop-again c =
-    let l = c .before .before .before .before .before .before .loop in (
-      sym (same-rest (now (c .before .before .before .before .before .before .before .before .before .args .text)) (l .at) _ _ _
-          (c .before .before .before .before .written-at .ensures .0) (c .before .before .before .if1 .left) (c .if2 .left)) ∙ l .inv .0,
-      omega (arith, c .before .before .before .if1 .left),
-    )
+    let if1 = c .before .before .before .if1 in
+    let written-at = c .before .before .before .before .written-at in
+    let after-loop = c .before .before .before .before .before .before in
+    let l = after-loop .loop in
+    let args = after-loop .before .before .before .args in
+    (sym (same-rest (now (args .text)) (l .at) _ _ _ (written-at .ensures .0) (if1 .left) (c .if2 .left)) ∙ l .inv .0, omega (arith, if1 .left))
 
 returns-3 : tie.Need-returns-3 Inv-loop μ-loop
 returns-3 c =

@@ -1,4 +1,5 @@
--- From the place reached and with the value so far the rule gives what it gives from the start; what is left of the line falls.
+-- From the place reached and with the value so far the rule gives what it gives from the start.
+-- What is left of the line falls.
 use mathlib.Core.Path.{_≡_, refl, sym, _∙_}
 use Prim.Native.Nat.{_-_, _≤_}
 use native.Mathlib.Omega.{arith}

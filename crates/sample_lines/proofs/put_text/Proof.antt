@@ -1,4 +1,5 @@
--- What stands in the room, and the text from `i` on, give what the whole text gives from the start; what is left of the line falls.
+-- What stands in the room, and the text from `i` on, give what the whole text gives from the start.
+-- What is left of the line falls.
 use mathlib.Core.Path.{_≡_, refl, sym, _∙_}
 use mathlib.Core.List.{[], _∷_}
 use Prim.Native.Nat.{_-_}
@@ -26,11 +27,13 @@ loop-holds c = (refl, refl)
 
 loop-again : tie.Need-loop-again Inv-loop μ-loop
 loop-again c =
-    let a = c .before .before .before .before .before .before .before .before .before .args in
-    let l = c .before .before .before .before .before .before .loop in (
+    let written-at = c .before .before .before .before .written-at in
+    let after-loop = c .before .before .before .before .before .before in
+    let l = after-loop .loop in
+    let a = after-loop .before .before .before .args in (
       c .before .before .put .kept .0 ∙ l .inv .0,
-      wrote-on (length (now (a .room))) (length (l .room)) (c .before .before .before .before .written-at .result .byte ∷ []) _ _ (seen (l .room) (l .n))
-          (l .inv .0) (c .before .before .put .ensures) (c .before .before .before .before .written-at .ensures .0) (l .inv .1),
+      wrote-on (length (now (a .room))) (length (l .room)) (written-at .result .byte ∷ []) _ _ (seen (l .room) (l .n)) (l .inv .0)
+          (c .before .before .put .ensures) (written-at .ensures .0) (l .inv .1),
     )
 
 returns : tie.Need-returns Inv-loop μ-loop

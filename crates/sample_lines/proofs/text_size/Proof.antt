@@ -1,4 +1,5 @@
--- The bytes counted and those of the text from `i` on are all of it, and no more were counted than passed; what is left of the line falls.
+-- The bytes counted and those of the text from `i` on are all of it, and no more were counted than passed.
+-- What is left of the line falls.
 use mathlib.Core.Path.{_≡_, ap}
 use Prim.Native.Nat.{_+_, _-_, _≤_}
 use native.Mathlib.Omega.{arith}

@@ -1,3 +1,5 @@
+-- Nothing is claimed of the state.
+-- What is left of the line falls.
 use Prim.Native.Nat.{_-_}
 use borrow.Author.Needs.{needs}
 use lib.ListN.{length}

@@ -1,4 +1,5 @@
--- The document and the wanted text keep their lengths; what is left of the list falls.
+-- The document and the wanted text keep their lengths.
+-- What is left of the list falls.
 use mathlib.Core.Path.{_≡_, _∙_}
 use Prim.Native.Nat.{_-_}
 use native.Mathlib.Omega.{arith}
@@ -19,7 +20,10 @@ add-i-2 c =
     omega (arith, l .loop-test .taken, l .before .before .before .before .before .before .good)
 
 loop-less-2 : tie.Need-loop-less-2 Inv-loop μ-loop
-loop-less-2 c = omega (arith, c .before .before .before .before .before .before .before .before .before .before .before .loop-test .taken)
+loop-less-2 c =
+    let earlier = c .before .before .before .before .before .before .before .before in
+    let loop-test = earlier .before .before .before .loop-test in
+    omega (arith, loop-test .taken)
 
 pub run-spec : {M : Type 1} → statement M
 run-spec =

@@ -5,7 +5,8 @@ use Rattle.upper.proofs.find.Statement.{statement}
 use Rattle.upper.proofs.find.Tie as tie
 use Rattle.upper.proofs.Search.{Between, at-first, go-up, go-down, met-here, met-other, met-end}
 
--- The invariant: where the column ascends, what stands before lo is below c, and what stands from hi on is not. What falls is the distance between the two.
+-- The invariant: where the column ascends, what stands before lo is below c, and what stands from hi on is not.
+-- What falls is the distance between the two.
 abbrev Inv-loop : tie.InvT-loop
 Inv-loop column c lo₀ hi₀ lo hi = Between column c lo hi
 

@@ -13,10 +13,12 @@ add-put-heads c = omega (arith, c .before .before .before .number-at .ensures .1
 
 returns : tie.Need-returns
 returns c =
-    let a = c .before .before .before .before .before .before .before .before .before .args in
+    let next-number = c .before .before .before .before .before .next-number in
+    let after-number-at = c .before .before .before .before .before .before in
+    let number-at = after-number-at .number-at in
+    let a = after-number-at .before .before .before .args in
     wrote-as (length (now (a .d))) _ _ (seen (now (a .d)) (a .n))
-    (blocks-are (a .first) (now (a .line)) (c .before .before .before .before .before .before .number-at .ensures .0)
-    (c .before .before .before .before .before .next-number .ensures .0)) (c .before .before .put-heads .ensures)
+    (blocks-are (a .first) (now (a .line)) (number-at .ensures .0) (next-number .ensures .0)) (c .before .before .put-heads .ensures)
 
 pub put-blocks-spec : {M : Type 1} → statement M
 put-blocks-spec =

@@ -12,14 +12,13 @@ use Rattle.sample_lines.proofs.Adding.{record-wrote}
 
 returns : tie.Need-returns
 returns c =
-    let a = c .before .before .before .before .before .before .before .before .before .before .before .args in
+    let after-put-heads = c .before .before .before .before .before .before in
+    let put-heads = after-put-heads .put-heads in
+    let text-size = after-put-heads .before .text-size in
+    let a = after-put-heads .before .before .before .before .before .args in
     let x = textFrom (now (a .line)) 2 in
-    record-wrote (length (now (a .d))) (a .kind) x _ (seen (now (a .d)) (a .n))
-    (c .before .before .before .before .before .before .before .text-size .ensures) (c .before .before .before .before .before .before .put-heads .ensures)
-    (c .before .before .put-text .ensures ∙ ap
-    (λ (k : ℕ). seen (c .before .before .before .before .before .before .put-heads .last .0)
-    (c .before .before .before .before .before .before .put-heads .result) >>= extended k x)
-    (c .before .before .before .before .before .before .put-heads .kept .0))
+    record-wrote (length (now (a .d))) (a .kind) x _ (seen (now (a .d)) (a .n)) (text-size .ensures) (put-heads .ensures)
+    (c .before .before .put-text .ensures ∙ ap (λ (k : ℕ). seen (put-heads .last .0) (put-heads .result) >>= extended k x) (put-heads .kept .0))
 
 pub put-record-spec : {M : Type 1} → statement M
 put-record-spec =

@@ -1,4 +1,5 @@
--- What stands in `d`, and the bytes as often as they are still to be put, give what all of them give from the start; how often falls.
+-- What stands in `d`, and the bytes as often as they are still to be put, give what all of them give from the start.
+-- How often they are still to be put falls.
 use mathlib.Core.Path.{_≡_, refl, sym, ap, _∙_}
 use Prim.Native.Nat.{ℕ, _-_, _≤_}
 use native.Mathlib.Omega.{arith}
