@@ -147,9 +147,9 @@ module _ (line body : List ℕ) (p : Piece) where
   unfolding isChunk
   chunk-paragraph letter e f = rw (e, f)
 
-  pub chunk-break : {at : ℕ} → p ≡ piece.LineBreak at → false ≡ isChunk line (chunkOf body p)
+  pub chunk-break : {at : ℕ} (letter : ℕ) → p ≡ piece.LineBreak at → letter ≡ getD line 0 0 → eqb letter 0x42 ≡ isChunk line (chunkOf body p)
   unfolding isChunk
-  chunk-break e = rw e
+  chunk-break letter e f = rw (e, f)
 
 -- One answer more
 

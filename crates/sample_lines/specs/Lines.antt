@@ -44,11 +44,11 @@ textFrom line from = written 0 (drop from line)
 abbrev pub chunkText : List ℕ → List ℕ
 chunkText line = textFrom (drop (numberAt line 2 .next) line) 1
 
--- '~ 1 a: the next chunk .. is `a` with width 1; P a paragraph'
+-- '~ 1 a: the next chunk .. is `a` with width 1; P a paragraph; B a line break'
 unfoldable pub isChunk : List ℕ → Chunk → Bool
 isChunk line (raw text width) = eqb (getD line 0 0) 0x7E && eqb width (numberAt line 2 .value) && same text (chunkText line)
 isChunk line paragraph = eqb (getD line 0 0) 0x50
-isChunk line lineBreak = false
+isChunk line lineBreak = eqb (getD line 0 0) 0x42
 
 -- one answer more was compared
 unfoldable pub tallyOf : Tally → Bool → Tally

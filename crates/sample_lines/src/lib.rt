@@ -178,7 +178,7 @@ fn is_raw(line: &[u8], text: &[u8], width: usize) -> bool
     is_text(text, base::get_from(line, number.next), 1)
 }
 
-// Whether a chunk of a body is the one of a line: `~` with the width and the text, or `P`, a paragraph.
+// Whether a chunk of a body is the one of a line: `~` with the width and the text, `P`, a paragraph, or `B`, a line break.
 pub fn is_chunk(line: &[u8], body: &[u8], piece: Piece) -> bool
     ensures { λ r. ⌜ r ≡ isChunk (now (line .entry)) (chunkOf (now (body .entry)) piece) ⌝ }
 {
@@ -186,6 +186,6 @@ pub fn is_chunk(line: &[u8], body: &[u8], piece: Piece) -> bool
         Piece::Raw(from, to, width) => is_raw(line, base::get(body, from, to), width),
         Piece::Space(_) => is_raw(line, b" ", 1),
         Piece::Paragraph(_) => byte_or(line, 0, 0) == b'P',
-        Piece::LineBreak(_) => false,
+        Piece::LineBreak(_) => byte_or(line, 0, 0) == b'B',
     }
 }

@@ -74,7 +74,16 @@ fn compare_calls(line: &[u8], state: State, document: &[u8], text: &[u8]) -> Sta
     s
 }
 
-// The lines `~` and `P`, a chunk, and `.`, which says that there is no further one.
+// The line `@`: where the next chunk begins.
+fn compare_place(line: &[u8], s: State, body: &[u8]) -> State {
+    let Step::Take(piece, _) = splitter::step_at(body, s.cursor) else {
+        return counted(s, false);
+    };
+    let place = sample_lines::number_at(line, 2);
+    counted(s, splitter::place_of(piece) == place.value)
+}
+
+// The lines `~`, `P` and `B`, a chunk, and `.`, which says that there is no further one.
 fn compare_chunk(line: &[u8], state: State, body: &[u8]) -> State {
     let mut s = state;
     let c = s.cursor;
@@ -156,7 +165,8 @@ fn obey(line: &[u8], s: State, document: &mut [u8], text: &mut [u8]) -> State {
     match byte_or(line, 0, 0) {
         0 | b'#' => s,
         b'>' => compare_calls(line, s, base::get(document, 0, n), text),
-        b'~' | b'P' | b'.' => compare_chunk(line, s, base::get(document, 0, n)),
+        b'@' => compare_place(line, s, base::get(document, 0, n)),
+        b'~' | b'P' | b'B' | b'.' => compare_chunk(line, s, base::get(document, 0, n)),
         _ => prepare(line, s, document, text),
     }
 }

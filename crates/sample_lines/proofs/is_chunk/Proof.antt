@@ -22,8 +22,8 @@ returns-3 c =
 
 returns-4 : tie.Need-returns-4
 returns-4 c =
-    let a = c .before .before .before .before .args in
-    chunk-break (now (a .line)) (now (a .body)) (a .piece) (c .enum-told3 .given .1)
+    let a = c .before .before .before .before .before .args in
+    chunk-break (now (a .line)) (now (a .body)) (a .piece) _ (c .before .enum-told3 .given .1) (c .byte-or2 .ensures)
 
 pub is-chunk-spec : {M : Type 1} → statement M
 is-chunk-spec =
@@ -38,6 +38,7 @@ is-chunk-spec =
     (λ c. search needs)
     (λ c κs. search needs)
     (λ c. search needs)
+    (λ c κs. search needs)
     returns
     returns-2
     returns-3
