@@ -4,4 +4,3 @@ pub mod Blocks
 pub mod Walking
 pub mod Whole
 pub mod Encoding
-pub mod Samples

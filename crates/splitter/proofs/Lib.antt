@@ -8,4 +8,3 @@ pub mod Places
 pub mod Answers
 pub mod Kept
 pub mod Say
-pub mod Samples

@@ -1,4 +1,5 @@
--- The loop's invariant: the line that ends where that from `i` on ends is the one from `at` on. What is left of the body falls.
+-- The loop's invariant: the line that ends where that from `i` on ends is the one from `at` on.
+-- What is left of the body falls.
 use mathlib.Core.Path.{_≡_, refl, ap}
 use Prim.Native.Nat.{_+_, _-_}
 use native.Mathlib.Omega.{arith}
