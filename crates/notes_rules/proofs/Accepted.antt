@@ -1,34 +1,21 @@
 -- The texts of the parts are UTF-8, and the document that notes stand for is accepted. Assumes nothing.
-use Prim.Native.Nat.{ℕ, zero, suc, _+_, _≤_, _<_}
-use mathlib.Core.Path.{_≡_, refl, sym, ap, _∙_, subst}
-use mathlib.Core.Bool.{Bool, true, false, not, _&&_, _||_}
-use mathlib.Core.List.{List, [], _∷_, _++_, append-nil}
-use lib.Dec.{eqb}
-use lib.ListN.{length, take, drop, length-append, length-drop, drop-of-length-le, take-append-drop}
-use lib.Seq.{drop-drop}
-use native.Mathlib.Omega.{arith}
-use borrow.Author.Tests.{eqb-true, le-ltb}
-use Rattle.base.specs.Choice.{if_then_else_}
-use Rattle.base.specs.Bytes.{startsWith}
-use Rattle.base.specs.Result.{gives, _>>=_}
+use Rattle.notes_rules.proofs.Names.{ℕ, zero, suc, _+_, _≤_, _<_, _≡_, refl, sym, ap, _∙_, subst, Bool, true, false, not, _&&_, _||_, List, [], _∷_}
+use Rattle.notes_rules.proofs.Names.{_++_, eqb, length, drop, length-append, length-drop, drop-of-length-le, drop-drop, arith, eqb-true, if_then_else_}
+use Rattle.notes_rules.proofs.Names.{startsWith, gives, _>>=_, pick, starts-split, Range, rowOf, table, fits, Valid, due-1, number, index, text}
+use Rattle.notes_rules.proofs.Names.{around, Block, short, check, length-stored, Line, header, item, other, separator, lines, headerMark, itemMark}
+use Rattle.notes_rules.proofs.Names.{joined, styled, Stretch, stretches, styleOf, records, textRecords, parts, document, textLeft, ordinary}
+use mathlib.Core.List.{append-nil}
+use lib.ListN.{take, take-append-drop}
+use borrow.Author.Tests.{le-ltb}
 use Rattle.base.specs.Stack.{pushed}
-use Rattle.base.proofs.Choice.{pick}
-use Rattle.base.proofs.Prefix.{starts-split}
-use Rattle.utf8.specs.Utf8.{Range, rowOf, table, fits}
-use Rattle.utf8.proofs.Text.{Valid, cut}
-use Rattle.utf8.proofs.Laws.{adds-low, due-1}
+use Rattle.utf8.proofs.Text.{cut}
+use Rattle.utf8.proofs.Laws.{adds-low}
 use Rattle.white.proofs.White.{valid-right}
-use Rattle.records.specs.Records.{number, index}
-use Rattle.records.specs.Stored.{text, around}
-use Rattle.records.specs.declared.Block.{Block}
 use Rattle.records.specs.declared.Block.the-variants as block
-use Rattle.document.specs.Document.{reads, openBlocks, short, closed, check}
-use Rattle.buffer.proofs.Pasting.{length-stored}
+use Rattle.document.specs.Document.{reads, openBlocks, closed}
 use Rattle.buffer.proofs.Records.{reads-text, reads-before}
 use Rattle.buffer_doc.proofs.Adding.{around-given, length-around}
-use Rattle.notes_rules.specs.Notes.{Line, header, item, other, separator, lines, headerMark, itemMark, joined, styled, Stretch, stretches}
-use Rattle.notes_rules.specs.Notes.{styleOf, records, textRecords, partOf, parts, document}
-use Rattle.notes_rules.specs.Without.{textLeft, ordinary}
+use Rattle.notes_rules.specs.Notes.{partOf}
 use Rattle.notes_rules.proofs.Lines.{line, header-part, item-part, blank-part, other-part, next-mark, unmarked}
 use Rattle.notes_rules.proofs.Texts.{behindText, feeds, behind-feeds, Start, over, heads, items, parts-from, others, start-of}
 use Rattle.notes_rules.proofs.Stretches.{Valids, no-more, one-more, stretches-valid}

@@ -1,20 +1,10 @@
 -- No block of the document that notes stand for stands in another. Assumes nothing.
-use Prim.Native.Nat.{ℕ, _+_, _≤_}
-use mathlib.Core.Path.{_≡_, refl, ap, _∙_}
-use mathlib.Core.Bool.{false}
-use mathlib.Core.List.{List, [], _∷_, _++_, append-assoc}
-use lib.ListN.{length, length-append}
-use native.Mathlib.Omega.{arith}
-use Rattle.records.specs.Records.{number, index, tokens}
-use Rattle.records.specs.Stored.{text, start, end, around}
-use Rattle.records.specs.declared.Block.{Block}
+use Rattle.notes_rules.proofs.Names.{ℕ, _+_, _≤_, _≡_, refl, ap, _∙_, false, List, [], _∷_, _++_, append-assoc, length, length-append, arith, number}
+use Rattle.notes_rules.proofs.Names.{index, tokens, text, start, end, around, Block, kind-style, kind-opens, kind-closes, index-small, Holds-kind}
+use Rattle.notes_rules.proofs.Names.{Holds-size, number-small, Line, header, item, other, separator, lines, joined, styled, Stretch, stretches}
+use Rattle.notes_rules.proofs.Names.{styleOf, records, textRecords, parts, document, deepest}
 use Rattle.records.specs.declared.Block.the-variants as block
 use Rattle.records.specs.declared.Kind.the-variants as kind
-use Rattle.records.proofs.Tables.{kind-style, kind-opens, kind-closes, index-small}
-use Rattle.buffer.proofs.Records.{Holds-kind, Holds-size, number-small}
-use Rattle.notes_rules.specs.Notes.{Line, header, item, other, separator, lines, joined, styled, Stretch, stretches, styleOf, records}
-use Rattle.notes_rules.specs.Notes.{textRecords, parts, document}
-use Rattle.notes_rules.specs.Laws.{deepest}
 use Rattle.notes_rules.proofs.Accepted.{length-text}
 use Rattle.notes_rules.proofs.Stored.{deep-stored}
 

@@ -1,19 +1,14 @@
 -- Worked examples, each computed: the parts of some notes, the stretches of a text, the notes without markers and paired backticks.
 -- Assumes nothing.
-use mathlib.Core.Path.{_≡_, refl}
-use mathlib.Core.Bool.{true, false}
-use mathlib.Core.List.{[], _∷_, _++_}
-use Rattle.base.specs.Choice.{if_then_else_}
-use Rattle.base.specs.Bytes.{startsWith}
-use Rattle.base.specs.Result.{gives, refused, _>>=_}
-use Rattle.utf8.specs.Utf8.{table, rowOf, encode, bytes}
-use Rattle.document.specs.Document.{short}
-use Rattle.records.specs.Stored.{littleBytes, stored, text, start, end, around}
+use Rattle.notes_rules.proofs.Names.{_≡_, refl, true, false, [], _∷_, _++_, if_then_else_, startsWith, gives, _>>=_, table, rowOf, short, littleBytes}
+use Rattle.notes_rules.proofs.Names.{stored, text, start, end, around, header, item, other, separator, lines, spaces, lineOf, joined, ticked, styled}
+use Rattle.notes_rules.proofs.Names.{stretches, records, textRecords, parts, document, fit, takenIn, marked, blankLine, ordinary, textLeft, markerSize}
+use Rattle.notes_rules.proofs.Names.{withoutFrom, without}
+use Rattle.base.specs.Result.{refused}
+use Rattle.utf8.specs.Utf8.{encode, bytes}
 use Rattle.records.specs.declared.Style.the-variants as style
 use Rattle.records.specs.declared.Block.the-variants as block
-use Rattle.notes_rules.specs.Notes.{header, item, other, separator, lines, spaces, lineOf, joined, ticked, styled, stretch, stretches, records}
-use Rattle.notes_rules.specs.Notes.{textRecords, parts, document, fit, takenIn}
-use Rattle.notes_rules.specs.Without.{marked, blankLine, ordinary, textLeft, markerSize, withoutFrom, without}
+use Rattle.notes_rules.specs.Notes.{stretch}
 
 -- lines: a last one without a line feed counts, and behind a last line feed stands none; neighbours are joined as they stand
 parts-of : joined (lines (bytes "# a\n- b\n  \nc \n d\n\n#e\n- \n"))

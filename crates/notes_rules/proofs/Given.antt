@@ -1,21 +1,11 @@
 -- What holds of every document that is given. Assumes nothing.
-use Prim.Native.Nat.{ℕ, _≤_}
-use mathlib.Core.Path.{_≡_, sym, ap, _∙_, subst}
-use mathlib.Core.List.{List, []}
+use Rattle.notes_rules.proofs.Names.{ℕ, _≤_, _≡_, sym, ap, _∙_, subst, List, [], length, gives, and-right, Valid, printing, tokens, printingOrder}
+use Rattle.notes_rules.proofs.Names.{short, check, document, fit, takenIn, without, deepest}
 use lib.Dec.{leb, ltb}
-use lib.ListN.{length}
 use borrow.Author.Tests.{leb-true}
-use Rattle.base.specs.Result.{gives}
-use Rattle.base.proofs.Choice.{and-right}
 use Rattle.base.proofs.Results.{bind-gives, if-gives, else-gives, gives-same}
 use Rattle.utf8.specs.Utf8.{utf8}
-use Rattle.utf8.proofs.Text.{Valid}
-use Rattle.white.specs.White.{printing}
-use Rattle.records.specs.Records.{tokens, printingOrder}
-use Rattle.document.specs.Document.{short, check}
-use Rattle.notes_rules.specs.Notes.{document, fit, takenIn}
-use Rattle.notes_rules.specs.Without.{without}
-use Rattle.notes_rules.specs.Laws.{deepest, Faithful}
+use Rattle.notes_rules.specs.Laws.{Faithful}
 use Rattle.notes_rules.proofs.Accepted.{document-accepted}
 use Rattle.notes_rules.proofs.Printed.{document-prints}
 use Rattle.notes_rules.proofs.Depth.{document-shallow}

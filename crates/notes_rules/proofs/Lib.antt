@@ -1,3 +1,4 @@
+pub mod Names
 pub mod Lines
 pub mod Thin
 pub mod Texts

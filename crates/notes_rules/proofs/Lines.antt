@@ -1,21 +1,14 @@
 -- Lines and the parts that they make, read off the bytes from a line's start on. Assumes nothing.
-use Prim.Native.Nat.{ℕ, zero, suc, _+_, _≤_}
-use mathlib.Core.Path.{_≡_, refl, sym, ap, ap₂, _∙_}
-use mathlib.Core.Logic.{_⊎_, inl, inr, ⊎-elim}
-use mathlib.Core.Bool.{Bool, true, false, not, _&&_, _||_, false≢true}
-use mathlib.Core.List.{List, [], _∷_, _++_}
-use lib.Dec.{eqb}
-use lib.ListN.{length, drop, length-append, length-drop, drop-of-length-le}
-use lib.Seq.{drop-drop, drop-at}
+use Rattle.notes_rules.proofs.Names.{ℕ, zero, suc, _+_, _≤_, _≡_, refl, sym, ap, ap₂, _∙_, _⊎_, inl, inr, ⊎-elim, Bool, true, false, not, _&&_, _||_}
+use Rattle.notes_rules.proofs.Names.{false≢true, List, [], _∷_, _++_, eqb, length, drop, length-append, length-drop, drop-of-length-le, drop-drop}
+use Rattle.notes_rules.proofs.Names.{arith, eqb-true, ne-eqb, not-true, if_then_else_, startsWith, if-true, if-false, and-left, and-right}
+use Rattle.notes_rules.proofs.Names.{starts-split, Line, header, item, other, separator, lines, headerMark, itemMark, spaces, lineOf, joined, marked}
+use Rattle.notes_rules.proofs.Names.{blankLine, ordinary, textLeft}
+use lib.Seq.{drop-at}
 use native.Mathlib.Nat.{not-suc-le-zero}
-use native.Mathlib.Omega.{arith}
-use borrow.Author.Tests.{eqb-true, eqb-false, ne-eqb, not-true}
-use Rattle.base.specs.Choice.{if_then_else_}
-use Rattle.base.specs.Bytes.{startsWith}
-use Rattle.base.proofs.Choice.{if-true, if-false, and-left, and-right}
-use Rattle.base.proofs.Prefix.{starts-split, starts-length}
-use Rattle.notes_rules.specs.Notes.{Line, header, item, other, separator, starting, lines, headerMark, itemMark, spaces, lineOf, before, join, joined}
-use Rattle.notes_rules.specs.Without.{marked, blankLine, ordinary, textLeft}
+use borrow.Author.Tests.{eqb-false}
+use Rattle.base.proofs.Prefix.{starts-length}
+use Rattle.notes_rules.specs.Notes.{starting, before, join}
 
 -- the first line of some bytes, and those from the next one on
 abbrev pub line : List ℕ → List ℕ

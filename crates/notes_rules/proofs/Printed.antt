@@ -1,25 +1,13 @@
 -- The document that notes stand for prints what they print without markers and paired backticks. Assumes nothing.
-use Prim.Native.Nat.{ℕ, _+_, _≤_}
-use mathlib.Core.Path.{_≡_, refl, sym, ap, ap₂, _∙_, subst}
-use mathlib.Core.Bool.{Bool, false}
-use mathlib.Core.List.{List, [], _∷_, _++_, append-assoc}
-use lib.Dec.{eqb}
-use lib.ListN.{length, length-append}
-use native.Mathlib.Omega.{arith}
-use Rattle.base.specs.Choice.{if_then_else_}
-use Rattle.utf8.proofs.Text.{Valid, valid-both}
-use Rattle.white.specs.White.{printing}
+use Rattle.notes_rules.proofs.Names.{ℕ, _+_, _≤_, _≡_, refl, sym, ap, ap₂, _∙_, subst, Bool, false, List, [], _∷_, _++_, append-assoc, eqb, length}
+use Rattle.notes_rules.proofs.Names.{length-append, arith, if_then_else_, Valid, printing, number, index, tokens, adds, order, printingOrder, text}
+use Rattle.notes_rules.proofs.Names.{start, end, around, Block, kind-style, kind-opens, kind-closes, index-small, Holds-kind, Holds-size, number-small}
+use Rattle.notes_rules.proofs.Names.{Line, header, item, other, separator, lines, joined, styled, Stretch, stretches, styleOf, records, textRecords}
+use Rattle.notes_rules.proofs.Names.{parts, document, without}
+use Rattle.utf8.proofs.Text.{valid-both}
 use Rattle.white.proofs.White.{printing-append}
-use Rattle.records.specs.Records.{number, index, tokens, adds, order, printingOrder}
-use Rattle.records.specs.Stored.{text, start, end, around}
-use Rattle.records.specs.declared.Block.{Block}
 use Rattle.records.specs.declared.Block.the-variants as block
 use Rattle.records.specs.declared.Kind.the-variants as kind
-use Rattle.records.proofs.Tables.{kind-style, kind-opens, kind-closes, index-small}
-use Rattle.buffer.proofs.Records.{Holds-kind, Holds-size, number-small}
-use Rattle.notes_rules.specs.Notes.{Line, header, item, other, separator, lines, joined, styled, Stretch, stretches, styleOf, records}
-use Rattle.notes_rules.specs.Notes.{textRecords, parts, document}
-use Rattle.notes_rules.specs.Without.{without}
 use Rattle.notes_rules.proofs.Thin.{thin-valid, thin-printing}
 use Rattle.notes_rules.proofs.Texts.{bytesOf, textOf, texts, notes-kept, without-thin}
 use Rattle.notes_rules.proofs.Stretches.{bodies, bodies-of, Valids, no-more, one-more, stretches-valid}

@@ -1,17 +1,13 @@
 -- The document record by record: the kind and the body of each stored record, places aside; what it prints and how deep it goes. Assumes nothing.
-use Prim.Native.Nat.{ℕ, zero, suc, _+_, _/_, max}
-use mathlib.Core.Path.{_≡_, refl, sym, ap, ap₂, _∙_}
-use mathlib.Core.List.{List, [], _∷_, _++_}
-use lib.ListN.{length, drop, length-append}
+use Rattle.notes_rules.proofs.Names.{ℕ, zero, suc, _+_, _≡_, refl, sym, ap, ap₂, _∙_, List, [], _∷_, _++_, length, drop, length-append, arith, tokens}
+use Rattle.notes_rules.proofs.Names.{adds, order, printingOrder, littleBytes, stored, length-stored, deepest}
+use Prim.Native.Nat.{_/_, max}
 use native.Mathlib.Nat.{div-add-mod'}
-use native.Mathlib.Omega.{arith}
-use Rattle.records.specs.Records.{little, kindOf, size, tokenAt, tokens, adds, order, printingOrder}
-use Rattle.records.specs.Stored.{littleBytes, stored}
+use Rattle.records.specs.Records.{little, kindOf, size, tokenAt}
 use Rattle.records.specs.declared.Kind.{Kind}
 use Rattle.records.proofs.Tokens.{tokens-some}
-use Rattle.buffer.proofs.Pasting.{length-stored}
 use Rattle.buffer.proofs.Records.{Holds, stored-body, stored-after}
-use Rattle.notes_rules.specs.Laws.{openNow, deepest}
+use Rattle.notes_rules.specs.Laws.{openNow}
 
 little-bytes : (k n : ℕ) → Holds k n → little (littleBytes k n) ≡ n
 unfolding little littleBytes

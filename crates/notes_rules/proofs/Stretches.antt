@@ -1,18 +1,10 @@
 -- The stretches of a text: each is text, and joined they are the text without its paired backticks. Assumes nothing.
-use Prim.Native.Nat.{ℕ, _≤_, _<_}
-use mathlib.Core.Path.{_≡_, refl, sym, ap, _∙_, subst}
-use mathlib.Core.Logic.{⊎-elim}
-use mathlib.Core.Bool.{Bool, true, false, not, _&&_, _||_, false≢true, Bool·beq}
-use mathlib.Core.List.{List, [], _∷_, _++_}
-use lib.Dec.{eqb}
-use lib.ListN.{length}
-use native.Mathlib.Omega.{arith}
-use borrow.Author.Tests.{eqb-true, ne-eqb}
-use Rattle.base.proofs.Choice.{pick, if-true, and-left, and-right, and-both}
-use Rattle.utf8.specs.Utf8.{Range, within, rowOf, fits}
-use Rattle.utf8.proofs.Laws.{due-1}
-use Rattle.utf8.proofs.Text.{Valid, follows, follow, follows-rest, row-follows}
-use Rattle.notes_rules.specs.Notes.{Styled, styledAs, ticked, styled, Stretch, grown, stretches}
+use Rattle.notes_rules.proofs.Names.{ℕ, _≤_, _<_, _≡_, refl, sym, ap, _∙_, subst, ⊎-elim, Bool, true, false, not, _&&_, _||_, false≢true, List, []}
+use Rattle.notes_rules.proofs.Names.{_∷_, _++_, eqb, length, arith, eqb-true, ne-eqb, pick, if-true, and-left, and-right, Range, within, rowOf, fits}
+use Rattle.notes_rules.proofs.Names.{due-1, Valid, follows, follow, follows-rest, row-follows, Styled, styledAs, ticked, styled, Stretch, stretches}
+use mathlib.Core.Bool.{Bool·beq}
+use Rattle.base.proofs.Choice.{and-both}
+use Rattle.notes_rules.specs.Notes.{grown}
 use Rattle.notes_rules.specs.Laws.{Apart, none-left, last-left, and-more}
 use Rattle.notes_rules.proofs.Lines.{either}
 use Rattle.notes_rules.proofs.Texts.{bytesOf, styled-pair, styled-byte}

@@ -1,20 +1,12 @@
 -- The notes without markers and paired backticks, and the texts of their parts. Assumes nothing.
-use Prim.Native.Nat.{ℕ, zero, suc, _+_, _≤_}
-use mathlib.Core.Path.{_≡_, refl, sym, ap, ap₂, _∙_, subst, subst₂}
-use mathlib.Core.Logic.{inl, inr, ⊎-elim}
-use mathlib.Core.Bool.{Bool, true, false, not, _&&_, _||_, false≢true}
-use mathlib.Core.List.{List, [], _∷_, _++_}
-use lib.Dec.{eqb}
-use lib.ListN.{length, drop, length-drop, drop-of-length-le}
-use lib.Seq.{drop-drop}
-use native.Mathlib.Omega.{arith}
-use borrow.Author.Tests.{eqb-true, eq-eqb, not-true, not-false}
-use Rattle.base.specs.Choice.{if_then_else_}
-use Rattle.base.specs.Bytes.{startsWith}
-use Rattle.base.proofs.Choice.{pick, if-true, if-false, and-left, and-right, not-passed}
-use Rattle.base.proofs.Prefix.{starts-split}
-use Rattle.notes_rules.specs.Notes.{Line, header, item, other, separator, lines, headerMark, itemMark, joined, Styled, styledAs, ticked, styled}
-use Rattle.notes_rules.specs.Without.{marked, blankLine, ordinary, textLeft, markerSize, withoutFrom, without}
+use Rattle.notes_rules.proofs.Names.{ℕ, zero, suc, _+_, _≤_, _≡_, refl, sym, ap, ap₂, _∙_, subst, inl, inr, ⊎-elim, Bool, true, false, not, _&&_, _||_}
+use Rattle.notes_rules.proofs.Names.{false≢true, List, [], _∷_, _++_, eqb, length, drop, length-drop, drop-of-length-le, drop-drop, arith, eqb-true}
+use Rattle.notes_rules.proofs.Names.{not-true, if_then_else_, startsWith, pick, if-true, if-false, and-left, and-right, starts-split, Line, header}
+use Rattle.notes_rules.proofs.Names.{item, other, separator, lines, headerMark, itemMark, joined, Styled, styledAs, ticked, styled, marked, blankLine}
+use Rattle.notes_rules.proofs.Names.{ordinary, textLeft, markerSize, withoutFrom, without}
+use mathlib.Core.Path.{subst₂}
+use borrow.Author.Tests.{eq-eqb, not-false}
+use Rattle.base.proofs.Choice.{not-passed}
 use Rattle.notes_rules.proofs.Thin.{Thin, none, kept, cut, Ascii, Gap, thin-before}
 use Rattle.notes_rules.proofs.Lines.{line, next, either, or-false, left-stop, left-feed, left-go, ordinary-tests, unmarked, unmarked-is}
 use Rattle.notes_rules.proofs.Lines.{ordinary-is, header-part, item-part, blank-part, other-part, next-mark}

@@ -1,16 +1,11 @@
 -- Text with some ASCII bytes taken out is text, and prints the same where those are White_Space. Assumes nothing.
-use Prim.Native.Nat.{ℕ, _+_, _-_, _*_, _<_}
-use mathlib.Core.Path.{_≡_, refl, sym, ap, _∙_}
-use mathlib.Core.Logic.{_⊎_, ⊎-elim}
-use mathlib.Core.Bool.{Bool, true, _&&_}
-use mathlib.Core.List.{List, [], _∷_, _++_}
-use native.Mathlib.Omega.{arith}
-use Rattle.base.specs.Choice.{if_then_else_}
-use Rattle.base.proofs.Choice.{and-left, and-right}
-use Rattle.utf8.specs.Utf8.{Range, within, table, rowOf, fits, emit, decodeFrom}
-use Rattle.white.specs.White.{white, whites, unblank, printing}
-use Rattle.utf8.proofs.Laws.{due-1}
-use Rattle.utf8.proofs.Text.{Valid, follows, follow, follows-rest, row-follows, decode-any}
+use Rattle.notes_rules.proofs.Names.{ℕ, _+_, _<_, _≡_, refl, sym, ap, _∙_, _⊎_, ⊎-elim, Bool, true, _&&_, List, [], _∷_, _++_, arith, if_then_else_}
+use Rattle.notes_rules.proofs.Names.{and-left, and-right, Range, within, table, rowOf, fits, printing, due-1, Valid, follows, follow, follows-rest}
+use Rattle.notes_rules.proofs.Names.{row-follows}
+use Prim.Native.Nat.{_-_, _*_}
+use Rattle.utf8.specs.Utf8.{emit, decodeFrom}
+use Rattle.white.specs.White.{white, whites, unblank}
+use Rattle.utf8.proofs.Text.{decode-any}
 
 -- the second is the first without some bytes that have a property
 pub data Thin (P : ℕ → Type 0) : List ℕ → List ℕ → Type 0 where

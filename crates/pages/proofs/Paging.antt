@@ -1,20 +1,14 @@
 -- Refusals 20 and 21, the page count, and where a page stands. Assumes nothing.
-use Prim.Native.Nat.{ℕ, zero, suc, _+_, _-_, _*_, _/_, _≤_, _<_}
-use mathlib.Core.Path.{_≡_, refl, sym, ap, ap₂, _∙_, subst}
-use mathlib.Core.Bool.{true, false}
-use mathlib.Core.Logic.{⊎-elim}
-use mathlib.Core.List.{List, []}
-use lib.ListN.{length, take, drop, length-drop}
-use native.Mathlib.Nat.{mul-suc, mul-comm, div-eq-of-lt, add-div-right, le-div-iff-mul-le, div-lt-iff-lt-mul, div-mul-le-self, lt-div-mul-add, mul-le-mul-left}
-use native.Mathlib.Omega.{arith}
+use Rattle.pages.proofs.Names.{ℕ, zero, suc, _+_, _-_, _*_, _≤_, _<_, _≡_, refl, sym, ap, ap₂, _∙_, subst, true, false, ⊎-elim, List, [], length, take}
+use Rattle.pages.proofs.Names.{drop, length-drop, mul-comm, div-mul-le-self, lt-div-mul-add, arith, among, Result, gives, refused, _>>=_, measured}
+use Rattle.pages.proofs.Names.{and-both, le-or-lt, gives-same, rows, joined, pagesIn, allowed, rowsBefore, pageOf, pageStart, pageCount, shown}
+use Rattle.pages.proofs.Names.{bytesOf}
+use Prim.Native.Nat.{_/_}
+use native.Mathlib.Nat.{mul-suc, div-eq-of-lt, add-div-right, le-div-iff-mul-le, div-lt-iff-lt-mul, mul-le-mul-left}
 use borrow.Author.Tests.{le-leb, lt-leb}
-use Rattle.base.specs.Choice.{among}
-use Rattle.base.specs.Result.{Result, gives, refused, _>>=_, measured}
-use Rattle.base.proofs.Choice.{if-true, if-false, and-both, le-or-lt}
-use Rattle.base.proofs.Results.{gives-same, refused-gives}
+use Rattle.base.proofs.Choice.{if-true, if-false}
+use Rattle.base.proofs.Results.{refused-gives}
 use Rattle.refusal.specs.declared.Refusal.{Refusal}
-use Rattle.pages.specs.Pages.{rows, joined, pagesIn, allowed, rowsBefore, pageOf, pageStart, pageCount, shown}
-use Rattle.pages.specs.Parts.{bytesOf}
 use Rattle.pages.specs.Answers.{startOf, sizeOf}
 use Rattle.pages.specs.declared.Paged.{Paged}
 use Rattle.pages.specs.declared.Paged.the-variants as paged

@@ -1,13 +1,6 @@
 -- No page of a UTF-8 text cuts a character, and the pages in order print what the text prints. Assumes nothing.
-use Prim.Native.Nat.{ℕ, zero, suc, _+_, _-_, _*_, _≤_}
-use mathlib.Core.Path.{_≡_, refl, sym, ap, _∙_}
-use mathlib.Core.Bool.{true}
-use mathlib.Core.Logic.{⊎-elim}
-use mathlib.Core.List.{List, [], _∷_, _++_}
-use lib.ListN.{take, drop}
-use native.Mathlib.Omega.{arith}
-use Rattle.base.specs.Result.{Result, gives}
-use Rattle.base.proofs.Choice.{and-left, and-right, and-both, eq-or-not}
+use Rattle.pages.proofs.Names.{ℕ, zero, suc, _+_, _-_, _*_, _≤_, _≡_, refl, sym, ap, _∙_, true, ⊎-elim, List, [], _∷_, _++_, take, drop, arith, Result}
+use Rattle.pages.proofs.Names.{gives, and-left, and-right, and-both, eq-or-not, joined, pagesIn, pageOf, shown, pagesFrom, inOrder, feed, bytesOf}
 use Rattle.utf8.specs.Utf8.{Range, within, rowOf, fits, utf8}
 use Rattle.utf8.proofs.Laws.{due-1}
 use Rattle.utf8.proofs.Text.{Valid, follows, row-follows, follow, follows-rest}
@@ -17,10 +10,7 @@ use Rattle.records.specs.Records.{printingOrder}
 use Rattle.console_rules.specs.Console.{consoleBy}
 use Rattle.console_rules.specs.declared.Settings.{Settings}
 use Rattle.console_rules.proofs.Printed.{consoleBy-prints}
-use Rattle.pages.specs.Pages.{joined, pagesIn, pageOf, shown}
-use Rattle.pages.specs.Order.{pagesFrom, inOrder, printed}
-use Rattle.pages.specs.RowList.{feed}
-use Rattle.pages.specs.Parts.{bytesOf}
+use Rattle.pages.specs.Order.{printed}
 use Rattle.pages.proofs.Rows.{feed-no, bytes-none, bytes-past, bytes-next, rows-after, joined-front}
 use Rattle.pages.proofs.Laws.{page-given, page-is, pages-joined}
 

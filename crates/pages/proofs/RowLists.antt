@@ -1,14 +1,8 @@
 -- What `rows` gives is a list of rows, and the only one that joins to the text. Assumes nothing.
-use Prim.Native.Nat.{ℕ, _+_}
-use mathlib.Core.Path.{_≡_, refl, sym, ap, _∙_}
-use mathlib.Core.Logic.{⊎-elim}
-use mathlib.Core.List.{List, [], _∷_, _++_, append-nil, append-assoc}
-use native.Mathlib.Omega.{arith}
-use borrow.Author.Tests.{ne-eqb}
-use Rattle.base.specs.Choice.{if_then_else_}
-use Rattle.base.proofs.Choice.{eq-or-not}
-use Rattle.pages.specs.Pages.{leads, rows, joined}
-use Rattle.pages.specs.RowList.{feed, feeds, RowList, none, rest, line}
+use Rattle.pages.proofs.Names.{ℕ, _+_, _≡_, refl, sym, ap, _∙_, ⊎-elim, List, [], _∷_, _++_, append-assoc, arith, ne-eqb, if_then_else_, eq-or-not}
+use Rattle.pages.proofs.Names.{leads, rows, joined, feed, feeds}
+use mathlib.Core.List.{append-nil}
+use Rattle.pages.specs.RowList.{RowList, none, rest, line}
 use Rattle.pages.proofs.Rows.{feed-yes, feed-no}
 
 leads-feed : (rs : List (List ℕ)) → leads 0x0A rs ≡ (0x0A ∷ []) ∷ rs

@@ -1,19 +1,15 @@
 -- The rows of a text, byte by byte and by blocks. Assumes nothing.
-use Prim.Native.Nat.{ℕ, zero, suc, _+_, _-_, _≤_, _<_}
-use mathlib.Core.Path.{_≡_, refl, sym, ap, ap₂, _∙_}
-use mathlib.Core.Bool.{Bool, true, false}
-use mathlib.Core.List.{List, [], _∷_, _++_, append-assoc}
+use Rattle.pages.proofs.Names.{ℕ, zero, suc, _+_, _-_, _≤_, _<_, _≡_, refl, sym, ap, ap₂, _∙_, true, false, List, [], _∷_, _++_, append-assoc, length}
+use Rattle.pages.proofs.Names.{take, drop, getD, length-drop, take-append-drop, drop-of-length-le, drop-drop, length-take-le, arith, ne-eqb}
+use Rattle.pages.proofs.Names.{if_then_else_, leads, rows, joined, feed, feeds, bytesOf}
+use mathlib.Core.Bool.{Bool}
 use lib.Dec.{eqb}
-use lib.ListN.{length, take, drop, getD, length-append, length-drop, take-append-drop, drop-of-length-le}
-use lib.Seq.{drop-cons, drop-drop, take-nil, drop-nil, take-all, take-at, length-take-le}
+use lib.ListN.{length-append}
+use lib.Seq.{drop-cons, take-nil, drop-nil, take-all, take-at}
 use native.Mathlib.Nat.{sub-zero}
 use native.Mathlib.Numerals.{add-one, sub-one}
-use native.Mathlib.Omega.{arith}
-use borrow.Author.Tests.{eq-eqb, ne-eqb}
-use Rattle.base.specs.Choice.{if_then_else_}
-use Rattle.pages.specs.Pages.{leads, rows, joined}
-use Rattle.pages.specs.RowList.{feed, feeds}
-use Rattle.pages.specs.Parts.{Fed, bytesOf}
+use borrow.Author.Tests.{eq-eqb}
+use Rattle.pages.specs.Parts.{Fed}
 
 -- Line feeds
 

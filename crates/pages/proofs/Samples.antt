@@ -1,12 +1,9 @@
 -- Small texts and their pages, by computation. Assumes nothing.
-use Prim.Native.Nat.{ℕ}
+use Rattle.pages.proofs.Names.{ℕ, _≡_, refl, List, [], _∷_, if_then_else_, Result, gives, refused, _>>=_, leads, rows, joined, pagesIn, allowed}
+use Rattle.pages.proofs.Names.{rowsBefore, pageOf, pageStart, pageCount}
 use Prim.Native.String.{String}
-use mathlib.Core.Path.{_≡_, refl}
-use mathlib.Core.List.{List, [], _∷_, map}
-use Rattle.base.specs.Choice.{if_then_else_}
-use Rattle.base.specs.Result.{Result, gives, refused, _>>=_}
+use mathlib.Core.List.{map}
 use Rattle.utf8.specs.Utf8.{encode, bytes}
-use Rattle.pages.specs.Pages.{leads, rows, joined, pagesIn, allowed, rowsBefore, pageOf, pageStart, pageCount}
 
 -- a text, a height and a page; the page, and where it starts
 pub record Sample : Type 0 where

@@ -1,12 +1,6 @@
 -- n line feeds stand from a up to i, no more than bytes, and those after i make up the rest.
 -- What is left up to e falls.
-use mathlib.Core.Path.{_≡_, ap}
-use mathlib.Core.Logic.{⊎-elim}
-use Prim.Native.Nat.{ℕ, _≤_, _-_, _+_}
-use native.Mathlib.Omega.{arith}
-use borrow.Author.Needs.{needs}
-use lib.ListN.{drop, getD}
-use Rattle.pages.specs.RowList.{feeds}
+use Rattle.pages.proofs.Names.{_≡_, ap, ⊎-elim, ℕ, _≤_, _-_, _+_, arith, needs, drop, getD, feeds}
 use Rattle.pages.proofs.Rows.{feeds-step, feed-yes, feed-no}
 use Rattle.pages.proofs.feeds_in.Statement.{statement}
 use Rattle.pages.proofs.feeds_in.Tie as tie

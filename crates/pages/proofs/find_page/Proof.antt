@@ -1,7 +1,4 @@
-use Prim.Native.Nat.{_-_, _*_}
-use native.Mathlib.Omega.{arith}
-use borrow.Author.Needs.{needs}
-use denote.Ref.{now}
+use Rattle.pages.proofs.Names.{_-_, _*_, arith, needs, now}
 use Rattle.pages.proofs.find_page.Statement.{statement}
 use Rattle.pages.proofs.find_page.Tie as tie
 use Rattle.pages.proofs.Rows.{bytes-within}

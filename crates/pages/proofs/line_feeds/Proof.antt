@@ -1,10 +1,6 @@
 -- n line feeds stand up to i, no more than bytes, and those after i make up the rest.
 -- What is left of the text falls.
-use mathlib.Core.Path.{_≡_, ap}
-use Prim.Native.Nat.{ℕ, _≤_, _-_, _+_}
-use native.Mathlib.Omega.{arith}
-use lib.ListN.{length, drop}
-use Rattle.pages.specs.RowList.{feeds}
+use Rattle.pages.proofs.Names.{_≡_, ap, ℕ, _≤_, _-_, _+_, arith, length, drop, feeds}
 use Rattle.pages.proofs.Rows.{feeds-past}
 use Rattle.pages.proofs.line_feeds.Statement.{statement}
 use Rattle.pages.proofs.line_feeds.Tie as tie

@@ -1,6 +1,4 @@
-use native.Mathlib.Omega.{arith}
-use borrow.Author.Needs.{needs}
-use denote.Ref.{now}
+use Rattle.pages.proofs.Names.{arith, needs, now}
 use Rattle.pages.proofs.page.Statement.{statement}
 use Rattle.pages.proofs.page.Tie as tie
 use Rattle.pages.proofs.Paging.{shown-part, shown-refused}

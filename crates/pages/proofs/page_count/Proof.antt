@@ -1,8 +1,5 @@
-use Prim.Native.Nat.{_-_}
+use Rattle.pages.proofs.Names.{_-_, arith, needs, now}
 use native.Mathlib.Nat.{div-le-self}
-use native.Mathlib.Omega.{arith}
-use borrow.Author.Needs.{needs}
-use denote.Ref.{now}
 use Rattle.pages.proofs.page_count.Statement.{statement}
 use Rattle.pages.proofs.page_count.Tie as tie
 use Rattle.pages.proofs.Paging.{allowed-below, allowed-over, count-refused, count-zero, count-more}

@@ -1,6 +1,4 @@
-use native.Mathlib.Omega.{arith}
-use borrow.Author.Needs.{needs}
-use denote.Ref.{now}
+use Rattle.pages.proofs.Names.{arith, needs, now}
 use Rattle.pages.proofs.row_count.Statement.{statement}
 use Rattle.pages.proofs.row_count.Tie as tie
 use Rattle.pages.proofs.Rows.{rows-few, rows-count, feed-yes, feed-no}

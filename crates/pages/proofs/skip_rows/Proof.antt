@@ -1,11 +1,6 @@
 -- From i on, the rows that are due end where k rows end from the first place on.
 -- What is left of the text falls.
-use mathlib.Core.Path.{_≡_, refl, sym, _∙_}
-use Prim.Native.Nat.{_+_, _-_, _≤_}
-use native.Mathlib.Omega.{arith}
-use denote.Ref.{now}
-use lib.ListN.{length, drop}
-use Rattle.pages.specs.Parts.{bytesOf}
+use Rattle.pages.proofs.Names.{_≡_, refl, sym, _∙_, _+_, _-_, _≤_, arith, now, length, drop, bytesOf}
 use Rattle.pages.proofs.Rows.{pass-block}
 use Rattle.pages.proofs.skip_rows.Statement.{statement}
 use Rattle.pages.proofs.skip_rows.Tie as tie

@@ -1,13 +1,6 @@
 -- From i on, the rows that are due end where k rows end from the first place on.
 -- What is left of the text falls.
-use mathlib.Core.Path.{_≡_, refl}
-use mathlib.Core.Logic.{⊎-elim}
-use Prim.Native.Nat.{_+_, _-_, _≤_}
-use native.Mathlib.Omega.{arith}
-use borrow.Author.Needs.{needs}
-use denote.Ref.{now}
-use lib.ListN.{length, drop}
-use Rattle.pages.specs.Parts.{bytesOf}
+use Rattle.pages.proofs.Names.{_≡_, refl, ⊎-elim, _+_, _-_, _≤_, arith, needs, now, length, drop, bytesOf}
 use Rattle.pages.proofs.Rows.{pass-stops, pass-feed, pass-other, pass-ends}
 use Rattle.pages.proofs.step_rows.Statement.{statement}
 use Rattle.pages.proofs.step_rows.Tie as tie
