@@ -1,4 +1,5 @@
--- The bytes before i stand in the room from `at` on, and all else as it was; what is left of them falls.
+-- The bytes before i stand in the room from `at` on, and all else is as it was.
+-- What is left of the bytes falls.
 use mathlib.Core.Path.{_≡_, refl, sym, ap, _∙_}
 use mathlib.Core.List.{List}
 use Prim.Native.Nat.{ℕ, _+_, _-_, _≤_}
