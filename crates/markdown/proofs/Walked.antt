@@ -10,7 +10,7 @@ use Rattle.base.specs.Bytes.{part}
 use Rattle.base.specs.Result.{Result, gives, refused, _>>=_}
 use Rattle.base.proofs.Results.{bind-assoc, bind-same, bind-end}
 use Rattle.room.specs.Room.{extended, seen}
-use Rattle.records.specs.Records.{index, tokens, tokensFrom}
+use Rattle.records.specs.Records.{index, tokens, tokensFrom, fits}
 use Rattle.document.specs.Document.{check}
 use Rattle.records.specs.Answers.{Read}
 use Rattle.records.specs.declared.Style.{Style}
@@ -19,7 +19,7 @@ use Rattle.records.specs.declared.Block.{Block}
 use Rattle.records.specs.declared.Kind.{Kind}
 use Rattle.records.specs.declared.Kind.the-variants as kind
 use Rattle.records.specs.declared.Head.{Head}
-use Rattle.document.proofs.Walks.{check-gives}
+use Rattle.document.proofs.Walks.{Deep-at, accepted-at-0, check-gives, deep-from, fits-here, open-next}
 use Rattle.splitter.specs.Split.{split}
 use Rattle.splitter.specs.Answers.{chunkOf, placedFrom, cursor, start}
 use Rattle.splitter.specs.declared.Code.{Code}
@@ -63,6 +63,7 @@ module _ (limit : ℕ) (full : Bool) (tags document : List ℕ) where
   -- where a record is read next
   pub record On (room : List ℕ) (at len : ℕ) (lay : Markdown) : Type 0 where
     pub table : tags ≡ allTags
+    pub opened : Deep-at [] document at 0
     pub same : length room ≡ limit
     pub few : lay .skip ≤ at
     pub open-few : lay .mono ≤ at
@@ -72,6 +73,7 @@ module _ (limit : ℕ) (full : Bool) (tags document : List ℕ) where
   pub on-start : (room : List ℕ) → tags ≡ allTags → length room ≡ limit → check document ≡ gives [] → On room 0 0 plain
   on-start room t s e = record {
     table = t;
+    opened = deep-from 0 (accepted-at-0 document [] e) (omega arith);
     same = s;
     few = omega arith;
     open-few = omega arith;
@@ -127,6 +129,10 @@ module _ (limit : ℕ) (full : Bool) (tags document : List ℕ) where
         (λ x. finish-is limit full at at [] [] [] lay x)
         (w (o .table) ∙ ap (λ (m : ℕ). seen room len >>= closed m (lay .style)) (o .same))
 
+    -- the record that was read without a look at the document's end: it lies whole there
+    pub on-read : {h : Head} → at < length document → (fits (drop at document) ≡ true → Read document at h) → Read document at h
+    on-read l r = r (fits-here (o .opened .here) l)
+
     -- a record was read here
     module _ {h : Head} (r : Read document at h) (l : at < length document) where
       abbrev Turned : State → Result State
@@ -134,6 +140,9 @@ module _ (limit : ℕ) (full : Bool) (tags document : List ℕ) where
 
       further : at + 1 ≤ h .next
       further = walking.further (turn limit full) (finish limit) document whole at room len [] lay (o .leads) r l
+
+      opened-next : Deep-at [] document (h .next) 0
+      opened-next = deep-from 0 (open-next (o .opened .here) r l) (omega arith)
 
       by-kind : (k : Kind) → h .kind ≡ k → (s : State)
           → Turned s ≡ turn limit full at (h .start) k (part document (h .start) (h .stop)) (tokensFrom document (h .next)) s
@@ -150,6 +159,7 @@ module _ (limit : ℕ) (full : Bool) (tags document : List ℕ) where
       unfolding _>>=_
       passes t = record {
         table = o .table;
+        opened = opened-next;
         same = o .same;
         few = omega (arith, o .few, further);
         open-few = omega (arith, o .open-few, further);
@@ -200,6 +210,7 @@ module _ (limit : ℕ) (full : Bool) (tags document : List ℕ) where
             let y₂ = ap (λ (l : Markdown). l .mono) z in
             record {
               table = o .table;
+              opened = opened-next;
               same = s ∙ o .same;
               few = omega (arith, o .few, further);
               open-few = omega (arith, o .open-few, further);
@@ -222,6 +233,7 @@ module _ (limit : ℕ) (full : Bool) (tags document : List ℕ) where
             let y₂ = ap (λ (l : Markdown). l .mono) f in
             record {
               table = o .table;
+              opened = opened-next;
               same = s ∙ o .same;
               few = omega (arith, o .few, further);
               open-few = omega (arith, o .open-few, further);
@@ -279,6 +291,7 @@ module _ (limit : ℕ) (full : Bool) (tags document : List ℕ) where
           pub on-done : placedFrom y c ≡ [] → On new (h .next) n (fenced false l₁)
           on-done f = record {
             table = o .table;
+            opened = opened-next;
             same = u ∙ s;
             few = i .few;
             open-few = i .open-few;
@@ -290,6 +303,7 @@ module _ (limit : ℕ) (full : Bool) (tags document : List ℕ) where
               → (j : ℕ) → j ≡ skipParagraph (l₁ .skip) → On new (h .next) n (fenced false (skip j l₁))
           on-stopped {p} q f j g = record {
             table = o .table;
+            opened = opened-next;
             same = u ∙ s;
             few = omega (arith, further, g);
             open-few = i .open-few;

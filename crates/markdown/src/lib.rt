@@ -52,7 +52,7 @@ fn walk(document: &[u8], tags: &[u8], full: bool, room: &mut [u8]) -> Rendered
         if room.len() < len {
             return Rendered::Refused(Refusal::NoRoom);
         }
-        let h = records::record_at(document, at);
+        let h = records::whole_at(document, at);
         let kind = h.kind;
         if html_marks::is_meta(kind) {
             return markdown_marks::meet_meta(room, len, tags, lay, at);
@@ -82,6 +82,9 @@ fn walk(document: &[u8], tags: &[u8], full: bool, room: &mut [u8]) -> Rendered
                     let run = markdown_chunks::put_plain(room, len, body, from, code, lay);
                     len = run.len;
                     from = run.at;
+                    if body.len() <= from {
+                        break 'chunks;
+                    }
                     let Step::Take(piece, after) = splitter::step_at(
                         body,
                         Cursor { at: from, code },

@@ -1,4 +1,5 @@
 use mathlib.Core.Path.{_≡_, refl, sym, _∙_, subst}
+use mathlib.Core.Logic.{⊎-elim}
 use Prim.Native.Nat.{ℕ, _+_, _-_, _<_}
 use native.Mathlib.Omega.{arith}
 use borrow.Author.Needs.{needs}
@@ -7,9 +8,11 @@ use lib.ListN.{length}
 use Rattle.markdown.proofs.walk.Statement.{statement}
 use Rattle.markdown.proofs.walk.Tie as tie
 use Rattle.splitter.specs.Answers.{cursor}
+use Rattle.splitter.proofs.Steps.{first-none, placed-done}
 use Rattle.splitter.proofs.Answers.{took, ended}
+use Rattle.records.specs.Answers.{Read as At}
 use Rattle.renderer.specs.Rendered.{Inside}
-use Rattle.markdown.proofs.Walked.{On, InBody, on-start, on-out, on-end, on-unknown, on-meta, on-started, on-ended, on-hidden, on-body}
+use Rattle.markdown.proofs.Walked.{On, InBody, on-start, on-read, on-out, on-end, on-unknown, on-meta, on-started, on-ended, on-hidden, on-body}
 use Rattle.markdown.proofs.Walked.{on-done, on-stopped, body-few, body-words, body-on, body-at}
 
 -- The chunks of a body: the room keeps its length, and what is shown and the chunks from the cursor on, with the end of the body and the
@@ -34,7 +37,7 @@ abbrev Records : Type 0
 Records = tie.At-records Inv-chunks μ-chunks Inv-records μ-records
 
 abbrev Read : Type 0
-Read = tie.After-record-at Inv-chunks μ-chunks Inv-records μ-records
+Read = tie.After-whole-at Inv-chunks μ-chunks Inv-records μ-records
 
 abbrev Other : Type 0
 Other = tie.Else2 Inv-chunks μ-chunks Inv-records μ-records
@@ -76,12 +79,19 @@ changed c = c .before .before .before .before
 abbrev chunks : Plain → Chunks
 chunks c = c .before .before
 
+abbrev lately : tie.After-step-at Inv-chunks μ-chunks Inv-records μ-records → Plain
+lately c = c .before .before .before .before
+
+-- the record that was read
+here : (c : Read) → At (now (args (records c) .args .document)) (records c .records .at) (c .whole-at .result)
+here c = on-read _ _ _ _ (records c .records .inv) (c .before .before .records-test .taken) (c .whole-at .ensures)
+
 -- the document falls by the record that was read
-falls : (c : Read) → length (now (args (records c) .args .document)) - c .record-at .result .next
+falls : (c : Read) → length (now (args (records c) .args .document)) - c .whole-at .result .next
     < length (now (args (records c) .args .document)) - records c .records .at
 falls c =
-    let k = c .record-at .ensures .low (c .before .before .records-test .taken) in
-    omega (arith, c .record-at .ensures .order, c .record-at .ensures .high)
+    let r = here c in
+    omega (arith, r .low (c .before .before .records-test .taken), r .order, r .high)
 
 records-holds : tie.Need-records-holds Inv-chunks μ-chunks Inv-records μ-records
 records-holds c =
@@ -106,7 +116,7 @@ returns-2 c =
     let test = meta .before .before in
     let r = test .before .before in
     let o = records r .records .inv in (
-      on-meta _ _ _ _ o (r .record-at .ensures) (r .before .before .records-test .taken) _
+      on-meta _ _ _ _ o (here r) (r .before .before .records-test .taken) _
           (sym (test .before .is-meta .ensures) ∙ test .if2 .taken) (meta .meet-meta .ensures .0),
       subst (λ (n : ℕ). Inside n (meta .meet-meta .result)) (o .same) (meta .meet-meta .ensures .1),
     )
@@ -117,7 +127,7 @@ records-less c = falls (read (c .before .before))
 records-again : tie.Need-records-again Inv-chunks μ-chunks Inv-records μ-records
 records-again c =
     let r = read (c .before .before) in
-    on-unknown _ _ _ _ (records r .records .inv) (r .record-at .ensures) (r .before .before .records-test .taken) (c .enum-told .given .1)
+    on-unknown _ _ _ _ (records r .records .inv) (here r) (r .before .before .records-test .taken) (c .enum-told .given .1)
 
 records-less-2 : tie.Need-records-less-2 Inv-chunks μ-chunks Inv-records μ-records
 records-less-2 c =
@@ -132,7 +142,7 @@ records-again-2 c =
     let kind = met .before .before in
     let test = kind .before .before in
     let r = read test in
-    on-started _ _ _ _ (records r .records .inv) (r .record-at .ensures) (r .before .before .records-test .taken) _ _ _ _
+    on-started _ _ _ _ (records r .records .inv) (here r) (r .before .before .records-test .taken) _ _ _ _
     (kind .kind .given .1) (sym (test .before .is-meta .ensures) ∙ test .if2 .left) (put .put-start .kept .0) (met .met-term .ensures)
     (put .put-start .ensures) (c .after-start .ensures)
 
@@ -148,7 +158,7 @@ records-again-3 c =
     let kind = put .before .before .before in
     let test = kind .before .before in
     let r = read test in
-    on-ended _ _ _ _ (records r .records .inv) (r .record-at .ensures) (r .before .before .records-test .taken) _ _ _
+    on-ended _ _ _ _ (records r .records .inv) (here r) (r .before .before .records-test .taken) _ _ _
     (kind .kind2 .given .1) (sym (test .before .is-meta .ensures) ∙ test .if2 .left) (put .put-end .kept .0) (put .put-end .ensures)
     (c .after-end .ensures)
 
@@ -159,7 +169,7 @@ records-again-4 : tie.Need-records-again-4 Inv-chunks μ-chunks Inv-records μ-r
 records-again-4 c =
     let kind = c .before .before .before in
     let r = read (other kind) in
-    on-hidden _ _ _ _ (records r .records .inv) (r .record-at .ensures) (r .before .before .records-test .taken) (kind .kind3 .given .1)
+    on-hidden _ _ _ _ (records r .records .inv) (here r) (r .before .before .records-test .taken) (kind .kind3 .given .1)
     (sym (c .before .enabled .ensures) ∙ c .if3 .taken)
 
 chunks-holds : tie.Need-chunks-holds Inv-chunks μ-chunks Inv-records μ-records
@@ -171,7 +181,7 @@ chunks-holds c =
     let o = records r .records .inv in (
       refl,
       body-at (style .change-to-markdown-style .kept .0 ∙ o .same)
-          (on-body _ _ _ _ o (r .record-at .ensures) (r .before .before .records-test .taken) (kind .kind3 .given .1) _ _ _ _ (c .get .ensures)
+          (on-body _ _ _ _ o (here r) (r .before .before .records-test .taken) (kind .kind3 .given .1) _ _ _ _ (c .get .ensures)
           (sym (test .before .enabled .ensures) ∙ test .if3 .left) (style .change-to-markdown-style .ensures) (c .before .styled .ensures)),
     )
 
@@ -180,7 +190,7 @@ records-less-5 c =
     let code = c .before .before .before in
     let ends = code .before .before .before in
     let step = ends .before .before .before .before in
-    let b = chunks (step .before .before .before) .before in
+    let b = chunks (lately step) .before in
     falls (read (other (told (changed b))))
 
 records-again-5 : tie.Need-records-again-5 Inv-chunks μ-chunks Inv-records μ-records
@@ -189,19 +199,19 @@ records-again-5 c =
     let ends = code .before .before .before in
     let piece = ends .before .before in
     let step = piece .before .before in
-    let plain = step .before .before .before in
+    let plain = lately step in
     let b = chunks plain .before in
     let kind = told (changed b) in
     let r = read (other kind) in
     let o = records r .records .inv in
     let i = chunks plain .chunks .inv in
-    let h = r .record-at in
-    let f = body-few _ _ (h .result .start) (h .result .stop) (b .get .ensures) (o .short) (omega (arith, h .ensures .high)) in
+    let h = r .whole-at in
+    let f = body-few _ _ (h .result .start) (h .result .stop) (b .get .ensures) (o .short) (omega (arith, here r .high, here r .ends)) in
     let words = body-words _ _ _ _ (i .1) _ _ _ (i .0) f (plain .put-plain .ensures) in
     let e = changed b .change-to-markdown-style .kept .0 ∙ o .same in
-    on-stopped _ _ _ _ o (h .ensures) (r .before .before .records-test .taken) (kind .kind3 .given .1) (plain .put-plain .kept .0 ∙ i .0 ∙ e)
+    on-stopped _ _ _ _ o (here r) (r .before .before .records-test .taken) (kind .kind3 .given .1) (plain .put-plain .kept .0 ∙ i .0 ∙ e)
     (body-at (sym e) words) _ _ (code .end-code .kept .0) (code .end-code .ensures)
-    (took _ _ _ _ _ (piece .piece .given .1) (step .step-at .ensures)) (sym (ends .ends-body .ensures _) ∙ code .before .before .if4 .taken) _
+    (took _ _ _ _ _ (piece .piece .given .1) (step .step-at .ensures)) (sym (ends .ends-body .ensures _) ∙ code .before .before .if5 .taken) _
     (c .enable-number .ensures)
 
 chunks-less : tie.Need-chunks-less Inv-chunks μ-chunks Inv-records μ-records
@@ -210,7 +220,7 @@ chunks-less c =
     let ends = put .before .before .before in
     let piece = ends .before .before in
     let step = piece .before .before in
-    let plain = step .before .before .before in
+    let plain = lately step in
     let t = took _ _ _ _ _ (piece .piece .given .1) (step .step-at .ensures) in
     omega (arith, t .further, t .short, plain .put-plain .ensures .order)
 
@@ -220,45 +230,46 @@ chunks-again c =
     let ends = put .before .before .before in
     let piece = ends .before .before in
     let step = piece .before .before in
-    let plain = step .before .before .before in
+    let plain = lately step in
     let b = chunks plain .before in
     let kind = told (changed b) in
     let r = read (other kind) in
     let o = records r .records .inv in
     let i = chunks plain .chunks .inv in
-    let h = r .record-at in
-    let f = body-few _ _ (h .result .start) (h .result .stop) (b .get .ensures) (o .short) (omega (arith, h .ensures .high)) in
+    let h = r .whole-at in
+    let f = body-few _ _ (h .result .start) (h .result .stop) (b .get .ensures) (o .short) (omega (arith, here r .high, here r .ends)) in
     let words = body-words _ _ _ _ (i .1) _ _ _ (i .0) f (plain .put-plain .ensures) in
     let m = plain .put-plain .kept .0 ∙ i .0 in (
       put .put-chunk .kept .0 ∙ m,
       body-on _ _ _ _ words (took _ _ _ _ _ (piece .piece .given .1) (step .step-at .ensures)) _ _ _ m
-          (sym (ends .ends-body .ensures _) ∙ put .before .before .if4 .left) (o .table) (put .put-chunk .ensures) (c .fence-after .ensures),
+          (sym (ends .ends-body .ensures _) ∙ put .before .before .if5 .left) (o .table) (put .put-chunk .ensures) (c .fence-after .ensures),
     )
 
+-- the two ways out of the chunks: the body's end, and no chunk left
 records-less-6 : tie.Need-records-less-6 Inv-chunks μ-chunks Inv-records μ-records
 records-less-6 c =
-    let code = c .before .before in
-    let step = code .before .before .before .before in
-    let b = chunks (step .before .before .before) .before in
+    let out = c .before .before .before .before in
+    let b = chunks (out .before .before .before) .before in
     falls (read (other (told (changed b))))
 
 records-again-6 : tie.Need-records-again-6 Inv-chunks μ-chunks Inv-records μ-records
 records-again-6 c =
     let code = c .before .before in
-    let none = code .before .before in
-    let step = none .before .before in
-    let plain = step .before .before .before in
+    let out = code .before .before in
+    let plain = out .before .before .before in
     let b = chunks plain .before in
     let kind = told (changed b) in
     let r = read (other kind) in
     let o = records r .records .inv in
     let i = chunks plain .chunks .inv in
-    let h = r .record-at in
-    let f = body-few _ _ (h .result .start) (h .result .stop) (b .get .ensures) (o .short) (omega (arith, h .ensures .high)) in
+    let h = r .whole-at in
+    let f = body-few _ _ (h .result .start) (h .result .stop) (b .get .ensures) (o .short) (omega (arith, here r .high, here r .ends)) in
     let words = body-words _ _ _ _ (i .1) _ _ _ (i .0) f (plain .put-plain .ensures) in
     let e = changed b .change-to-markdown-style .kept .0 ∙ o .same in
-    on-done _ _ _ _ o (h .ensures) (r .before .before .records-test .taken) (kind .kind3 .given .1) (plain .put-plain .kept .0 ∙ i .0 ∙ e)
-    (body-at (sym e) words) _ _ (code .end-code2 .kept .0) (code .end-code2 .ensures) (ended _ _ _ (none .enum-told2 .given .1) (step .step-at .ensures))
+    let at = cursor (plain .put-plain .result .at) (chunks plain .chunks .code) in
+    on-done _ _ _ _ o (here r) (r .before .before .records-test .taken) (kind .kind3 .given .1) (plain .put-plain .kept .0 ∙ i .0 ∙ e)
+    (body-at (sym e) words) _ _ (code .end-code2 .kept .0) (code .end-code2 .ensures)
+    (⊎-elim (λ w. placed-done _ at (sym (first-none _ at (w .taken)))) (λ w. ended _ at _ (w .3 .given .1) (w .1 .ensures)) (out .if4 .came))
 
 same-length-3 : tie.Need-same-length-3 Inv-chunks μ-chunks Inv-records μ-records
 same-length-3 c =
