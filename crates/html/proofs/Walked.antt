@@ -3,7 +3,7 @@ use Prim.Native.Nat.{ℕ, _+_, _-_, _≤_, _<_}
 use mathlib.Core.Path.{_≡_, refl, sym, ap, _∙_, subst}
 use mathlib.Core.Bool.{Bool, true, false}
 use mathlib.Core.List.{List, [], _++_}
-use lib.ListN.{length, take, set}
+use lib.ListN.{length, take, drop, set}
 use native.Mathlib.Omega.{arith}
 use borrow.Author.Tests.{eqb-true, eqb-false}
 use Rattle.base.specs.Bytes.{part}
@@ -12,7 +12,7 @@ use Rattle.base.specs.Stack.{pushed, popped}
 use Rattle.base.proofs.Results.{bind-assoc, bind-same, bind-end}
 use Rattle.base.proofs.Stack.{push-take, pop-take}
 use Rattle.room.specs.Room.{extended, seen}
-use Rattle.records.specs.Records.{index, tokens, tokensFrom}
+use Rattle.records.specs.Records.{index, tokens, tokensFrom, fits}
 use Rattle.document.specs.Document.{check}
 use Rattle.records.specs.Answers.{Read}
 use Rattle.records.specs.declared.Style.{Style}
@@ -21,7 +21,7 @@ use Rattle.records.specs.declared.Block.{Block}
 use Rattle.records.specs.declared.Kind.{Kind}
 use Rattle.records.specs.declared.Kind.the-variants as kind
 use Rattle.records.specs.declared.Head.{Head}
-use Rattle.document.proofs.Walks.{Accepted-at, accepted-at-0, check-gives, open-known, text-next, array-start, array-end}
+use Rattle.document.proofs.Walks.{Accepted-at, accepted-at-0, check-gives, fits-here, open-known, text-next, array-start, array-end}
 use Rattle.splitter.specs.Split.{split}
 use Rattle.splitter.specs.Answers.{chunkOf, placedFrom, cursor, start}
 use Rattle.splitter.specs.declared.Cursor.{Cursor}
@@ -115,6 +115,10 @@ module _ (limit : ℕ) (strict full : Bool) (sheet tags document : List ℕ) whe
         walking.rest-end (turn limit strict full) (finish limit sheet) document whole at room len kept lay (o .leads) told
         (λ x. closed limit (lay .style) x >>= extended limit sheet) h (λ x. finish-is limit strict full at at [] [] kept lay x sheet)
         (w (o .table) ∙ ap (λ (m : ℕ). seen room len >>= λ x. closed m (lay .style) x >>= extended m sheet) (o .same))
+
+    -- the record that was read without a look at the document's end: it lies whole there
+    pub on-read : {h : Head} → at < length document → (fits (drop at document) ≡ true → Read document at h) → Read document at h
+    on-read l r = r (fits-here (o .opened) l)
 
     -- a record was read here
     module _ {h : Head} (r : Read document at h) (l : at < length document) where

@@ -78,7 +78,7 @@ fn walk(
         if room.len() < len {
             return Rendered::Refused(Refusal::NoRoom);
         }
-        let h = records::record_at(document, at);
+        let h = records::whole_at(document, at);
         let kind = h.kind;
         if html_marks::is_meta(kind) {
             return html_tags::meet_meta(room, len, tags, lay, at);
@@ -118,6 +118,9 @@ fn walk(
                     let line = html_lines::put_line(room, len, body, cursor, strict);
                     len = line.len;
                     cursor.at = line.at;
+                    if body.len() <= cursor.at {
+                        break 'chunks;
+                    }
                     let Step::Take(piece, after) = splitter::step_at(body, cursor) else {
                         break 'chunks;
                     };

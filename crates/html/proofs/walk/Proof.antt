@@ -6,10 +6,12 @@ use denote.Ref.{now}
 use lib.ListN.{length, take}
 use Rattle.html.proofs.walk.Statement.{statement}
 use Rattle.html.proofs.walk.Tie as tie
-use Rattle.splitter.specs.Answers.{start}
+use Rattle.splitter.specs.Answers.{cursor, start}
+use Rattle.splitter.proofs.Steps.{first-none, placed-done}
 use Rattle.splitter.proofs.Answers.{took, ended}
+use Rattle.records.specs.Answers.{Read as At}
 use Rattle.renderer.specs.Rendered.{Inside}
-use Rattle.html.proofs.Walked.{On, InBody, on-start, on-out, on-end, on-unknown, on-start-low, on-entered, on-end-low, on-left, on-meta}
+use Rattle.html.proofs.Walked.{On, InBody, on-start, on-read, on-out, on-end, on-unknown, on-start-low, on-entered, on-end-low, on-left, on-meta}
 use Rattle.html.proofs.Walked.{on-hidden, on-body, on-done, on-stopped, body-line, body-on, body-at}
 
 -- The chunks of a body: the room keeps its length, the style and the skip counter stay, and what is shown and the chunks from the cursor
@@ -36,7 +38,7 @@ abbrev Records : Type 0
 Records = tie.At-records Inv-chunks μ-chunks Inv-records μ-records
 
 abbrev Read : Type 0
-Read = tie.After-record-at Inv-chunks μ-chunks Inv-records μ-records
+Read = tie.After-whole-at Inv-chunks μ-chunks Inv-records μ-records
 
 abbrev Other : Type 0
 Other = tie.Else2 Inv-chunks μ-chunks Inv-records μ-records
@@ -78,12 +80,19 @@ changed c = c .before .before .before .before
 abbrev chunks : Lined → Chunks
 chunks c = c .before .before
 
+abbrev lately : tie.After-step-at Inv-chunks μ-chunks Inv-records μ-records → Lined
+lately c = c .before .before .before .before .before
+
+-- the record that was read
+here : (c : Read) → At (now (args (records c) .args .document)) (records c .records .at) (c .whole-at .result)
+here c = on-read _ _ _ _ _ _ (records c .records .inv) (c .before .before .records-test .taken) (c .whole-at .ensures)
+
 -- the document falls by the record that was read
-falls : (c : Read) → length (now (args (records c) .args .document)) - c .record-at .result .next
+falls : (c : Read) → length (now (args (records c) .args .document)) - c .whole-at .result .next
     < length (now (args (records c) .args .document)) - records c .records .at
 falls c =
-    let k = c .record-at .ensures .low (c .before .before .records-test .taken) in
-    omega (arith, c .record-at .ensures .order, c .record-at .ensures .high)
+    let r = here c in
+    omega (arith, r .low (c .before .before .records-test .taken), r .order, r .high)
 
 records-holds : tie.Need-records-holds Inv-chunks μ-chunks Inv-records μ-records
 records-holds c =
@@ -102,7 +111,7 @@ records-less c = falls (read (c .before .before))
 records-again : tie.Need-records-again Inv-chunks μ-chunks Inv-records μ-records
 records-again c =
     let r = read (c .before .before) in
-    on-unknown _ _ _ _ _ _ (records r .records .inv) (r .record-at .ensures) (r .before .before .records-test .taken) (c .enum-told .given .1)
+    on-unknown _ _ _ _ _ _ (records r .records .inv) (here r) (r .before .before .records-test .taken) (c .enum-told .given .1)
 
 slice-aggregate-push : tie.Need-slice-aggregate-push Inv-chunks μ-chunks Inv-records μ-records
 slice-aggregate-push c =
@@ -116,7 +125,7 @@ push-requires c κs =
     let kind = put .before .before .before .before in
     let r = read (kind .before .before) in
     let o = records r .records .inv in
-    let d = on-start-low _ _ _ _ _ _ o (r .record-at .ensures) (r .before .before .records-test .taken) (kind .kind .given .1) in
+    let d = on-start-low _ _ _ _ _ _ o (here r) (r .before .before .records-test .taken) (kind .kind .given .1) in
     omega (arith, o .long)
 
 add-depth : tie.Need-add-depth Inv-chunks μ-chunks Inv-records μ-records
@@ -124,7 +133,7 @@ add-depth c =
     let put = c .before .before .before .before .before in
     let kind = put .before .before .before .before in
     let r = read (kind .before .before) in
-    let d = on-start-low _ _ _ _ _ _ (records r .records .inv) (r .record-at .ensures) (r .before .before .records-test .taken) (kind .kind .given .1) in
+    let d = on-start-low _ _ _ _ _ _ (records r .records .inv) (here r) (r .before .before .records-test .taken) (kind .kind .given .1) in
     omega arith
 
 records-less-2 : tie.Need-records-less-2 Inv-chunks μ-chunks Inv-records μ-records
@@ -138,7 +147,7 @@ sub-depth : tie.Need-sub-depth Inv-chunks μ-chunks Inv-records μ-records
 sub-depth c =
     let kind = c .before in
     let r = read (kind .before .before) in
-    on-end-low _ _ _ _ _ _ (records r .records .inv) (r .record-at .ensures) (r .before .before .records-test .taken) (kind .kind2 .given .1)
+    on-end-low _ _ _ _ _ _ (records r .records .inv) (here r) (r .before .before .records-test .taken) (kind .kind2 .given .1)
 
 records-less-3 : tie.Need-records-less-3 Inv-chunks μ-chunks Inv-records μ-records
 records-less-3 c =
@@ -153,20 +162,26 @@ records-again-4 : tie.Need-records-again-4 Inv-chunks μ-chunks Inv-records μ-r
 records-again-4 c =
     let kind = c .before .before .before in
     let r = read (other kind) in
-    on-hidden _ _ _ _ _ _ (records r .records .inv) (r .record-at .ensures) (r .before .before .records-test .taken) (kind .kind3 .given .1)
+    on-hidden _ _ _ _ _ _ (records r .records .inv) (here r) (r .before .before .records-test .taken) (kind .kind3 .given .1)
     (sym (c .before .enabled .ensures) ∙ c .if3 .taken)
 
+-- the body's end
 records-less-5 : tie.Need-records-less-5 Inv-chunks μ-chunks Inv-records μ-records
 records-less-5 c =
-    let step = c .before .before in
-    let b = chunks (step .before .before .before) .before in
+    let b = chunks (c .before .before .before .before) .before in
     falls (read (other (told (changed b))))
 
 records-less-6 : tie.Need-records-less-6 Inv-chunks μ-chunks Inv-records μ-records
 records-less-6 c =
+    let step = c .before .before in
+    let b = chunks (lately step) .before in
+    falls (read (other (told (changed b))))
+
+records-less-7 : tie.Need-records-less-7 Inv-chunks μ-chunks Inv-records μ-records
+records-less-7 c =
     let ends = c .before .before in
     let step = ends .before .before .before .before in
-    let b = chunks (step .before .before .before) .before in
+    let b = chunks (lately step) .before in
     falls (read (other (told (changed b))))
 
 chunks-less : tie.Need-chunks-less Inv-chunks μ-chunks Inv-records μ-records
@@ -175,7 +190,7 @@ chunks-less c =
     let ends = put .before .before .before in
     let piece = ends .before .before in
     let step = piece .before .before in
-    let line = step .before .before .before in
+    let line = lately step in
     let t = took _ _ _ _ _ (piece .piece .given .1) (step .step-at .ensures) in
     omega (arith, line .put-line .ensures .1, t .further, t .short)
 
@@ -185,14 +200,14 @@ chunks-again c =
     let ends = put .before .before .before in
     let piece = ends .before .before in
     let step = piece .before .before in
-    let line = step .before .before .before in
+    let line = lately step in
     let i = line .before .before .chunks .inv in
     let g = line .put-line in
     let j = body-line _ _ _ _ _ _ (i .2) (g .last .0) (g .result .len) (g .result .at) (i .0) (g .ensures .1) (g .ensures .0) in (
       put .put-chunk .kept .0 ∙ g .kept .0 ∙ i .0,
       i .1,
       body-on _ _ _ _ _ _ j (took _ _ _ _ _ (piece .piece .given .1) (step .step-at .ensures)) _ _ (g .kept .0 ∙ i .0)
-          (sym (ends .ends-body .ensures _) ∙ put .before .before .if4 .left) (put .put-chunk .ensures),
+          (sym (ends .ends-body .ensures _) ∙ put .before .before .if5 .left) (put .put-chunk .ensures),
     )
 
 same-length-3 : tie.Need-same-length-3 Inv-chunks μ-chunks Inv-records μ-records
@@ -221,7 +236,7 @@ returns-2 c =
     let test = meta .before .before in
     let r = test .before .before in
     let o = records r .records .inv in (
-      on-meta _ _ _ _ _ _ o (r .record-at .ensures) (r .before .before .records-test .taken) _
+      on-meta _ _ _ _ _ _ o (here r) (r .before .before .records-test .taken) _
           (sym (test .before .is-meta .ensures) ∙ test .if2 .taken) (meta .meet-meta .ensures .0),
       subst (λ (n : ℕ). Inside n (meta .meet-meta .result)) (o .same) (meta .meet-meta .ensures .1),
     )
@@ -233,7 +248,7 @@ records-again-2 c =
     let kind = put .before .before .before .before in
     let test = kind .before .before in
     let r = read test in
-    on-entered _ _ _ _ _ _ (records r .records .inv) (r .record-at .ensures) (r .before .before .records-test .taken) _ _ _ _
+    on-entered _ _ _ _ _ _ (records r .records .inv) (here r) (r .before .before .records-test .taken) _ _ _ _
     (kind .kind .given .1) (sym (test .before .is-meta .ensures) ∙ test .if2 .left) (put .put-start .kept .0) (put .put-start .ensures)
     (push .push .ensures) (push .push .kept .0) (c .skip-start .ensures)
 
@@ -243,7 +258,7 @@ records-again-3 c =
     let kind = put .before .before .before .before in
     let test = kind .before .before in
     let r = read test in
-    on-left _ _ _ _ _ _ (records r .records .inv) (r .record-at .ensures) (r .before .before .records-test .taken) _ _ _
+    on-left _ _ _ _ _ _ (records r .records .inv) (here r) (r .before .before .records-test .taken) _ _ _
     (kind .kind2 .given .1) (sym (test .before .is-meta .ensures) ∙ test .if2 .left) (put .put-end .kept .0) (put .put-end .ensures)
     (c .skip-end .ensures)
 
@@ -267,14 +282,14 @@ chunks-holds c =
       refl,
       refl,
       body-at (style .change-style .kept .0 ∙ o .same)
-          (on-body _ _ _ _ _ _ o (r .record-at .ensures) (r .before .before .records-test .taken) (kind .kind3 .given .1) _ _ _ _ (c .get .ensures)
+          (on-body _ _ _ _ _ _ o (here r) (r .before .before .records-test .taken) (kind .kind3 .given .1) _ _ _ _ (c .get .ensures)
           (sym (test .before .enabled .ensures) ∙ test .if3 .left) (c .before .styled .ensures) (style .change-style .ensures)),
     )
 
+-- the body's end: no chunk is left
 records-again-5 : tie.Need-records-again-5 Inv-chunks μ-chunks Inv-records μ-records
 records-again-5 c =
-    let step = c .before .before in
-    let line = step .before .before .before in
+    let line = c .before .before .before .before in
     let b = chunks line .before in
     let kind = told (changed b) in
     let r = read (other kind) in
@@ -283,16 +298,15 @@ records-again-5 c =
     let g = line .put-line in
     let j = body-line _ _ _ _ _ _ (i .2) (g .last .0) (g .result .len) (g .result .at) (i .0) (g .ensures .1) (g .ensures .0) in
     let e = changed b .change-style .kept .0 ∙ o .same in
+    let at = cursor (g .result .at) (chunks line .chunks .cursor .code) in
     rw (i .1)
-    (on-done _ _ _ _ _ _ o (r .record-at .ensures) (r .before .before .records-test .taken) (kind .kind3 .given .1) (g .kept .0 ∙ i .0 ∙ e)
-    (body-at (sym e) j) (ended _ _ _ (c .enum-told2 .given .1) (step .step-at .ensures)))
+    (on-done _ _ _ _ _ _ o (here r) (r .before .before .records-test .taken) (kind .kind3 .given .1) (g .kept .0 ∙ i .0 ∙ e)
+    (body-at (sym e) j) (placed-done _ at (sym (first-none _ at (c .if4 .taken)))))
 
 records-again-6 : tie.Need-records-again-6 Inv-chunks μ-chunks Inv-records μ-records
 records-again-6 c =
-    let ends = c .before .before in
-    let piece = ends .before .before in
-    let step = piece .before .before in
-    let line = step .before .before .before in
+    let step = c .before .before in
+    let line = lately step in
     let b = chunks line .before in
     let kind = told (changed b) in
     let r = read (other kind) in
@@ -302,8 +316,26 @@ records-again-6 c =
     let j = body-line _ _ _ _ _ _ (i .2) (g .last .0) (g .result .len) (g .result .at) (i .0) (g .ensures .1) (g .ensures .0) in
     let e = changed b .change-style .kept .0 ∙ o .same in
     rw (i .1)
-    (on-stopped _ _ _ _ _ _ o (r .record-at .ensures) (r .before .before .records-test .taken) (kind .kind3 .given .1) (g .kept .0 ∙ i .0 ∙ e)
-    (body-at (sym e) j) (took _ _ _ _ _ (piece .piece .given .1) (step .step-at .ensures)) (sym (ends .ends-body .ensures _) ∙ c .before .if4 .taken) _
+    (on-done _ _ _ _ _ _ o (here r) (r .before .before .records-test .taken) (kind .kind3 .given .1) (g .kept .0 ∙ i .0 ∙ e)
+    (body-at (sym e) j) (ended _ _ _ (c .enum-told2 .given .1) (step .step-at .ensures)))
+
+records-again-7 : tie.Need-records-again-7 Inv-chunks μ-chunks Inv-records μ-records
+records-again-7 c =
+    let ends = c .before .before in
+    let piece = ends .before .before in
+    let step = piece .before .before in
+    let line = lately step in
+    let b = chunks line .before in
+    let kind = told (changed b) in
+    let r = read (other kind) in
+    let o = records r .records .inv in
+    let i = chunks line .chunks .inv in
+    let g = line .put-line in
+    let j = body-line _ _ _ _ _ _ (i .2) (g .last .0) (g .result .len) (g .result .at) (i .0) (g .ensures .1) (g .ensures .0) in
+    let e = changed b .change-style .kept .0 ∙ o .same in
+    rw (i .1)
+    (on-stopped _ _ _ _ _ _ o (here r) (r .before .before .records-test .taken) (kind .kind3 .given .1) (g .kept .0 ∙ i .0 ∙ e)
+    (body-at (sym e) j) (took _ _ _ _ _ (piece .piece .given .1) (step .step-at .ensures)) (sym (ends .ends-body .ensures _) ∙ c .before .if5 .taken) _
     (c .enable-number .ensures))
 
 pub walk-spec : {M : Type 1} → statement M
@@ -350,15 +382,17 @@ walk-spec =
     (λ c κs. search needs)
     chunks-holds
     (λ c κs. search needs)
-    (λ c κs. search needs)
-    (λ c. search needs)
-    (λ c. search needs)
     records-less-5
     records-again-5
     (λ c κs. search needs)
-    (λ c κs. search needs)
+    (λ c. search needs)
+    (λ c. search needs)
     records-less-6
     records-again-6
+    (λ c κs. search needs)
+    (λ c κs. search needs)
+    records-less-7
+    records-again-7
     (λ c κs. search needs)
     chunks-less
     chunks-again
