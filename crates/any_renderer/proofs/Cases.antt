@@ -5,7 +5,7 @@ use mathlib.Core.List.{List}
 use Rattle.base.specs.Result.{measured}
 use Rattle.renderer.specs.Rendered.{answered, filled}
 use Rattle.renderer.specs.declared.Rendered.{Rendered}
-use Rattle.any_renderer.specs.Renders.{renders}
+use Rattle.any_renderer.specs.InnerRenders.{renders}
 use Rattle.any_renderer.specs.declared.Asked.{Asked}
 
 pub case-both : (a b : Asked) (room : ℕ) (d new : List ℕ) (r : Rendered) → a ≡ b → answered r ≡ measured (renders b room d)

@@ -1,1 +1,1 @@
-pub mod Renders
+pub mod InnerRenders

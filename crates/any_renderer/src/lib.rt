@@ -3,7 +3,8 @@ ghost use mathlib.Core.Path.{_≡_};
 ghost use lib.ListN.{length};
 ghost use Rattle.base.specs.Result.{measured};
 ghost use Rattle.renderer.specs.Rendered.{answered, filled};
-ghost use Rattle.any_renderer.specs.Renders.{renders, tooWide};
+ghost use Rattle.any_renderer.specs.InnerRenders.{renders, tooWide};
+use console_rules::MAX_WIDTH;
 use console_rules::Settings;
 use renderer::Rendered;
 
@@ -35,7 +36,7 @@ pub fn too_wide(asked: Asked) -> bool
     ensures { λ r. ⌜ r ≡ tooWide asked ⌝ }
 {
     match asked {
-        Asked::Console(set) => 10_000 < set.width,
+        Asked::Console(set) => MAX_WIDTH < set.width,
         Asked::Html(_, _) => false,
         Asked::StrictHtml(_, _) => false,
         Asked::Markdown(_) => false,

@@ -26,7 +26,7 @@ use Rattle.buffer.specs.Builder.{written, soFar, fit, writes}
 use Rattle.buffer.specs.Answers.{builtAs, kept}
 use Rattle.buffer.specs.declared.Built.the-variants as built
 use Rattle.base.specs.Bytes.{pasted}
-use Rattle.buffer.specs.Parts.{longer, Accepted, Goes}
+use Rattle.buffer.specs.InnerParts.{longer, Accepted, Goes}
 use Rattle.buffer.proofs.Pasting.{kept-pasted, front}
 
 -- The two promises of a call

@@ -12,7 +12,7 @@ use Rattle.base.proofs.Parts.{part-end}
 use Rattle.records.specs.Stored.{stored, littleBytes, head}
 use Rattle.base.specs.Bytes.{pasted, overwritten}
 use Rattle.base.proofs.Pasting.{overwritten-fits}
-use Rattle.buffer.specs.Parts.{longer}
+use Rattle.buffer.specs.InnerParts.{longer}
 
 module _ (room : List ℕ) (at : ℕ) (x : List ℕ) (h : at ≤ length room) where
   pub front : length (take at room ++ x) ≡ at + length x

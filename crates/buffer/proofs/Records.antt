@@ -12,7 +12,7 @@ use Rattle.base.specs.Result.{Result, gives, refused, _>>=_}
 use Rattle.base.proofs.Choice.{and-both, if-true, if-false}
 use Rattle.base.proofs.Results.{refused-gives, bind-end}
 use Rattle.utf8.specs.Utf8.{utf8}
-use Rattle.records.specs.Records.{Token, little, number, index, kindOf, size, tokenAt, fits}
+use Rattle.records.specs.Records.{Token, little, number, index, kindOf, size, tokenAt, recordFits}
 use Rattle.document.specs.Document.{opens, closes, bodiless, accept, first, reads}
 use Rattle.records.specs.Stored.{littleBytes, stored, text, start, end}
 use Rattle.records.specs.declared.Style.{Style}
@@ -52,8 +52,8 @@ module _ (p k : ℕ) (body rest : List ℕ) (hk : Holds 2 k) (hn : Holds 4 (leng
   unfolding tokenAt stored littleBytes
   stored-body = ap (λ (n : ℕ). take n (body ++ rest)) stored-size ∙ take-append-seam body rest
 
-  stored-fits : fits (stored k body ++ rest) ≡ true
-  unfolding fits
+  stored-fits : recordFits (stored k body ++ rest) ≡ true
+  unfolding recordFits
   stored-fits =
       let n : length (stored k body ++ rest) ≡ 6 + length body + length rest = omega (arith, length-append (stored k body) rest, length-stored k body) in
       and-both (le-leb 6 (length (stored k body ++ rest)) (omega arith))
@@ -123,13 +123,13 @@ module _ (p : ℕ) (b : Block) (stack : List ℕ) where
 
 -- Records after others
 
-module _ (p : ℕ) (s b : List ℕ) (e : fits s ≡ true) where
+module _ (p : ℕ) (s b : List ℕ) (e : recordFits s ≡ true) where
   pub size-before : size (s ++ b) ≡ size s
   unfolding size
   size-before = let h = fits-room s e in ap little (take-append-le 4 s b (omega arith))
 
-  fits-before : fits (s ++ b) ≡ true
-  unfolding fits
+  fits-before : recordFits (s ++ b) ≡ true
+  unfolding recordFits
   fits-before =
       let h = fits-room s e in
       and-both (le-leb 6 (length (s ++ b)) (omega (arith, length-append s b)))
@@ -153,7 +153,7 @@ module _ (p : ℕ) (s b : List ℕ) (e : fits s ≡ true) where
   unfolding first
   first-before stack = if-true _ _ fits-before ∙ ap (λ (t : Token). accept p (t .kind) (t .body) stack) token-before ∙ sym (if-true _ _ e)
 
-cut-short : (p : ℕ) (stack s : List ℕ) → fits s ≡ false → first p stack s ≡ refused 2 p
+cut-short : (p : ℕ) (stack s : List ℕ) → recordFits s ≡ false → first p stack s ≡ refused 2 p
 unfolding first
 cut-short p stack s e = if-false _ _ e
 
@@ -166,7 +166,7 @@ reads-append [] b p (suc pass) stack h w = let z : ⊥ = omega arith in absurd z
 reads-append (x ∷ s) b p (suc pass) stack h w =
     reads-append s b (p + 1) pass stack (omega arith) w
     ∙ ap (λ (k : ℕ). reads (p + 1) pass stack s >>= λ after. reads k 0 after b) (omega arith)
-reads-append (x ∷ s) b p zero stack h w = go (λ after i v. reads-append s b (p + 1) (5 + size (x ∷ s)) after i v) (fits (x ∷ s)) refl
+reads-append (x ∷ s) b p zero stack h w = go (λ after i v. reads-append s b (p + 1) (5 + size (x ∷ s)) after i v) (recordFits (x ∷ s)) refl
   where
     n : ℕ
     n = size (x ∷ s)
@@ -175,7 +175,7 @@ reads-append (x ∷ s) b p zero stack h w = go (λ after i v. reads-append s b (
     Rest = (after : List ℕ) → 5 + size (x ∷ s) ≤ length s → ((q : ℕ) → reads (p + 1) (5 + size (x ∷ s)) after s ≡ refused 2 q → ⊥)
         → reads (p + 1) (5 + size (x ∷ s)) after (s ++ b) ≡ (reads (p + 1) (5 + size (x ∷ s)) after s >>= λ after. reads (p + 1 + length s) 0 after b)
 
-    on : Rest → fits (x ∷ s) ≡ true → (r : Result (List ℕ)) → first p stack (x ∷ s) ≡ r
+    on : Rest → recordFits (x ∷ s) ≡ true → (r : Result (List ℕ)) → first p stack (x ∷ s) ≡ r
         → (r >>= λ after. reads (p + 1) (5 + n) after (s ++ b))
         ≡ (r >>= (λ after. reads (p + 1) (5 + n) after s) >>= λ after. reads (p + length (x ∷ s)) 0 after b)
     on rest f (gives after) e =
@@ -183,7 +183,7 @@ reads-append (x ∷ s) b p zero stack h w = go (λ after i v. reads-append s b (
         ∙ ap (λ (k : ℕ). reads (p + 1) (5 + n) after s >>= λ after. reads k 0 after b) (omega arith)
     on rest f (refused m q) e = refl
 
-    go : Rest → (t : Bool) → fits (x ∷ s) ≡ t
+    go : Rest → (t : Bool) → recordFits (x ∷ s) ≡ t
         → reads p zero stack (x ∷ s ++ b) ≡ (reads p zero stack (x ∷ s) >>= λ after. reads (p + length (x ∷ s)) 0 after b)
     go rest true f =
         ap₂ (λ (r : Result (List ℕ)) (k : ℕ). r >>= λ after. reads (p + 1) (5 + k) after (s ++ b)) (first-before p (x ∷ s) b f stack)
@@ -197,13 +197,13 @@ unfolding _>>=_
 reads-before a b p stack after e = reads-append a b p 0 stack (omega arith) (λ q z. refused-gives (sym z ∙ e)) ∙ rw e
 
 -- The bytes of a record alone are that record
-module _ (b : ℕ) (s : List ℕ) (e : fits (b ∷ s) ≡ true) where
+module _ (b : ℕ) (s : List ℕ) (e : recordFits (b ∷ s) ≡ true) where
   alone-size : size (b ∷ take (5 + size (b ∷ s)) s) ≡ size (b ∷ s)
   unfolding size
   alone-size = ap (λ (l : List ℕ). little (b ∷ l)) (take-take 3 (5 + size (b ∷ s)) s (omega arith))
 
-  alone-fits : fits (b ∷ take (5 + size (b ∷ s)) s) ≡ true
-  unfolding fits
+  alone-fits : recordFits (b ∷ take (5 + size (b ∷ s)) s) ≡ true
+  unfolding recordFits
   alone-fits =
       let h = fits-room (b ∷ s) e in
       let n : length (take (5 + size (b ∷ s)) s) ≡ 5 + size (b ∷ s) = length-take-le (5 + size (b ∷ s)) s (omega arith) in

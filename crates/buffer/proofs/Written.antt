@@ -21,7 +21,7 @@ use Rattle.records.specs.declared.Head.{Head}
 use Rattle.records.proofs.Reading.{read-token}
 use Rattle.document.proofs.Walks.{Sane, Open-at, open-at-0, open-whole, open-next, openAfter}
 use Rattle.buffer.specs.Builder.{isText, oneText, written}
-use Rattle.buffer.specs.Parts.{Accepted, Goes}
+use Rattle.buffer.specs.InnerParts.{Accepted, Goes}
 
 -- the styles' numbers compared
 pub text-by : (st : Style) {s : Style} {k : Kind} {m n : ℕ} → k ≡ kind.Text s → m ≡ number s → n ≡ number st → eqb m n ≡ isText st k

@@ -10,7 +10,7 @@ use Rattle.base.specs.Result.{Result, gives, refused, _>>=_}
 use Rattle.utf8.specs.Utf8.{utf8}
 use Rattle.splitter.specs.Split.{line}
 use Rattle.records.specs.Records.{tokenAt, size, number}
-use Rattle.document.specs.Document.{reads, openBlocks, short, check}
+use Rattle.document.specs.Document.{reads, openBlocks, short, check, maxBytes}
 use Rattle.records.specs.Stored.{text, start, end, around}
 use Rattle.records.specs.declared.Style.{Style}
 use Rattle.records.specs.declared.Style.the-variants as style
@@ -59,7 +59,7 @@ soFar room n = if leb n (length room) then short (take n room) else refused 13 0
 
 -- '13 when the result exceeds the room or 32,768 bytes'
 unfoldable pub fit : List ℕ → List ℕ → Result (List ℕ)
-fit room x = if leb (length x) (length room) && leb (length x) 32_768 then gives x else refused 13 0
+fit room x = if leb (length x) (length room) && leb (length x) maxBytes then gives x else refused 13 0
 
 -- 'then 6 or 7 of the result, then 13': some records are added to a document with some open blocks; the places of 6 and 7 'are where
 -- the record would stand'

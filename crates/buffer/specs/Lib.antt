@@ -1,3 +1,3 @@
 pub mod Builder
 pub mod Answers
-pub mod Parts
+pub mod InnerParts

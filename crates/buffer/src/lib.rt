@@ -8,14 +8,16 @@ ghost use lib.Dec.{leb};
 ghost use lib.ListN.{length, take};
 ghost use Rattle.base.specs.Result.{measured, _>>=_ as bind};
 ghost use Rattle.utf8.specs.Utf8.{utf8};
-ghost use Rattle.document.specs.Document.{openBlocks};
+ghost use Rattle.document.specs.Document.{openBlocks, maxBytes, maxOpen};
 ghost use Rattle.document.specs.Answers.{openedAs};
 ghost use Rattle.records.specs.Stored.{stored, text};
 ghost use Rattle.records.specs.declared.Style.the-variants as style;
 ghost use Rattle.buffer.specs.Builder.{isText, soFar, fit, writes, opensBlock, closesBlock};
 ghost use Rattle.buffer.specs.Answers.{builtAs, kept, Of01};
-ghost use Rattle.buffer.specs.Parts.{longer, Accepted, Goes};
+ghost use Rattle.buffer.specs.InnerParts.{longer, Accepted, Goes};
 use document::Checked;
+use document::MAX_BYTES;
+use document::MAX_OPEN;
 use document::Opened;
 use records::Block;
 use records::Kind;
@@ -31,9 +33,9 @@ pub enum Built {
 // 13 when the length so far passes the room, then 1 and 2 to 7 of the document so far.
 pub fn so_far(room: &[u8], len: usize) -> Opened
     ensures open { λ r. ⌜ openedAs r ≡ bind (soFar (now (room .entry)) len) openBlocks ⌝ }
-    ensures shallow { λ r. ⌜ (r .depth ≤ 32) × (length (r .stack) ≡ 32) ⌝ }
+    ensures shallow { λ r. ⌜ (r .depth ≤ maxOpen) × (length (r .stack) ≡ maxOpen) ⌝ }
 {
-    let stack: [u8; 32] = [0; 32];
+    let stack: [u8; MAX_OPEN] = [0; MAX_OPEN];
     if room.len() < len {
         return Opened {
             verdict: Checked::Refused(Refusal::NoRoom),
@@ -41,7 +43,7 @@ pub fn so_far(room: &[u8], len: usize) -> Opened
             depth: 0,
         };
     }
-    if 32768 < len {
+    if MAX_BYTES < len {
         return Opened {
             verdict: Checked::Refused(Refusal::TooLong),
             stack,
@@ -53,7 +55,7 @@ pub fn so_far(room: &[u8], len: usize) -> Opened
 
 // 13 otherwise: `more` bytes from `to` on lie within the room and within 32,768 bytes.
 pub fn has_room(room: &[u8], to: usize, more: usize) -> bool
-    ensures { λ r. ⌜ r ≡ (leb (to + more) (length (now (room .entry))) && leb (to + more) 32768) ⌝ }
+    ensures { λ r. ⌜ r ≡ (leb (to + more) (length (now (room .entry))) && leb (to + more) maxBytes) ⌝ }
 {
     if room.len() < to {
         return false;
@@ -61,10 +63,10 @@ pub fn has_room(room: &[u8], to: usize, more: usize) -> bool
     if room.len() - to < more {
         return false;
     }
-    if 32768 < to {
+    if MAX_BYTES < to {
         return false;
     }
-    more <= 32768 - to
+    more <= MAX_BYTES - to
 }
 
 // Whether a record's kind is text of that style.
@@ -103,9 +105,9 @@ fn last_text(document: &[u8], style: Style) -> usize
 // room where `last` passes the length, or that the room or 32,768 bytes.
 pub fn put_text(room: &mut [u8], len: usize, last: usize, kind: usize, text: &[u8]) -> Built
     ensures numbers { λ r. ⌜ Of01 (builtAs r) ⌝ }
-    ensures does { λ r. ⌜ ((last ≤ len) × (len ≤ length (now (room .entry))) × (len ≤ 32768) → (builtAs r ≡ measured (fit (now (room .entry)) (longer (take len (now (room .entry))) last kind (now (text .entry))))) × (now (room .exit) ≡ kept (now (room .entry)) (fit (now (room .entry)) (longer (take len (now (room .entry))) last kind (now (text .entry)))))) ⌝ }
+    ensures does { λ r. ⌜ ((last ≤ len) × (len ≤ length (now (room .entry))) × (len ≤ maxBytes) → (builtAs r ≡ measured (fit (now (room .entry)) (longer (take len (now (room .entry))) last kind (now (text .entry))))) × (now (room .exit) ≡ kept (now (room .entry)) (fit (now (room .entry)) (longer (take len (now (room .entry))) last kind (now (text .entry)))))) ⌝ }
 {
-    if 32768 < last {
+    if MAX_BYTES < last {
         return Built::Refused(Refusal::NoRoom);
     }
     let body = last + 6;
@@ -160,7 +162,7 @@ pub fn open_block(room: &mut [u8], len: usize, b: Block) -> Built
     match verdict {
         Checked::Refused(r) => Built::Refused(r),
         Checked::Accepted => {
-            if 32 <= depth {
+            if MAX_OPEN <= depth {
                 return Built::Refused(Refusal::TooDeep(len));
             }
             put_block(room, len, 0x0100 + records::index_of(b))

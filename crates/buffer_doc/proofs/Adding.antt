@@ -29,7 +29,7 @@ use Rattle.buffer.specs.declared.Built.{Built}
 use Rattle.buffer.specs.declared.Built.the-variants as built
 use Rattle.base.specs.Bytes.{pasted, overwritten}
 use Rattle.base.proofs.Pasting.{overwritten-fits}
-use Rattle.buffer_doc.specs.Parts.{Nests, Ready, Adds, Joins, madeOf}
+use Rattle.buffer_doc.specs.InnerParts.{Nests, Ready, Adds, Joins, madeOf}
 use Rattle.buffer.proofs.Pasting.{length-stored, stored-none, pasted-next, length-pasted, set-fits}
 use Rattle.buffer.proofs.Records.{reads-opening, reads-finish, reads-append, reads-before}
 use Rattle.buffer_doc.proofs.Nesting.{top-over, popped-over}

@@ -14,7 +14,7 @@ use Rattle.base.specs.Stack.{pushed, popped}
 use Rattle.base.proofs.Choice.{and-left, and-right, if-true, if-false, pick, le-or-lt, eq-or-not}
 use Rattle.base.proofs.Stack.{length-pushed}
 use Rattle.base.proofs.Results.{refused-gives, bind-gives, if-gives, gives-same}
-use Rattle.records.specs.Records.{Token, number, index, size, tokenAt, tokens, joined, textOf}
+use Rattle.records.specs.Records.{Token, number, index, size, tokenAt, tokens, joined, documentText}
 use Rattle.document.specs.Document.{opens, bodiless, accept, first, reads, openBlocks, check}
 use Rattle.records.specs.Stored.{stored, text, start, end, around}
 use Rattle.records.specs.Answers.{Read}
@@ -26,7 +26,7 @@ use Rattle.utf8.specs.Utf8.{utf8}
 use Rattle.utf8.proofs.Text.{valid-both}
 use Rattle.splitter.specs.Split.{line}
 use Rattle.base.specs.Choice.{if_then_else_}
-use Rattle.buffer_doc.specs.Parts.{Lines, titled, madeOf}
+use Rattle.buffer_doc.specs.InnerParts.{Lines, titled, madeOf}
 use Rattle.buffer.proofs.Written.{text-sane, text-after, written-pass}
 use Rattle.buffer_doc.proofs.Titles.{length-text, length-title, length-more, text-alone, em-not, em-valid, em-short, em-line, em-lines, em-parts}
 use Rattle.records.specs.declared.Block.{Block}
@@ -54,8 +54,8 @@ joined-anywhere (b ∷ s) p q (suc pass) = joined-anywhere s (p + 1) (q + 1) pas
 joined-anywhere (b ∷ s) p q zero = ap (λ (l : List ℕ). take (size (b ∷ s)) (drop 6 (b ∷ s)) ++ l) (joined-anywhere s (p + 1) (q + 1) (5 + size (b ∷ s)))
 
 joined-append : (a b : List ℕ) (p pass : ℕ) (stack left : List ℕ) → pass ≤ length a → reads p pass stack a ≡ gives left
-    → joined (tokens p pass (a ++ b)) ≡ joined (tokens p pass a) ++ textOf b
-unfolding joined tokens reads textOf
+    → joined (tokens p pass (a ++ b)) ≡ joined (tokens p pass a) ++ documentText b
+unfolding joined tokens reads documentText
 joined-append [] b p zero stack left h e = joined-anywhere b p 0 0
 joined-append [] b p (suc pass) stack left h e = let z : ⊥ = omega arith in absurd z
 joined-append (x ∷ s) b p (suc pass) stack left h e = joined-append s b (p + 1) pass stack left (omega arith) e
@@ -67,34 +67,34 @@ joined-append (x ∷ s) b p zero stack left h e =
     ∙ sym (append-assoc ((tokenAt p (x ∷ s)) .body) _ _)
 
 -- of records that are whole, and others after them
-pub text-append : (a b : List ℕ) (p : ℕ) (stack left : List ℕ) → reads p 0 stack a ≡ gives left → textOf (a ++ b) ≡ textOf a ++ textOf b
-unfolding textOf
+pub text-append : (a b : List ℕ) (p : ℕ) (stack left : List ℕ) → reads p 0 stack a ≡ gives left → documentText (a ++ b) ≡ documentText a ++ documentText b
+unfolding documentText
 text-append a b p stack left e =
-    joined-anywhere (a ++ b) 0 p 0 ∙ joined-append a b p 0 stack left (omega arith) e ∙ ap (λ (l : List ℕ). l ++ textOf b) (joined-anywhere a p 0 0)
+    joined-anywhere (a ++ b) 0 p 0 ∙ joined-append a b p 0 stack left (omega arith) e ∙ ap (λ (l : List ℕ). l ++ documentText b) (joined-anywhere a p 0 0)
 
 -- of a record, and others after it
-pub text-stored : (k : ℕ) (body rest : List ℕ) → Holds 2 k → Holds 4 (length body) → textOf (stored k body ++ rest) ≡ body ++ textOf rest
-unfolding textOf joined
+pub text-stored : (k : ℕ) (body rest : List ℕ) → Holds 2 k → Holds 4 (length body) → documentText (stored k body ++ rest) ≡ body ++ documentText rest
+unfolding documentText joined
 text-stored k body rest hk hn =
     let l = stored k body ++ rest in
     ap joined (tokens-some l 0 (omega (arith, length-append (stored k body) rest, length-stored k body)))
     ∙ ap₂ _++_ (stored-body 0 k body rest hk hn) (joined-anywhere _ _ 0 0 ∙ ap (λ (t : List ℕ). joined (tokens 0 0 t)) (stored-after 0 k body rest hk hn))
 
-text-block : (k : ℕ) → k < 65536 → (rest : List ℕ) → textOf (stored k [] ++ rest) ≡ textOf rest
+text-block : (k : ℕ) → k < 65536 → (rest : List ℕ) → documentText (stored k [] ++ rest) ≡ documentText rest
 text-block k h rest = text-stored k [] rest (Holds-kind k h) refl
 
-text-none : (k : ℕ) → k < 65536 → textOf (stored k []) ≡ []
-unfolding textOf joined tokens
-text-none k h = ap textOf (sym (append-nil (stored k []))) ∙ text-block k h []
+text-none : (k : ℕ) → k < 65536 → documentText (stored k []) ≡ []
+unfolding documentText joined tokens
+text-none k h = ap documentText (sym (append-nil (stored k []))) ∙ text-block k h []
 
-pub text-around : (b : Block) (x : List ℕ) (p : ℕ) (stack left : List ℕ) → reads p 0 stack x ≡ gives left → textOf (around b x) ≡ textOf x
+pub text-around : (b : Block) (x : List ℕ) (p : ℕ) (stack left : List ℕ) → reads p 0 stack x ≡ gives left → documentText (around b x) ≡ documentText x
 unfolding around start end
 text-around b x p stack left e =
-    ap textOf (append-assoc (start b) x (end b))
+    ap documentText (append-assoc (start b) x (end b))
     ∙ text-block (0x0100 + index b) (omega (arith, index-small b)) (x ++ end b)
     ∙ text-append x (end b) p stack left e
-    ∙ ap (λ (l : List ℕ). textOf x ++ l) (text-none (0x0200 + index b) (omega (arith, index-small b)))
-    ∙ append-nil (textOf x)
+    ∙ ap (λ (l : List ℕ). documentText x ++ l) (text-none (0x0200 + index b) (omega (arith, index-small b)))
+    ∙ append-nil (documentText x)
 
 -- What is given
 
@@ -131,7 +131,7 @@ pub record Added (doc stack y new : List ℕ) : Type 0 where
   pub after : List ℕ
   pub read : reads (length doc) 0 stack y ≡ gives after
   pub opened : openBlocks new ≡ gives after
-  pub says : textOf new ≡ textOf doc ++ textOf y
+  pub says : documentText new ≡ documentText doc ++ documentText y
 
 pub added : (room doc stack y new : List ℕ) → openBlocks doc ≡ gives stack → add room doc stack y ≡ gives new → Added doc stack y new
 unfolding add openBlocks
@@ -143,7 +143,7 @@ added room doc stack y new o e =
       after = f .0;
       read = f .1;
       opened = ap (λ (l : List ℕ). reads 0 0 [] l) (g .0) ∙ reads-before doc y 0 [] stack o ∙ ap (λ (p : ℕ). reads p 0 stack y) z ∙ f .1;
-      says = ap textOf (g .0) ∙ text-append doc y 0 [] stack o;
+      says = ap documentText (g .0) ∙ text-append doc y 0 [] stack o;
     }
 
 -- records that leave no block open are read where some are open already, and leave those open; or 7 is met
@@ -198,7 +198,7 @@ module _ (p : ℕ) (b : Block) (x stack after : List ℕ) (n : Nested x) (e : re
       (λ (g : (i : ℕ) × (reads p 0 stack (around b x) ≡ refused 7 i)). absurd (refused-gives (sym (g .1) ∙ e)))
       (around-either b x n p stack)
 
-  around-says : textOf (around b x) ≡ textOf x
+  around-says : documentText (around b x) ≡ documentText x
   around-says =
       ⊎-elim
       (λ (h : 32 ≤ length stack). absurd (refused-gives (sym (around-shut p b x stack h) ∙ e)))
@@ -231,7 +231,7 @@ pub record After (old new : List ℕ) (change : List ℕ → List ℕ) (more : L
   pub stack : List ℕ
   pub before : openBlocks old ≡ gives stack
   pub opened : openBlocks new ≡ gives (change stack)
-  pub says : textOf new ≡ textOf old ++ more
+  pub says : documentText new ≡ documentText old ++ more
 
 pub after-open : (room : List ℕ) (n : ℕ) (b : Block) (new : List ℕ) → opensBlock room n b ≡ gives new → After (take n room) new (pushed (index b)) []
 unfolding opensBlock accept bodiless start
@@ -243,7 +243,7 @@ after-open room n b new e =
       stack = m .stack;
       before = m .opened;
       opened = a .opened ∙ ap gives (g .2);
-      says = a .says ∙ ap (λ (l : List ℕ). textOf (take n room) ++ l) (text-none (0x0100 + index b) (omega (arith, index-small b)));
+      says = a .says ∙ ap (λ (l : List ℕ). documentText (take n room) ++ l) (text-none (0x0100 + index b) (omega (arith, index-small b)));
     }
 
 pub after-close : (room : List ℕ) (n : ℕ) (b : Block) (new : List ℕ) → closesBlock room n b ≡ gives new → After (take n room) new popped []
@@ -256,12 +256,12 @@ after-close room n b new e =
       stack = m .stack;
       before = m .opened;
       opened = a .opened ∙ ap gives (g .2);
-      says = a .says ∙ ap (λ (l : List ℕ). textOf (take n room) ++ l) (text-none (0x0200 + index b) (omega (arith, index-small b)));
+      says = a .says ∙ ap (λ (l : List ℕ). documentText (take n room) ++ l) (text-none (0x0200 + index b) (omega (arith, index-small b)));
     }
 
 -- a document was added, as it is or as `Doc::em_doc` has it
 after-adds : (room : List ℕ) (n : ℕ) (x records new : List ℕ) → (check x ≡ gives [] → Nested records) → addsAs room n x records ≡ gives new
-    → After (take n room) new (λ stack. stack) (textOf records)
+    → After (take n room) new (λ stack. stack) (documentText records)
 unfolding addsAs
 after-adds room n x records new h e =
     let m = made room n _ new e in
@@ -272,7 +272,7 @@ after-adds room n x records new h e =
       stack = m .stack;
       before = m .opened;
       opened = a .opened ∙ ap gives (around-leaves _ block.InlineBlock records (m .stack) (a .after) g (a .read));
-      says = a .says ∙ ap (λ (l : List ℕ). textOf (take n room) ++ l) (around-says _ block.InlineBlock records (m .stack) (a .after) g (a .read));
+      says = a .says ∙ ap (λ (l : List ℕ). documentText (take n room) ++ l) (around-says _ block.InlineBlock records (m .stack) (a .after) g (a .read));
     }
 
 nested-titled : {s : List ℕ} {line next : ℕ} → Lines s line next → Nested (titled s line next)
@@ -318,11 +318,12 @@ unfolding openBlocks
 made-nested true x c = let h = first-head x c in nested-em x (h .0) (h .1) c
 made-nested false x c = nested-doc x 0 (check-gives x [] c .1)
 
-pub after-doc : (room : List ℕ) (n : ℕ) (x new : List ℕ) → addsDoc room n x ≡ gives new → After (take n room) new (λ stack. stack) (textOf x)
+pub after-doc : (room : List ℕ) (n : ℕ) (x new : List ℕ) → addsDoc room n x ≡ gives new → After (take n room) new (λ stack. stack) (documentText x)
 unfolding addsDoc
 after-doc room n x new e = after-adds room n x x new (made-nested false x) e
 
-pub after-em-doc : (room : List ℕ) (n : ℕ) (x new : List ℕ) → addsEmDoc room n x ≡ gives new → After (take n room) new (λ stack. stack) (textOf (emphasised x))
+pub after-em-doc : (room : List ℕ) (n : ℕ) (x new : List ℕ) → addsEmDoc room n x ≡ gives new
+    → After (take n room) new (λ stack. stack) (documentText (emphasised x))
 unfolding addsEmDoc
 after-em-doc room n x new e = after-adds room n x (emphasised x) new (made-nested true x) e
 
@@ -346,9 +347,9 @@ module _ (st : Style) (x : List ℕ) (v : utf8 x ≡ true) where
   Keeps s w p pass stack left = (reads p pass stack w ≡ gives left) × (joined (tokens p pass w) ≡ joined (tokens p pass s) ++ x)
 
   text-says : (y : List ℕ) (p : ℕ) → length y ≤ 32768 → joined (tokens p 0 (text st y)) ≡ y
-  unfolding text textOf joined tokens
+  unfolding text documentText joined tokens
   text-says y p h =
-      joined-anywhere (text st y) p 0 0 ∙ ap textOf (sym (append-nil (text st y)))
+      joined-anywhere (text st y) p 0 0 ∙ ap documentText (sym (append-nil (text st y)))
       ∙ text-stored (number st) y [] (Holds-kind (number st) (omega (arith, number-small st))) (Holds-size (length y) h)
       ∙ append-nil y
 
@@ -410,7 +411,7 @@ module _ (st : Style) (x : List ℕ) (v : utf8 x ≡ true) where
       (λ after f j. subst (λ (w : List ℕ). Keeps s w (p + 1) n after left) i (written-keeps s (p + 1) n after left j f (omega arith))))) k
 
   pub after-write : (room : List ℕ) (n : ℕ) (new : List ℕ) → writes room n st x ≡ gives new → After (take n room) new (λ stack. stack) x
-  unfolding writes openBlocks textOf
+  unfolding writes openBlocks documentText
   after-write room n new e =
       let m = made room n (λ doc _. if utf8 x then fit room (written st x 0 doc) else refused 5 0) new e in
       let f = if-gives (utf8 x) _ _ _ new (m .result) in
@@ -420,5 +421,5 @@ module _ (st : Style) (x : List ℕ) (v : utf8 x ≡ true) where
         stack = m .stack;
         before = m .opened;
         opened = ap openBlocks (g .0) ∙ k .0;
-        says = ap textOf (g .0) ∙ k .1;
+        says = ap documentText (g .0) ∙ k .1;
       }

@@ -20,7 +20,7 @@ use Rattle.records.specs.declared.Head.{Head}
 use Rattle.records.proofs.Tokens.{nextAt}
 use Rattle.records.proofs.Reading.{read-token}
 use Rattle.document.proofs.Walks.{Sane, Allowed, openAfter, Accepted-at, open-fits, open-whole, open-sane-here, open-allowed, open-next, open-done}
-use Rattle.buffer_doc.specs.Parts.{countAfter, Nests}
+use Rattle.buffer_doc.specs.InnerParts.{countAfter, Nests}
 use Rattle.document.proofs.Refusals.{reads-some}
 
 -- A stack on another

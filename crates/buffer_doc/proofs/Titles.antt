@@ -29,7 +29,7 @@ use Rattle.records.specs.declared.Head.{Head}
 use Rattle.records.proofs.Reading.{read-token}
 use Rattle.document.proofs.Walks.{Accepted-at, accepted-at-0, check-gives, open-whole, open-sane-here, open-next}
 use Rattle.buffer.specs.Builder.{isText, firstLine, emphasised}
-use Rattle.buffer_doc.specs.Parts.{section, Nests, Lines, titled}
+use Rattle.buffer_doc.specs.InnerParts.{section, Nests, Lines, titled}
 use Rattle.buffer.proofs.Pasting.{length-head, length-stored}
 use Rattle.buffer.proofs.Records.{reads-text}
 use Rattle.buffer.proofs.Written.{text-sane, text-after}

@@ -8,24 +8,26 @@ ghost use lib.ListN.{length, drop};
 ghost use Rattle.base.specs.Result.{gives, measured};
 ghost use Rattle.utf8.specs.Utf8.{utf8};
 ghost use Rattle.splitter.specs.Split.{line};
-ghost use Rattle.document.specs.Document.{check, reads};
+ghost use Rattle.document.specs.Document.{check, reads, maxBytes, maxOpen};
 ghost use Rattle.records.specs.Stored.{text, start};
 ghost use Rattle.records.specs.declared.Style.the-variants as style;
 ghost use Rattle.records.specs.declared.Block.the-variants as block;
 ghost use Rattle.buffer.specs.Builder.{emphasised, addsAs, addsDoc, addsEmDoc};
 ghost use Rattle.buffer.specs.Answers.{builtAs, kept, Of01};
 ghost use Rattle.base.specs.Bytes.{pasted};
-ghost use Rattle.buffer.specs.Parts.{Accepted};
-ghost use Rattle.buffer_doc.specs.Parts.{countAfter, section, titled, Nests, Ready, Lines, Adds, Joins, madeOf};
+ghost use Rattle.buffer.specs.InnerParts.{Accepted};
+ghost use Rattle.buffer_doc.specs.InnerParts.{countAfter, section, titled, Nests, Ready, Lines, Adds, Joins, madeOf};
 use buffer::Built;
 use document::Checked;
+use document::MAX_BYTES;
+use document::MAX_OPEN;
 use records::Kind;
 use records::Style;
 use refusal::Refusal;
 
 // How many blocks are open after a record.
 fn counted(kind: Kind, count: usize) -> usize
-    requires { ⌜ count ≤ 32 ⌝ }
+    requires { ⌜ count ≤ maxOpen ⌝ }
     ensures { λ r. ⌜ r ≡ countAfter kind count ⌝ }
 {
     match kind {
@@ -43,7 +45,7 @@ fn counted(kind: Kind, count: usize) -> usize
 
 // Where the first record from `from` on stands that starts a block with 32 open, if `depth` are open before; else the document's length.
 fn too_deep(document: &[u8], from: usize, depth: usize) -> usize
-    requires { ⌜ (reads from 0 [] (drop from (now document)) ≡ gives []) × (from ≤ length (now document)) × (depth ≤ 32) ⌝ }
+    requires { ⌜ (reads from 0 [] (drop from (now document)) ≡ gives []) × (from ≤ length (now document)) × (depth ≤ maxOpen) ⌝ }
     ensures { λ r. ⌜ Nests (now (document .entry)) from depth r ⌝ }
 {
     let mut count = depth;
@@ -52,7 +54,7 @@ fn too_deep(document: &[u8], from: usize, depth: usize) -> usize
         let h = records::record_at(document, at);
         let kind = h.kind;
         count = counted(kind, count);
-        if 32 < count {
+        if MAX_OPEN < count {
             return at;
         }
         at = h.next;
@@ -65,7 +67,7 @@ fn put_doc(room: &mut [u8], len: usize, depth: usize, added: &[u8]) -> Built
     requires { ⌜ Ready (now room) len depth × (check (now added) ≡ gives []) ⌝ }
     ensures { λ r. ⌜ Adds (now (added .entry)) len depth (now (room .entry)) (now (room .exit)) r ⌝ }
 {
-    if 32 <= depth {
+    if MAX_OPEN <= depth {
         return Built::Refused(Refusal::TooDeep(len));
     }
     let deep = too_deep(added, 0, depth + 1);
@@ -107,10 +109,10 @@ fn put_title(room: &mut [u8], at: usize, title: &[u8])
 
 // A text without `\n` as Emphasis in InlineBlock.
 fn put_line(room: &mut [u8], len: usize, depth: usize, body: &[u8]) -> Built
-    requires { ⌜ Ready (now room) len depth × (length (now body) ≤ 32768) × (utf8 (now body) ≡ true) ⌝ }
+    requires { ⌜ Ready (now room) len depth × (length (now body) ≤ maxBytes) × (utf8 (now body) ≡ true) ⌝ }
     ensures { λ r. ⌜ Adds (text style.Emphasis (now (body .entry))) len depth (now (room .entry)) (now (room .exit)) r ⌝ }
 {
-    if 32 <= depth {
+    if MAX_OPEN <= depth {
         return Built::Refused(Refusal::TooDeep(len));
     }
     if !buffer::has_room(room, len + 18, body.len()) {
@@ -145,7 +147,7 @@ fn put_lines(
     requires { ⌜ Ready (now room) len depth × Lines (now added) line next ⌝ }
     ensures { λ r. ⌜ Adds (titled (now (added .entry)) line next) len depth (now (room .entry)) (now (room .exit)) r ⌝ }
 {
-    if 32 <= depth {
+    if MAX_OPEN <= depth {
         return Built::Refused(Refusal::TooDeep(len));
     }
     if 31 <= depth {
@@ -190,10 +192,10 @@ pub fn add(room: &mut [u8], len: usize, depth: usize, added: &[u8], em: bool) ->
     if room.len() < len {
         return Built::Refused(Refusal::NoRoom);
     }
-    if 32768 < len {
+    if MAX_BYTES < len {
         return Built::Refused(Refusal::NoRoom);
     }
-    if 32 < depth {
+    if MAX_OPEN < depth {
         return Built::Refused(Refusal::NoRoom);
     }
     let verdict = document::check(added);

@@ -15,7 +15,7 @@ use Rattle.base.specs.Result.{Result, gives, refused, measured}
 use Rattle.base.proofs.Results.{gives-same, refused-gives}
 use Rattle.refusal.specs.Numbers.{refusalNumber, refusalPlace}
 use Rattle.refusal.specs.declared.Refusal.{Refusal}
-use Rattle.compared.specs.Compared.{holds, isRefusal, isVerdict, isRendered, isAnswer}
+use Rattle.compared.specs.InnerCompared.{holds, isRefusal, isVerdict, isRendered, isAnswer}
 
 module _ (a : Refusal) (number place n p : ℕ) (is-number : n ≡ refusalNumber a) (is-place : p ≡ refusalPlace a) where
   pub refusal-other : (n ≡ number → ⊥) → false ≡ isRefusal a number place

@@ -11,7 +11,7 @@ use native.Mathlib.Numerals.{add-one}
 use native.Mathlib.Omega.{arith}
 use borrow.Author.Tests.{eqb-true, eq-eqb, ne-eqb}
 use Rattle.base.proofs.Choice.{and-left, and-right, and-both, le-or-lt}
-use Rattle.compared.specs.Compared.{same}
+use Rattle.compared.specs.InnerCompared.{same}
 
 -- a second test that fails, or that succeeds
 

@@ -10,7 +10,7 @@ use lib.Seq.{take-suc-set, getD-at}
 use native.Mathlib.Numerals.{add-one}
 use native.Mathlib.Omega.{arith}
 use Rattle.base.proofs.Choice.{le-or-lt}
-use Rattle.compared.specs.Compared.{same, filledBy, holdsBy}
+use Rattle.compared.specs.InnerCompared.{same, filledBy, holdsBy}
 use Rattle.compared.proofs.Comparing.{and-no, and-yes, same-next, same-other, same-end}
 
 -- a byte within a text, whatever stands for those past its end

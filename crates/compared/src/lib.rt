@@ -1,7 +1,7 @@
 // An answer beside the one that a list says, for the programs that compare.
 ghost use mathlib.Core.Path.{_≡_};
 ghost use lib.ListN.{getD};
-ghost use Rattle.compared.specs.Compared.{holds, isRefusal, isVerdict, isRendered};
+ghost use Rattle.compared.specs.InnerCompared.{holds, isRefusal, isVerdict, isRendered};
 use document::Checked;
 use refusal::Refusal;
 use renderer::Rendered;

@@ -12,7 +12,7 @@ use Rattle.base.specs.Result.{Result, gives, refused, _>>=_}
 use Rattle.base.specs.Stack.{top}
 use Rattle.base.proofs.Choice.{if-true, if-false, le-or-lt}
 use Rattle.base.proofs.Results.{bind-assoc, bind-end, bind-same}
-use Rattle.records.specs.Records.{tokens, tokensFrom, fits}
+use Rattle.records.specs.Records.{tokens, tokensFrom, recordFits}
 use Rattle.document.specs.Document.{check}
 use Rattle.records.specs.Answers.{Read}
 use Rattle.refusal.specs.Numbers.{refusalNumber, refusalPlace}
@@ -39,15 +39,15 @@ use Rattle.renderer.proofs.Leads.{chunksThen, body-chunk, body-last, body-end}
 use Rattle.console_rules.specs.Console.{State, initial, blankLay, emptyBlock, gapAhead, started, ended, measureOf, bodyChunk, turn, finish, textBy}
 use Rattle.console_rules.specs.declared.Settings.{Settings}
 use Rattle.console_rules.specs.declared.Lay.{Lay}
-use Rattle.console_chunks.specs.Shown.{held, told, Fits, Near, Nearby}
-use Rattle.console_blocks.specs.Depth.{Shallow, Startable, Moved}
+use Rattle.console_chunks.specs.InnerShown.{stateAt, stateAfter, Fits64, Near, Nearby}
+use Rattle.console_blocks.specs.InnerDepth.{Shallow, Startable, Moved}
 use Rattle.console_chunks.specs.declared.Placed.{Placed}
 use Rattle.console_chunks.specs.declared.Placed.the-variants as placed
 use Rattle.console_chunks.specs.declared.Mark.{Mark}
-use Rattle.console_tabstop.specs.Ahead.{Looked}
+use Rattle.console_tabstop.specs.InnerAhead.{Looked}
 use Rattle.console_blocks.proofs.Margins.{top-shallow, shallow-on}
 use Rattle.console_blocks.proofs.Blocks.{gap-asked}
-use Rattle.console_words.specs.Onward.{onward, Moves}
+use Rattle.console_words.specs.InnerAdvance.{consoleFrom, Moves}
 use Rattle.console.specs.Answers.{textAfter, Stands}
 
 module _ (document : List ℕ) (set : Settings) (tab limit : ℕ) where
@@ -75,7 +75,7 @@ module _ (document : List ℕ) (set : Settings) (tab limit : ℕ) where
   pub record Standing (room margins : List ℕ) (count : ℕ) (m : Mark) (at : ℕ) : Type 0 where
     pub size : length room ≡ limit
     pub slots : length margins ≡ 32
-    pub leads : Leads whole (rest at) (held room (take count margins) m)
+    pub leads : Leads whole (rest at) (stateAt room (take count margins) m)
     pub deep : Deep-at [] document at count
     pub near : at ≤ length document
     pub column : m .lay .column .0 ≤ 2_033_000 * at
@@ -85,25 +85,25 @@ module _ (document : List ℕ) (set : Settings) (tab limit : ℕ) where
   module _ (room margins : List ℕ) (count : ℕ) (m : Mark) (at : ℕ) (w : Standing room margins count m at) where
     -- a text that is longer than the room
     pub stand-over : length room < m .len .0 → whole ≡ refused 13 0
-    stand-over h = leads-out whole (rest at) (held room (take count margins) m) (w .leads) 13 0 (shown-out room (m .len .0) (take count margins) (m .lay) h)
+    stand-over h = leads-out whole (rest at) (stateAt room (take count margins) m) (w .leads) 13 0 (shown-out room (m .len .0) (take count margins) (m .lay) h)
 
     -- nothing is left but the end
-    pub stand-done : length document ≤ at → Leads whole ending (held room (take count margins) m)
+    pub stand-done : length document ≤ at → Leads whole ending (stateAt room (take count margins) m)
     unfolding _>>=_
     stand-done l =
-        leads-on whole (rest at) (held room (take count margins) m) (w .leads) gives ending (held room (take count margins) m)
+        leads-on whole (rest at) (stateAt room (take count margins) m) (w .leads) gives ending (stateAt room (take count margins) m)
         (λ s. ap (λ (x : Result State). x >>= ending) (walk-end (turn (measureOf set) set limit tab) document at l s))
-        (sym (bind-end (held room (take count margins) m)))
+        (sym (bind-end (stateAt room (take count margins) m)))
 
     -- there are no more margins than slots, and the numbers are far below what a number holds
     pub stand-count : count ≤ length margins
     stand-count = omega (arith, deep-bound (w .deep), w .slots)
 
-    pub stand-column : length document ≤ 32_768 → Fits (m .lay .column .0 + 1)
+    pub stand-column : length document ≤ 32_768 → Fits64 (m .lay .column .0 + 1)
     stand-column few = omega (arith, w .column, w .near)
 
     -- the record that was read without a look at the document's end: it lies whole there
-    pub stand-read : (h : Head) → at < length document → (fits (drop at document) ≡ true → Read document at h) → Read document at h
+    pub stand-read : (h : Head) → at < length document → (recordFits (drop at document) ≡ true → Read document at h) → Read document at h
     stand-read h l r = r (fits-here (w .deep .here) l)
 
     module _ (h : Head) (r : Read document at h) (l : at < length document) where
@@ -127,26 +127,26 @@ module _ (document : List ℕ) (set : Settings) (tab limit : ℕ) where
 
       -- the gap ahead of a Section4 is that of the place where it was found
       gap-found : (b : Block) (ahead : ℕ) → Looked document (h .next) b ahead
-          → (held room (take count margins) m >>= started (length room) tab b (emptyBlock (tokensFrom document ahead)))
-          ≡ (held room (take count margins) m >>= started (length room) tab b (gapAhead (tokensFrom document (h .next))))
+          → (stateAt room (take count margins) m >>= started (length room) tab b (emptyBlock (tokensFrom document ahead)))
+          ≡ (stateAt room (take count margins) m >>= started (length room) tab b (gapAhead (tokensFrom document (h .next))))
       gap-found b ahead look =
-          bind-same (held room (take count margins) m) _ _ (λ s. gap-asked (length room) tab b _ _ s (λ z. sym (look .here z .gap)))
+          bind-same (stateAt room (take count margins) m) _ _ (λ s. gap-asked (length room) tab b _ _ s (λ z. sym (look .here z .gap)))
 
       -- the start and the end of a block
       pub stand-started : (b : Block) (ahead : ℕ) → Looked document (h .next) b ahead → (room′ margins′ : List ℕ) (count′ : ℕ) (m′ : Mark)
           → h .kind ≡ kind.Start b → length room′ ≡ length room → length margins′ ≡ length margins
-          → held room′ (take count′ margins′) m′
-          ≡ (held room (take count margins) m >>= started (length room) tab b (emptyBlock (tokensFrom document ahead))) → count′ ≤ count + 1
+          → stateAt room′ (take count′ margins′) m′
+          ≡ (stateAt room (take count margins) m >>= started (length room) tab b (emptyBlock (tokensFrom document ahead))) → count′ ≤ count + 1
           → Moved (m .lay) (m′ .lay) → ((n : ℕ) → Shallow n margins → Shallow (n + (tab + 4)) margins′) → tab ≤ 28
           → Standing room′ margins′ count′ m′ (h .next)
       unfolding turn
       stand-started b ahead look room′ margins′ count′ m′ e f g q c d deeper low = record {
         size = f ∙ w .size;
         slots = g ∙ w .slots;
-        leads = leads-on whole (rest at) (held room (take count margins) m) (w .leads) (turned (turn (measureOf set) set limit tab) document at h)
-            (rest (h .next)) (held room′ (take count′ margins′) m′) (rest-record at h r l)
+        leads = leads-on whole (rest at) (stateAt room (take count margins) m) (w .leads) (turned (turn (measureOf set) set limit tab) document at h)
+            (rest (h .next)) (stateAt room′ (take count′ margins′) m′) (rest-record at h r l)
             (rw e (q ∙ gap-found b ahead look
-            ∙ ap (λ (n : ℕ). held room (take count margins) m >>= started n tab b (gapAhead (tokensFrom document (h .next)))) (w .size)));
+            ∙ ap (λ (n : ℕ). stateAt room (take count margins) m >>= started n tab b (gapAhead (tokensFrom document (h .next)))) (w .size)));
         deep = deep-less count′ c (deep-start (w .deep) r l e .1);
         near = r .high;
         column = omega (arith, d .column, w .column, next-far);
@@ -155,15 +155,15 @@ module _ (document : List ℕ) (set : Settings) (tab limit : ℕ) where
       }
 
       pub stand-ended : (b : Block) (room′ : List ℕ) (count′ : ℕ) (m′ : Mark) → h .kind ≡ kind.End b → length room′ ≡ length room
-          → held room′ (take count′ margins) m′ ≡ (held room (take count margins) m >>= ended (length room) b)
+          → stateAt room′ (take count′ margins) m′ ≡ (stateAt room (take count margins) m >>= ended (length room) b)
           → count′ ≡ count - 1 → Moved (m .lay) (m′ .lay) → Standing room′ margins count′ m′ (h .next)
       unfolding turn
       stand-ended b room′ count′ m′ e f q c d = record {
         size = f ∙ w .size;
         slots = w .slots;
-        leads = leads-on whole (rest at) (held room (take count margins) m) (w .leads) (turned (turn (measureOf set) set limit tab) document at h)
-            (rest (h .next)) (held room′ (take count′ margins) m′) (rest-record at h r l)
-            (rw e (q ∙ ap (λ (n : ℕ). held room (take count margins) m >>= ended n b) (w .size)));
+        leads = leads-on whole (rest at) (stateAt room (take count margins) m) (w .leads) (turned (turn (measureOf set) set limit tab) document at h)
+            (rest (h .next)) (stateAt room′ (take count′ margins) m′) (rest-record at h r l)
+            (rw e (q ∙ ap (λ (n : ℕ). stateAt room (take count margins) m >>= ended n b) (w .size)));
         deep = deep-less count′ (omega arith) (deep-end (w .deep) r l e);
         near = r .high;
         column = omega (arith, d .column, w .column, next-far);
@@ -189,7 +189,7 @@ module _ (document : List ℕ) (set : Settings) (tab limit : ℕ) where
 
       -- text that is not: its chunks are left, and then the next record
       pub stand-text : (st : Style) (margin : ℕ) → h .kind ≡ kind.Text st → m .lay .skip ≤ 0 → margin ≡ top (take count margins)
-          → Leads whole (chunksRest margin (h .start) (h .next) (placedFrom (part document (h .start) (h .stop)) first)) (held room (take count margins) m)
+          → Leads whole (chunksRest margin (h .start) (h .next) (placedFrom (part document (h .start) (h .stop)) first)) (stateAt room (take count margins) m)
       unfolding turn
       stand-text st margin e k g =
           leads-shown room (m .len .0) (take count margins) (m .lay) whole (rest at)
@@ -204,33 +204,34 @@ module _ (document : List ℕ) (set : Settings) (tab limit : ℕ) where
   -- Before a chunk of a body that starts at `start` and ends at `next`. The six bytes before a body pay for the column of its last step.
   pub record Writing (x : List ℕ) (margin start next : ℕ) (kept room : List ℕ) (m : Mark) (c : Cursor) : Type 0 where
     pub size : length room ≡ limit
-    pub leads : Leads whole (chunksRest margin start next (placedFrom x c)) (held room kept m)
+    pub leads : Leads whole (chunksRest margin start next (placedFrom x c)) (stateAt room kept m)
     pub column : m .lay .column .0 + 6 * 2_033_000 ≤ 2_033_000 * (start + c .at)
     pub skip : m .lay .skip ≤ 1
     pub short : c .at ≤ length x + 1
 
   module _ (x : List ℕ) (margin start next : ℕ) (kept room : List ℕ) (m : Mark) (c : Cursor) (w : Writing x margin start next kept room m c) where
     -- no chunk is left
-    pub write-end : placedFrom x c ≡ [] → Leads whole (rest next) (held room kept m)
+    pub write-end : placedFrom x c ≡ [] → Leads whole (rest next) (stateAt room kept m)
     unfolding _>>=_
     write-end e =
-        leads-on whole (chunksRest margin start next (placedFrom x c)) (held room kept m) (w .leads) gives (rest next) (held room kept m)
-        (λ s. body-end (set .full) (bodyChunk (measureOf set) set limit margin start) (rest next) (placedFrom x c) e s) (sym (bind-end (held room kept m)))
+        leads-on whole (chunksRest margin start next (placedFrom x c)) (stateAt room kept m) (w .leads) gives (rest next) (stateAt room kept m)
+        (λ s. body-end (set .full) (bodyChunk (measureOf set) set limit margin start) (rest next) (placedFrom x c) e s) (sym (bind-end (stateAt room kept m)))
 
     -- words followed on their line
     pub write-words : (room′ : List ℕ) (m′ : Mark) (at′ : ℕ) → length room′ ≡ length room → Moves set margin x (c .code) room m (c .at) room′ m′ at′
         → Writing x margin start next kept room′ m′ (cursor at′ (c .code))
     write-words room′ m′ at′ f v =
         let some = body (set .full) (bodyChunk (measureOf set) set limit margin start) in
-        let same : (held room′ kept m′ >>= some (placedFrom x (cursor at′ (c .code)))) ≡ (held room kept m >>= some (placedFrom x c)) =
+        let same : (stateAt room′ kept m′ >>= some (placedFrom x (cursor at′ (c .code)))) ≡ (stateAt room kept m >>= some (placedFrom x c)) =
         subst (λ (n : ℕ).
-        (held room′ kept m′ >>= onward set n margin start x at′ (c .code)) ≡ (held room kept m >>= onward set n margin start x (c .at) (c .code)))
+        (stateAt room′ kept m′ >>= consoleFrom set n margin start x at′ (c .code))
+        ≡ (stateAt room kept m >>= consoleFrom set n margin start x (c .at) (c .code)))
         (w .size) (v .same start kept) in
         record {
           size = f ∙ w .size;
-          leads = bind-assoc (held room′ kept m′) (some (placedFrom x (cursor at′ (c .code)))) (rest next)
+          leads = bind-assoc (stateAt room′ kept m′) (some (placedFrom x (cursor at′ (c .code)))) (rest next)
               ∙ ap (λ (r : Result State). r >>= rest next) same
-              ∙ sym (bind-assoc (held room kept m) (some (placedFrom x c)) (rest next))
+              ∙ sym (bind-assoc (stateAt room kept m) (some (placedFrom x c)) (rest next))
               ∙ w .leads;
           column = omega (arith, v .near, v .order, w .column);
           skip = omega (arith, v .skip, w .skip);
@@ -239,27 +240,27 @@ module _ (document : List ℕ) (set : Settings) (tab limit : ℕ) where
 
     module _ (p : Piece) (d : Cursor) (t : Took x c p d) where
       -- a chunk was refused by 10
-      pub write-deep : (q : ℕ) → refused 10 q ≡ (held room kept m >>= bodyChunk (measureOf set) set limit margin start (placedOf x p))
+      pub write-deep : (q : ℕ) → refused 10 q ≡ (stateAt room kept m >>= bodyChunk (measureOf set) set limit margin start (placedOf x p))
           → (b : Bool) → b ≡ last (set .full) (chunkOf x p) → whole ≡ refused 10 q
       write-deep q e true f =
-          leads-refused whole (chunksRest margin start next (placedFrom x c)) (held room kept m) (w .leads)
+          leads-refused whole (chunksRest margin start next (placedFrom x c)) (stateAt room kept m) (w .leads)
           (bodyChunk (measureOf set) set limit margin start (placedOf x p)) (rest next) 10 q
           (body-last (set .full) (bodyChunk (measureOf set) set limit margin start) (rest next) (placedOf x p) (placedFrom x c) (placedFrom x d)
           (t .chunks) (sym f)) (sym e)
       write-deep q e false f =
-          leads-refused whole (chunksRest margin start next (placedFrom x c)) (held room kept m) (w .leads)
+          leads-refused whole (chunksRest margin start next (placedFrom x c)) (stateAt room kept m) (w .leads)
           (bodyChunk (measureOf set) set limit margin start (placedOf x p)) (chunksRest margin start next (placedFrom x d)) 10 q
           (body-chunk (set .full) (bodyChunk (measureOf set) set limit margin start) (rest next) (placedOf x p) (placedFrom x c) (placedFrom x d)
           (t .chunks) (sym f)) (sym e)
 
       module _ (room′ : List ℕ) (m′ : Mark) (f : length room′ ≡ length room)
-          (e : held room′ kept m′ ≡ (held room kept m >>= bodyChunk (measureOf set) set limit margin start (placedOf x p)))
+          (e : stateAt room′ kept m′ ≡ (stateAt room kept m >>= bodyChunk (measureOf set) set limit margin start (placedOf x p)))
           (near : Near (margin + 1_032_771) (m .lay) (m′ .lay)) where
         -- a chunk that ends the walk of its body
-        pub write-last : last (set .full) (chunkOf x p) ≡ true → Leads whole (rest next) (held room′ kept m′)
+        pub write-last : last (set .full) (chunkOf x p) ≡ true → Leads whole (rest next) (stateAt room′ kept m′)
         write-last g =
-            leads-on whole (chunksRest margin start next (placedFrom x c)) (held room kept m) (w .leads)
-            (bodyChunk (measureOf set) set limit margin start (placedOf x p)) (rest next) (held room′ kept m′)
+            leads-on whole (chunksRest margin start next (placedFrom x c)) (stateAt room kept m) (w .leads)
+            (bodyChunk (measureOf set) set limit margin start (placedOf x p)) (rest next) (stateAt room′ kept m′)
             (body-last (set .full) (bodyChunk (measureOf set) set limit margin start) (rest next) (placedOf x p) (placedFrom x c) (placedFrom x d)
             (t .chunks) g) e
 
@@ -267,8 +268,8 @@ module _ (document : List ℕ) (set : Settings) (tab limit : ℕ) where
         pub write-on : last (set .full) (chunkOf x p) ≡ false → margin ≤ 1_000_000 → Writing x margin start next kept room′ m′ d
         write-on g low = record {
           size = f ∙ w .size;
-          leads = leads-on whole (chunksRest margin start next (placedFrom x c)) (held room kept m) (w .leads)
-              (bodyChunk (measureOf set) set limit margin start (placedOf x p)) (chunksRest margin start next (placedFrom x d)) (held room′ kept m′)
+          leads = leads-on whole (chunksRest margin start next (placedFrom x c)) (stateAt room kept m) (w .leads)
+              (bodyChunk (measureOf set) set limit margin start (placedOf x p)) (chunksRest margin start next (placedFrom x d)) (stateAt room′ kept m′)
               (body-chunk (set .full) (bodyChunk (measureOf set) set limit margin start) (rest next) (placedOf x p) (placedFrom x c) (placedFrom x d)
               (t .chunks) g) e;
           column = omega (arith, near .0, w .column, t .further);
@@ -298,7 +299,7 @@ pub stand-first : (document : List ℕ) (set : Settings) (tab : ℕ) (room margi
 stand-first document set tab room margins m e f s z y = record {
   size = refl;
   slots = f;
-  leads = leads-start (rest document set tab (length room) 0) (held room [] m) initial (rw (z, y) (shown-in room 0 [] blankLay (omega arith)));
+  leads = leads-start (rest document set tab (length room) 0) (stateAt room [] m) initial (rw (z, y) (shown-in room 0 [] blankLay (omega arith)));
   deep = deep-from 0 (accepted-at-0 document [] e) (omega arith);
   near = omega arith;
   column = rw y (omega arith);
@@ -320,7 +321,7 @@ module _ (document : List ℕ) (set : Settings) (tab limit : ℕ) where
       → Standing document set tab limit room margins count m at → length document ≤ at → Stands room′ r (textAfter room (take count margins) m)
       → Stands room′ r (textBy (measureOf set) set limit tab (tokens 0 0 document))
   stands-done room room′ margins count m at r w l s = record {
-    same = s .same ∙ ap (λ (n : ℕ). held room (take count margins) m >>= ending document set tab n) (w .size)
+    same = s .same ∙ ap (λ (n : ℕ). stateAt room (take count margins) m >>= ending document set tab n) (w .size)
         ∙ stand-done document set tab limit room margins count m at w l
         ∙ text-whole;
     fits = s .fits;
@@ -354,12 +355,12 @@ module _ (document : List ℕ) (set : Settings) (tab limit : ℕ) (room margins 
 
   -- the walk of the body is over; in the code the room's length stands for the limit
   stand-after : (room′ : List ℕ) (m′ : Mark) → length room′ ≡ length room
-      → Leads (whole document set tab (length room)) (rest document set tab (length room) (h .next)) (held room′ (take count margins) m′)
+      → Leads (whole document set tab (length room)) (rest document set tab (length room) (h .next)) (stateAt room′ (take count margins) m′)
       → m′ .lay .column .0 ≤ 2_033_000 * h .next → m′ .lay .skip ≤ 1 → Standing document set tab limit room′ margins count m′ (h .next)
   stand-after room′ m′ f q c k = record {
     size = f ∙ w .size;
     slots = w .slots;
-    leads = subst (λ (n : ℕ). Leads (whole document set tab n) (rest document set tab n (h .next)) (held room′ (take count margins) m′)) (w .size) q;
+    leads = subst (λ (n : ℕ). Leads (whole document set tab n) (rest document set tab n (h .next)) (stateAt room′ (take count margins) m′)) (w .size) q;
     deep = deep-text (w .deep) r l e;
     near = r .high;
     column = c;
@@ -383,12 +384,12 @@ module _ (document : List ℕ) (set : Settings) (tab limit : ℕ) (room margins 
         (omega (arith, v .column, v .short, far)) (v .skip)
 
     module _ (p : Piece) (d : Cursor) (t : Took Body c p d) (room″ : List ℕ) (m″ : Mark) (f : length room″ ≡ length room′)
-        (q : held room″ (take count margins) m″
-        ≡ (held room′ (take count margins) m′ >>= bodyChunk (measureOf set) set (length room′) margin (h .start) (placedOf Body p)))
+        (q : stateAt room″ (take count margins) m″
+        ≡ (stateAt room′ (take count margins) m′ >>= bodyChunk (measureOf set) set (length room′) margin (h .start) (placedOf Body p)))
         (near : Near (margin + 1_032_771) (m′ .lay) (m″ .lay)) where
-      here : held room″ (take count margins) m″
-          ≡ (held room′ (take count margins) m′ >>= bodyChunk (measureOf set) set (length room) margin (h .start) (placedOf Body p))
-      here = q ∙ ap (λ (n : ℕ). held room′ (take count margins) m′ >>= bodyChunk (measureOf set) set n margin (h .start) (placedOf Body p)) (v .size)
+      here : stateAt room″ (take count margins) m″
+          ≡ (stateAt room′ (take count margins) m′ >>= bodyChunk (measureOf set) set (length room) margin (h .start) (placedOf Body p))
+      here = q ∙ ap (λ (n : ℕ). stateAt room′ (take count margins) m′ >>= bodyChunk (measureOf set) set n margin (h .start) (placedOf Body p)) (v .size)
 
       -- a paragraph with `full` off ends the walk of its body
       pub body-stop : last (set .full) (chunkOf Body p) ≡ true → Standing document set tab limit room″ margins count m″ (h .next)
@@ -406,18 +407,19 @@ module _ (document : List ℕ) (set : Settings) (tab limit : ℕ) (room margins 
 
     -- a chunk was refused by 10
     pub body-deep : (p : Piece) (d : Cursor) → Took Body c p d → (q : ℕ)
-        → refused 10 q ≡ (held room′ (take count margins) m′ >>= bodyChunk (measureOf set) set (length room′) margin (h .start) (placedOf Body p))
+        → refused 10 q ≡ (stateAt room′ (take count margins) m′ >>= bodyChunk (measureOf set) set (length room′) margin (h .start) (placedOf Body p))
         → whole document set tab limit ≡ refused 10 q
     body-deep p d t q f =
         ap (whole document set tab) (sym (w .size))
         ∙ write-deep document set tab (length room) Body margin (h .start) (h .next) (take count margins) room′ m′ c v p d t q
-        (f ∙ ap (λ (n : ℕ). held room′ (take count margins) m′ >>= bodyChunk (measureOf set) set n margin (h .start) (placedOf Body p)) (v .size))
+        (f ∙ ap (λ (n : ℕ). stateAt room′ (take count margins) m′ >>= bodyChunk (measureOf set) set n margin (h .start) (placedOf Body p)) (v .size))
         (last (set .full) (chunkOf Body p)) refl
 
 -- The last line end: what stands then, and the answer
-module _ (room room′ kept : List ℕ) (m m′ : Mark) (e : held room′ kept m′ ≡ (held room kept m >>= finish (length room))) (f : length room′ ≡ length room) where
-  finished : (held room′ kept m′ >>= λ t. gives (t .out)) ≡ textAfter room kept m
-  finished = ap (λ (x : Result State). x >>= λ t. gives (t .out)) e ∙ sym (bind-assoc (held room kept m) (finish (length room)) (λ t. gives (t .out)))
+module _ (room room′ kept : List ℕ) (m m′ : Mark) (e : stateAt room′ kept m′ ≡ (stateAt room kept m >>= finish (length room)))
+    (f : length room′ ≡ length room) where
+  finished : (stateAt room′ kept m′ >>= λ t. gives (t .out)) ≡ textAfter room kept m
+  finished = ap (λ (x : Result State). x >>= λ t. gives (t .out)) e ∙ sym (bind-assoc (stateAt room kept m) (finish (length room)) (λ t. gives (t .out)))
 
   pub finish-over : length room′ < m′ .len .0 → Stands room′ (rendered.Refused refusal.NoRoom) (textAfter room kept m)
   unfolding _>>=_
@@ -435,10 +437,10 @@ module _ (room room′ kept : List ℕ) (m m′ : Mark) (e : held room′ kept m
 
 -- what a placed chunk leaves, by its answer
 module _ (room kept : List ℕ) (r : Placed) (x : Result State) where
-  pub placed-deep : (p : ℕ) → r ≡ placed.Deep p → told room kept r ≡ x → refused 10 p ≡ x
+  pub placed-deep : (p : ℕ) → r ≡ placed.Deep p → stateAfter room kept r ≡ x → refused 10 p ≡ x
   placed-deep p e f = rw e at f
 
-  pub placed-at : (m : Mark) → r ≡ placed.At m → told room kept r ≡ x → held room kept m ≡ x
+  pub placed-at : (m : Mark) → r ≡ placed.At m → stateAfter room kept r ≡ x → stateAt room kept m ≡ x
   placed-at m e f = rw e at f
 
 pub nearby-at : (n : ℕ) (old : Lay) (r : Placed) (m : Mark) → r ≡ placed.At m → Nearby n old r → Near n old (m .lay)

@@ -13,12 +13,12 @@ use Rattle.renderer.specs.declared.Rendered.{Rendered}
 use Rattle.console_rules.specs.Console.{finish, console}
 use Rattle.console_rules.specs.declared.Settings.{Settings}
 use Rattle.console_rules.specs.declared.Measure.the-variants as measure
-use Rattle.console_chunks.specs.Shown.{held}
+use Rattle.console_chunks.specs.InnerShown.{stateAt}
 use Rattle.console_chunks.specs.declared.Mark.{Mark}
 
 -- what is left to do after the last record with what stands in a room
 abbrev pub textAfter : List ℕ → List ℕ → Mark → Result (List ℕ)
-textAfter room kept m = held room kept m >>= λ s. finish (length room) s >>= λ t. gives (t .out)
+textAfter room kept m = stateAt room kept m >>= λ s. finish (length room) s >>= λ t. gives (t .out)
 
 -- `Doc::monochrome` 'only fixes the width at 100'; it counts bytes
 abbrev pub wide : Bool → Settings

@@ -6,20 +6,23 @@ ghost use lib.ListN.{length};
 ghost use Rattle.base.specs.Result.{gives, measured, _>>=_ as bind};
 ghost use Rattle.splitter.specs.Answers.{placedOf, PieceWithin};
 ghost use Rattle.records.specs.Records.{tokens};
-ghost use Rattle.document.specs.Document.{check};
+ghost use Rattle.document.specs.Document.{check, maxBytes};
 ghost use Rattle.renderer.specs.Rendered.{answered, filled};
-ghost use Rattle.console_rules.specs.Console.{blankLay, measureOf, bodyChunk, textBy, console};
-ghost use Rattle.console_chunks.specs.Shown.{held, told, Nearby};
-ghost use Rattle.console_chunks.specs.Pieces.{textOr};
+ghost use Rattle.console_rules.specs.Console.{blankLay, measureOf, bodyChunk, textBy, console, maxTab};
+ghost use Rattle.console_chunks.specs.InnerShown.{stateAt, stateAfter, Nearby};
+ghost use Rattle.console_chunks.specs.InnerPieces.{textOr};
 ghost use Rattle.console.specs.Answers.{textAfter, Stands, Demand3, wide};
 use console_chunks::Mark;
 use console_chunks::Placed;
 use console_rules::Bytes;
 use console_rules::Columns;
 use console_rules::Lay;
+use console_rules::MAX_WIDTH;
 use console_rules::Measure;
 use console_rules::Settings;
 use document::Checked;
+use document::MAX_BYTES;
+use document::MAX_OPEN;
 use records::Kind;
 use refusal::Refusal;
 use renderer::Rendered;
@@ -61,10 +64,10 @@ pub fn render_console(document: &[u8], set: Settings, room: &mut [u8]) -> Render
 fn rendered(document: &[u8], set: Settings, room: &mut [u8]) -> Rendered
     ensures { λ r. ⌜ Stands (now (room .exit)) r (console set (length (now (room .entry))) (now (document .entry))) ⌝ }
 {
-    if 32_768 < document.len() {
+    if MAX_BYTES < document.len() {
         return Rendered::Refused(Refusal::TooLong);
     }
-    if 10_000 < set.width {
+    if MAX_WIDTH < set.width {
         return Rendered::Refused(Refusal::TooWide);
     }
     let verdict = document::check(document);
@@ -129,8 +132,8 @@ fn put_piece(
     piece: Piece,
     set: Settings,
 ) -> Placed
-    requires { ⌜ (m .lay .column .0 ≤ 2 ^ 50) × (margin .0 ≤ 2 ^ 50) × (length (now body) ≤ 32_768) × (start ≤ 32_768) × PieceWithin (length (now body)) piece ⌝ }
-    ensures { λ r. ⌜ ((kept : List ℕ) → told (now (room .exit)) kept r ≡ bind (held (now (room .entry)) kept m) (bodyChunk (measureOf set) set (length (now (room .entry))) (margin .0) start (placedOf (now (body .entry)) piece))) ⌝ }
+    requires { ⌜ (m .lay .column .0 ≤ 2 ^ 50) × (margin .0 ≤ 2 ^ 50) × (length (now body) ≤ maxBytes) × (start ≤ maxBytes) × PieceWithin (length (now body)) piece ⌝ }
+    ensures { λ r. ⌜ ((kept : List ℕ) → stateAfter (now (room .exit)) kept r ≡ bind (stateAt (now (room .entry)) kept m) (bodyChunk (measureOf set) set (length (now (room .entry))) (margin .0) start (placedOf (now (body .entry)) piece))) ⌝ }
     ensures near { λ r. ⌜ Nearby (margin .0 + 1_032_771) (m .lay) r ⌝ }
 {
     if console_chunks::is_text(piece) {
@@ -149,10 +152,10 @@ fn put_piece(
 
 // The walk over the records of an accepted document.
 fn walk(document: &[u8], set: Settings, tab: Columns, room: &mut [u8]) -> Rendered
-    requires { ⌜ (length (now document) ≤ 32_768) × (tab .0 ≤ 28) × (check (now document) ≡ gives []) ⌝ }
+    requires { ⌜ (length (now document) ≤ maxBytes) × (tab .0 ≤ maxTab + 4) × (check (now document) ≡ gives []) ⌝ }
     ensures { λ r. ⌜ Stands (now (room .exit)) r (textBy (measureOf set) set (length (now (room .entry))) (tab .0) (tokens 0 0 (now (document .entry)))) ⌝ }
 {
-    let mut margins: [usize; 32] = [0; 32];
+    let mut margins: [usize; MAX_OPEN] = [0; MAX_OPEN];
     let mut count: usize = 0;
     let mut m = first_mark();
     let mut ahead: usize = 0;

@@ -20,13 +20,13 @@ use Rattle.renderer.specs.Walk.{withOut, withKept, withLay, write, shown}
 use Rattle.skip.specs.Counter.{skipStart}
 use Rattle.skip.specs.Answers as counter
 use Rattle.base.proofs.Results.{bind-end, bind-same}
-use Rattle.skip.proofs.Counter.{held-fits, skip-start-most}
+use Rattle.skip.proofs.Counter.{new-fits, skip-start-most}
 use Rattle.renderer.proofs.Shown.{shown-changed}
-use Rattle.console_rules.specs.Console.{State, column, blankLine, gap, tick, outdent, started, ended}
+use Rattle.console_rules.specs.Console.{State, withColumn, withBlank, withGap, tick, outdent, started, ended}
 use Rattle.console_rules.specs.declared.Lay.{Lay}
 use Rattle.console_chunks.specs.declared.Mark.{Mark}
-use Rattle.console_chunks.specs.Shown.{held, Fits}
-use Rattle.console_blocks.specs.Blocks.{tickIf, startLay, endLay, pushes, startMore, startMargins, endMargins}
+use Rattle.console_chunks.specs.InnerShown.{stateAt, Fits64}
+use Rattle.console_blocks.specs.InnerBlocks.{tickIf, startLay, endLay, pushes, startMore, startMargins, endMargins}
 use Rattle.console_chunks.proofs.Pages.{bind-two}
 
 -- flags and margins change, each by itself
@@ -39,7 +39,7 @@ module _ (limit : ℕ) where
   tick-popped s = go (extended limit (0x60 ∷ []) (s .out))
     where
       ticked : State → List ℕ → Result State
-      ticked t y = gives (withOut y (withLay (λ l. column (l .column .0 + 1) l) t))
+      ticked t y = gives (withOut y (withLay (λ l. withColumn (l .column .0 + 1) l) t))
 
       go : (r : Result (List ℕ)) → (r >>= ticked (outdent limit s)) ≡ (r >>= ticked s >>= λ t. gives (outdent limit t))
       go (gives y) = refl
@@ -74,8 +74,8 @@ module _ (limit : ℕ) where
   ended-by block.DefinitionList s = refl
   ended-by block.Block s = go (s .lay .passing)
     where
-      go : (t : Bool) → _≡_ {A = Result State} (gives (outdent limit (if t then withLay (gap false false) s else withLay blankLine s)))
-          (gives (beside (λ l. if t then gap false false l else blankLine l) popped s))
+      go : (t : Bool) → _≡_ {A = Result State} (gives (outdent limit (if t then withLay (withGap false false) s else withLay withBlank s)))
+          (gives (beside (λ l. if t then withGap false false l else withBlank l) popped s))
       go true = refl
       go false = refl
   ended-by block.InlineBlock s = refl
@@ -102,22 +102,22 @@ module _ (limit : ℕ) where
 -- the three parts, put together
 block-done : (room room′ kept kept′ : List ℕ) (m a : Mark) (lay′ : Lay) (i limit : ℕ) (f : Lay → Lay) (k : List ℕ → List ℕ) (rule : State → Result State)
     → ((s : State) → rule s ≡ (tickIf limit i s >>= λ t. gives (beside f k t)))
-    → held room′ kept a ≡ (held room kept m >>= tickIf limit i) → lay′ ≡ f (a .lay) → kept′ ≡ k kept
-    → shown room′ (a .len .0) kept′ lay′ ≡ (held room kept m >>= rule)
+    → stateAt room′ kept a ≡ (stateAt room kept m >>= tickIf limit i) → lay′ ≡ f (a .lay) → kept′ ≡ k kept
+    → shown room′ (a .len .0) kept′ lay′ ≡ (stateAt room kept m >>= rule)
 block-done room room′ kept kept′ m a lay′ i limit f k rule is e l n =
-    bind-two (held room kept m) (held room′ kept a) (shown room′ (a .len .0) kept′ lay′) (tickIf limit i) (λ t. gives (beside f k t)) e
+    bind-two (stateAt room kept m) (stateAt room′ kept a) (shown room′ (a .len .0) kept′ lay′) (tickIf limit i) (λ t. gives (beside f k t)) e
     (shown-changed (beside f k) kept kept′ (a .lay) lay′ (λ x. rw (l, n)) room′ (a .len .0))
-    ∙ bind-same (held room kept m) _ rule (λ s. sym (is s))
+    ∙ bind-same (stateAt room kept m) _ rule (λ s. sym (is s))
 
 module _ (room room′ kept kept′ : List ℕ) (m a : Mark) (lay′ : Lay) (b : Block) (limit i : ℕ) (at : i ≡ index b)
-    (ticked : held room′ kept a ≡ (held room kept m >>= tickIf limit i)) where
+    (ticked : stateAt room′ kept a ≡ (stateAt room kept m >>= tickIf limit i)) where
   pub start-done : (tab : ℕ) (g h : Bool) → (i ≡ 3 → g ≡ h) → lay′ ≡ startLay i g (a .lay) → kept′ ≡ startMargins tab i g kept
-      → shown room′ (a .len .0) kept′ lay′ ≡ (held room kept m >>= started limit tab b h)
+      → shown room′ (a .len .0) kept′ lay′ ≡ (stateAt room kept m >>= started limit tab b h)
   start-done tab g h e l n =
       block-done room room′ kept kept′ m a lay′ i limit (startLay i g) (startMargins tab i g) (started limit tab b h)
       (λ s. gap-asked limit tab b h g s (λ z. sym (e (at ∙ z))) ∙ rw at (started-by limit tab b g s)) ticked l n
 
-  pub end-done : lay′ ≡ endLay i (a .lay) → kept′ ≡ endMargins i kept → shown room′ (a .len .0) kept′ lay′ ≡ (held room kept m >>= ended limit b)
+  pub end-done : lay′ ≡ endLay i (a .lay) → kept′ ≡ endMargins i kept → shown room′ (a .len .0) kept′ lay′ ≡ (stateAt room kept m >>= ended limit b)
   end-done l n = block-done room room′ kept kept′ m a lay′ i limit (endLay i) (endMargins i) (ended limit b) (λ s. rw at (ended-by limit b s)) ticked l n
 
 -- The parts by the tests that the code makes
@@ -153,10 +153,10 @@ unfolding endMargins
 pop-one i count n margins h e = rw e (pop-take margins count h)
 
 -- the skip counter, where the code can hold it, and a bound where it cannot
-module _ (n k : ℕ) (e : k ≡ counter.held n (skipStart block.InlineBlock n)) where
-  pub skip-fits : Fits (n + 1) → k ≡ skipStart block.InlineBlock n
-  skip-fits h = e ∙ held-fits n (skipStart block.InlineBlock n) (omega (arith, skip-start-most block.InlineBlock n))
+module _ (n k : ℕ) (e : k ≡ counter.newIfFits n (skipStart block.InlineBlock n)) where
+  pub skip-fits : Fits64 (n + 1) → k ≡ skipStart block.InlineBlock n
+  skip-fits h = e ∙ new-fits n (skipStart block.InlineBlock n) (omega (arith, skip-start-most block.InlineBlock n))
 
   pub skip-most : k ≤ n + 1
-  unfolding counter.held
+  unfolding counter.newIfFits
   skip-most = rw e (pick (λ (x : ℕ). x ≤ n + 1) _ (λ _. skip-start-most block.InlineBlock n) (λ _. omega arith))

@@ -9,7 +9,7 @@ use lib.Seq.{take-all, getD-take, getD-set-same, getD-set-other}
 use Rattle.base.specs.Stack.{top, pushed}
 use Rattle.base.proofs.Choice.{le-or-lt, eq-or-not}
 use Rattle.base.proofs.Stack.{push-take, top-take}
-use Rattle.console_blocks.specs.Depth.{Shallow}
+use Rattle.console_blocks.specs.InnerDepth.{Shallow}
 
 module _ (margins : List ℕ) (count n : ℕ) (least : n ≡ min count (length margins)) where
   take-least : take count margins ≡ take n margins

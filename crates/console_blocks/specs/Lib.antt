@@ -1,2 +1,2 @@
-pub mod Depth
-pub mod Blocks
+pub mod InnerDepth
+pub mod InnerBlocks

@@ -7,10 +7,10 @@ ghost use lib.ListN.{length, take};
 ghost use Rattle.base.specs.Result.{_>>=_ as bind};
 ghost use Rattle.base.specs.Stack.{top, pushed};
 ghost use Rattle.records.specs.Records.{tokensFrom};
-ghost use Rattle.console_rules.specs.Console.{emptyBlock, column, skip, put, tick, started as startedBy, ended as endedBy};
-ghost use Rattle.console_chunks.specs.Shown.{held, Fits};
-ghost use Rattle.console_blocks.specs.Depth.{Shallow, Startable, Moved};
-ghost use Rattle.console_blocks.specs.Blocks.{tickIf, startLay, endLay, pushes, startMore};
+ghost use Rattle.console_rules.specs.Console.{emptyBlock, withColumn, withSkip, put, tick, started as startedBy, ended as endedBy};
+ghost use Rattle.console_chunks.specs.InnerShown.{stateAt, Fits64};
+ghost use Rattle.console_blocks.specs.InnerDepth.{Shallow, Startable, Moved};
+ghost use Rattle.console_blocks.specs.InnerBlocks.{tickIf, startLay, endLay, pushes, startMore};
 use console_chunks::Mark;
 use console_rules::Bytes;
 use console_rules::Columns;
@@ -37,7 +37,7 @@ pub fn top_margin(margins: &[usize], count: usize) -> Columns
 
 // A margin inside the innermost one, where there is a slot for it.
 fn indent_by(margins: &mut [usize], count: usize, more: Columns) -> usize
-    ensures { λ r. ⌜ (count < length (now (margins .entry)) → Fits (top (take count (now (margins .entry))) + more .0) → take r (now (margins .exit)) ≡ pushed (top (take count (now (margins .entry))) + more .0) (take count (now (margins .entry)))) ⌝ }
+    ensures { λ r. ⌜ (count < length (now (margins .entry)) → Fits64 (top (take count (now (margins .entry))) + more .0) → take r (now (margins .exit)) ≡ pushed (top (take count (now (margins .entry))) + more .0) (take count (now (margins .entry)))) ⌝ }
     ensures counts { λ r. ⌜ r ≤ count + 1 ⌝ }
     ensures deeper { λ _. ⌜ ((n : ℕ) → Shallow n (now (margins .entry)) → Shallow (n + more .0) (now (margins .exit))) ⌝ }
 {
@@ -52,7 +52,7 @@ fn indent_by(margins: &mut [usize], count: usize, more: Columns) -> usize
 
 // A backtick, at once.
 fn put_tick(room: &mut [u8], m: Mark) -> Mark
-    ensures { λ r. ⌜ (Fits (m .lay .column .0 + 1) → (kept : List ℕ) → held (now (room .exit)) kept r ≡ bind (held (now (room .entry)) kept m) (tick (length (now (room .entry))))) ⌝ }
+    ensures { λ r. ⌜ (Fits64 (m .lay .column .0 + 1) → (kept : List ℕ) → stateAt (now (room .exit)) kept r ≡ bind (stateAt (now (room .entry)) kept m) (tick (length (now (room .entry))))) ⌝ }
     ensures moved { λ r. ⌜ (r .lay .column .0 ≤ m .lay .column .0 + 1) × (r .lay .skip ≡ m .lay .skip) ⌝ }
 {
     let len = Bytes(room::put(room, m.len.0, b'`'));
@@ -63,7 +63,7 @@ fn put_tick(room: &mut [u8], m: Mark) -> Mark
 
 // A backtick at the block with the index of TermRef.
 fn tick_if(room: &mut [u8], m: Mark, i: usize) -> Mark
-    ensures { λ r. ⌜ (Fits (m .lay .column .0 + 1) → (kept : List ℕ) → held (now (room .exit)) kept r ≡ bind (held (now (room .entry)) kept m) (tickIf (length (now (room .entry))) i)) ⌝ }
+    ensures { λ r. ⌜ (Fits64 (m .lay .column .0 + 1) → (kept : List ℕ) → stateAt (now (room .exit)) kept r ≡ bind (stateAt (now (room .entry)) kept m) (tickIf (length (now (room .entry))) i)) ⌝ }
     ensures moved { λ r. ⌜ (r .lay .column .0 ≤ m .lay .column .0 + 1) × (r .lay .skip ≡ m .lay .skip) ⌝ }
 {
     if i == 9 {
@@ -74,7 +74,7 @@ fn tick_if(room: &mut [u8], m: Mark, i: usize) -> Mark
 
 // What the start of the block with an index changes beside text and margins; `g` says whether an adjacent gap lies ahead.
 fn start_lay(l: Lay, i: usize, g: bool) -> Lay
-    ensures { λ r. ⌜ (Fits (l .skip + 1) → r ≡ startLay i g l) ⌝ }
+    ensures { λ r. ⌜ (Fits64 (l .skip + 1) → r ≡ startLay i g l) ⌝ }
     ensures moved { λ r. ⌜ (r .column .0 ≡ l .column .0) × (r .skip ≤ l .skip + 1) ⌝ }
 {
     let mut r = l;
@@ -131,7 +131,7 @@ fn end_lay(l: Lay, i: usize) -> Lay
 
 // How far the start of the block with an index indents.
 fn start_more(tab: Columns, i: usize, g: bool) -> Columns
-    ensures { λ r. ⌜ (Fits (tab .0 + 2) → r .0 ≡ startMore (tab .0) i g) ⌝ }
+    ensures { λ r. ⌜ (Fits64 (tab .0 + 2) → r .0 ≡ startMore (tab .0) i g) ⌝ }
     ensures most { λ r. ⌜ r .0 ≤ tab .0 + 4 ⌝ }
 {
     if i == 2 {
@@ -184,7 +184,7 @@ pub fn started(
     document: &[u8],
     ahead: usize,
 ) -> Stand
-    ensures { λ r. ⌜ (Startable (now (margins .entry)) count (m .lay) (tab .0) → held (now (room .exit)) (take (r .count) (now (margins .exit))) (r .mark) ≡ bind (held (now (room .entry)) (take count (now (margins .entry))) m) (startedBy (length (now (room .entry))) (tab .0) b (emptyBlock (tokensFrom (now (document .entry)) ahead)))) ⌝ }
+    ensures { λ r. ⌜ (Startable (now (margins .entry)) count (m .lay) (tab .0) → stateAt (now (room .exit)) (take (r .count) (now (margins .exit))) (r .mark) ≡ bind (stateAt (now (room .entry)) (take count (now (margins .entry))) m) (startedBy (length (now (room .entry))) (tab .0) b (emptyBlock (tokensFrom (now (document .entry)) ahead)))) ⌝ }
     ensures counts { λ r. ⌜ r .count ≤ count + 1 ⌝ }
     ensures moved { λ r. ⌜ Moved (m .lay) (r .mark .lay) ⌝ }
     ensures deeper { λ _. ⌜ ((n : ℕ) → Shallow n (now (margins .entry)) → Shallow (n + (tab .0 + 4)) (now (margins .exit))) ⌝ }
@@ -205,7 +205,7 @@ pub fn started(
 // The end of a block: 'every end pops one if there is one', so the margins themselves stay and only their number falls. It asks of the column
 // what the start asks.
 pub fn ended(room: &mut [u8], m: Mark, count: usize, b: Block) -> Stand
-    ensures { λ r. ⌜ (Fits (m .lay .column .0 + 1) → (margins : List ℕ) → count ≤ length margins → held (now (room .exit)) (take (r .count) margins) (r .mark) ≡ bind (held (now (room .entry)) (take count margins) m) (endedBy (length (now (room .entry))) b)) ⌝ }
+    ensures { λ r. ⌜ (Fits64 (m .lay .column .0 + 1) → (margins : List ℕ) → count ≤ length margins → stateAt (now (room .exit)) (take (r .count) margins) (r .mark) ≡ bind (stateAt (now (room .entry)) (take count margins) m) (endedBy (length (now (room .entry))) b)) ⌝ }
     ensures counts { λ r. ⌜ r .count ≡ count - 1 ⌝ }
     ensures moved { λ r. ⌜ Moved (m .lay) (r .mark .lay) ⌝ }
 {

@@ -22,7 +22,7 @@ use Rattle.records.specs.declared.Kind.the-variants as kind
 use Rattle.splitter.specs.Split.{Chunk, raw, paragraph, lineBreak, Placed, split}
 use Rattle.room.specs.Room.{extended}
 use Rattle.renderer.specs.Walk.{withOut, withLay, write, last, walk, body}
-use Rattle.console_rules.specs.Console.{State, column, initial, lineEnd, dueLine, dueBlank, gap2, place, missing, reach, pad, put, fold}
+use Rattle.console_rules.specs.Console.{State, withColumn, initial, lineEnd, dueLine, dueBlank, padGutter, place, missing, reach, pad, put, fold}
 use Rattle.console_rules.specs.Console.{tick, outdent, started, ended, gapAhead, tabstop, rawChunk, chunk, bodyChunk, turn, finish}
 use Rattle.console_rules.specs.Console.{consoleOn, consoleBy, measureOf, console}
 use Rattle.console_rules.specs.declared.Settings.{Settings}
@@ -57,7 +57,7 @@ module _ (room limit : ℕ) where
 
   lineEnd-fits : (k : ℕ) (s : State) → Left (1 + k) s → Fits Ample (Left k) (lineEnd room s)
   unfolding lineEnd
-  lineEnd-fits k s h = write-fits (0x0A ∷ []) 1 k (withLay (column 0) s) (omega arith) h
+  lineEnd-fits k s h = write-fits (0x0A ∷ []) 1 k (withLay (withColumn 0) s) (omega arith) h
 
   dueLine-fits : (k : ℕ) (s : State) → Left (1 + k) s → Fits Ample (Left k) (dueLine room s)
   unfolding dueLine
@@ -68,9 +68,9 @@ module _ (room limit : ℕ) where
   dueBlank-fits k s h = pick (Fits Ample (Left k)) _ (λ _. write-fits (0x0A ∷ []) 1 k s (omega arith) h) (λ _. given (omega arith))
 
   -- with n columns written, what they leave of 50 is enough for the gap
-  gap2-fits : (n k : ℕ) (s : State) → Left (50 - n + k) s → Fits Ample (Left k) (gap2 room n s)
-  unfolding gap2
-  gap2-fits n k s h =
+  pad-gutter-fits : (n k : ℕ) (s : State) → Left (50 - n + k) s → Fits Ample (Left k) (padGutter room n s)
+  unfolding padGutter
+  pad-gutter-fits n k s h =
       pick (Fits Ample (Left k)) _ (λ _. spaces-fit (2 - n) (50 - n) k _ (omega arith) h) (λ _. given (omega arith))
 
   place-fits : (y : List ℕ) (w k : ℕ) (s : State) → Left (length y + k) s → Fits Ample (Left k) (place room y w s)
@@ -92,7 +92,7 @@ module _ (room limit : ℕ) where
     unfolding put
     put-fits p y w k s h =
         fits-bind Ample (Left (50 - missing room margin s + (length y + k))) _ _ _ (pad-fits p (length y + k) s h) λ s₁ h₁.
-        fits-bind Ample (Left (length y + k)) _ _ _ (gap2-fits _ (length y + k) s₁ h₁) λ s₂ h₂.
+        fits-bind Ample (Left (length y + k)) _ _ _ (pad-gutter-fits _ (length y + k) s₁ h₁) λ s₂ h₂.
         place-fits y w k s₂ h₂
 
     -- a trim makes no text longer
@@ -106,7 +106,7 @@ module _ (room limit : ℕ) where
   -- a backtick
   tick-fits : (k : ℕ) (s : State) → Left (1 + k) s → Fits Ample (Left k) (tick room s)
   unfolding tick
-  tick-fits k s h = write-fits (0x60 ∷ []) 1 k (withLay (λ l. column (l .column .0 + 1) l) s) (omega arith) h
+  tick-fits k s h = write-fits (0x60 ∷ []) 1 k (withLay (λ l. withColumn (l .column .0 + 1) l) s) (omega arith) h
 
   started-fits : (tab : ℕ) (b : Block) (g : Bool) (k : ℕ) (s : State) → Left (ref (kind.Start b) + k) s → Fits Ample (Left k) (started room tab b g s)
   unfolding if_then_else_ started ref

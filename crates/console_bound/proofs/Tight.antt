@@ -10,7 +10,7 @@ use Rattle.base.specs.Result.{Result, gives, refused, measured, _>>=_}
 use Rattle.base.specs.Stack.{top, pushed, popped}
 use Rattle.utf8.specs.Utf8.{table, rowOf}
 use Rattle.white.specs.White.{whites, white, blank, trim}
-use Rattle.records.specs.Records.{little, styles, blocks, kindOf, size, tokenAt, tokens, fits, joined}
+use Rattle.records.specs.Records.{little, styles, blocks, kindOf, size, tokenAt, tokens, recordFits, joined}
 use Rattle.records.specs.Stored.{littleBytes, stored, text, start, end, around}
 use Rattle.records.specs.declared.Block.the-variants as block
 use Rattle.records.specs.declared.Style.the-variants as style
@@ -50,7 +50,7 @@ pub bounds-hold : (roomBound [] ≡ gives 1)
     × (roomBound near ≡ gives 57)
     × (roomBound deep ≡ gives 55)
     × (roomBound (end block.Header) ≡ refused 6 0)
-unfolding if_then_else_ _>>=_ top pushed popped table rowOf little styles blocks kindOf size tokenAt tokens fits joined opens closes bodiless accept
+unfolding if_then_else_ _>>=_ top pushed popped table rowOf little styles blocks kindOf size tokenAt tokens recordFits joined opens closes bodiless accept
     first reads openBlocks short closed check littleBytes stored text start end around ref refs boundOn bound roomBound
 bounds-hold = (refl, refl, refl, refl, refl, refl, refl)
 
@@ -61,8 +61,8 @@ Needs56 m = (con.console (wide m) 55 near ≡ refused 13 0) × (measured (con.co
 -- so 52 times the bytes would not do, in either measure
 pub near-needs : Needs56 measure.Bytes × Needs56 measure.Characters
 unfolding if_then_else_ startsWith endsWith _>>=_ top pushed popped table rowOf whites white blank trim little styles blocks kindOf size tokenAt
-    tokens fits opens closes bodiless accept first reads openBlocks short closed check littleBytes stored text start end around before afterLineEnd
+    tokens recordFits opens closes bodiless accept first reads openBlocks short closed check littleBytes stored text start end around before afterLineEnd
     ticked step placed split isSpace extended write empty skipStart skipEnd walk body con.termStart con.termEnd con.term con.terms con.tabstop
-    con.emptyBlock con.gapAhead con.lineEnd con.dueLine con.dueBlank con.gap2 con.place con.reach con.pad con.put con.fold con.tick con.started
+    con.emptyBlock con.gapAhead con.lineEnd con.dueLine con.dueBlank con.padGutter con.place con.reach con.pad con.put con.fold con.tick con.started
     con.ended con.rawChunk con.chunk con.turn con.finish con.narrow con.consoleBy con.console
 near-needs = ((refl, refl), (refl, refl))

@@ -4,6 +4,7 @@ ghost use Prim.Native.Nat.{_≤_};
 ghost use lib.ListN.{length};
 ghost use Rattle.console_bound.specs.Bound.{ref, bound, roomBound};
 ghost use Rattle.console_bound.specs.Answers.{lent, Enough};
+ghost use Rattle.document.specs.Document.{maxBytes};
 use document::Checked;
 use records::Kind;
 use refusal::Refusal;
@@ -29,7 +30,7 @@ fn ref_of(k: Kind) -> usize
 
 // The bound, counted in one pass over the records of a document that is not too long.
 fn bound_of(document: &[u8]) -> usize
-    requires { ⌜ length (now document) ≤ 32_768 ⌝ }
+    requires { ⌜ length (now document) ≤ maxBytes ⌝ }
     ensures { λ r. ⌜ r ≡ bound (now (document .entry)) ⌝ }
 {
     let mut bytes: usize = 0;

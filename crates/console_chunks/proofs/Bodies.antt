@@ -14,11 +14,11 @@ use Rattle.splitter.specs.Split.{Chunk, raw, paragraph, lineBreak}
 use Rattle.splitter.specs.Answers.{chunkOf, placeOf, PieceWithin}
 use Rattle.splitter.specs.declared.Piece.{Piece}
 use Rattle.splitter.specs.declared.Piece.the-variants.{Raw, Space, Paragraph, LineBreak}
-use Rattle.console_rules.specs.Console.{State, skip, lineEnd, rawChunk, chunk, finish}
+use Rattle.console_rules.specs.Console.{State, withSkip, lineEnd, rawChunk, chunk, finish}
 use Rattle.console_rules.specs.declared.Settings.{Settings}
 use Rattle.console_chunks.specs.declared.Mark.{Mark}
-use Rattle.console_chunks.specs.Shown.{held}
-use Rattle.console_chunks.specs.Pieces.{isText, textOr, widthOf}
+use Rattle.console_chunks.specs.InnerShown.{stateAt}
+use Rattle.console_chunks.specs.InnerPieces.{isText, textOr, widthOf}
 use Rattle.console_chunks.proofs.Pages.{bind-two}
 
 -- a paragraph, and what becomes of the skip counter
@@ -28,16 +28,16 @@ module _ (measure : List ℕ → ℕ) (set : Settings) (limit margin at : ℕ) (
   paragraph-full e =
       ended ∙ bind-same x (lineEnd limit) _ (λ s. sym (bind-same (lineEnd limit s) _ gives (λ t. ap gives (if-true _ _ e)) ∙ bind-end (lineEnd limit s)))
 
-  pub paragraph-short : (r′ : Result State) → set .full ≡ false → r′ ≡ (r >>= λ t. gives (withLay (skip 1) t))
+  pub paragraph-short : (r′ : Result State) → set .full ≡ false → r′ ≡ (r >>= λ t. gives (withLay (withSkip 1) t))
       → r′ ≡ (x >>= chunk measure set limit margin at paragraph)
   unfolding chunk
   paragraph-short r′ e f =
-      bind-two x r r′ (lineEnd limit) (λ t. gives (withLay (skip 1) t)) ended f
+      bind-two x r r′ (lineEnd limit) (λ t. gives (withLay (withSkip 1) t)) ended f
       ∙ bind-same x _ _ (λ s. bind-same (lineEnd limit s) _ _ (λ t. ap gives (sym (if-false _ _ e))))
 
-pub skipped : (room kept : List ℕ) (m m′ : Mark) → m′ .len .0 ≡ m .len .0 → m′ .lay ≡ skip 1 (m .lay)
-    → held room kept m′ ≡ (held room kept m >>= λ t. gives (withLay (skip 1) t))
-skipped room kept m m′ e f = rw (e, f) (shown-changed (withLay (skip 1)) kept kept (m .lay) (skip 1 (m .lay)) (λ x. refl) room (m .len .0))
+pub skipped : (room kept : List ℕ) (m m′ : Mark) → m′ .len .0 ≡ m .len .0 → m′ .lay ≡ withSkip 1 (m .lay)
+    → stateAt room kept m′ ≡ (stateAt room kept m >>= λ t. gives (withLay (withSkip 1) t))
+skipped room kept m m′ e f = rw (e, f) (shown-changed (withLay (withSkip 1)) kept kept (m .lay) (withSkip 1 (m .lay)) (λ x. refl) room (m .len .0))
 
 -- the other chunks
 module _ (measure : List ℕ → ℕ) (set : Settings) (limit margin at : ℕ) (x r : Result State) (c : Chunk) where
@@ -77,10 +77,10 @@ module _ (body : List ℕ) where
 -- the last line end
 module _ (room kept : List ℕ) (m : Mark) where
   pub last-due : (m .lay .newline || m .lay .blank) ≡ true
-      → (held room kept m >>= write (length room) (0x0A ∷ [])) ≡ (held room kept m >>= finish (length room))
+      → (stateAt room kept m >>= write (length room) (0x0A ∷ [])) ≡ (stateAt room kept m >>= finish (length room))
   unfolding finish
   last-due e = shown-then room (m .len .0) kept (m .lay) _ _ (λ x. sym (if-true _ _ e))
 
-  pub last-none : (m .lay .newline || m .lay .blank) ≡ false → held room kept m ≡ (held room kept m >>= finish (length room))
+  pub last-none : (m .lay .newline || m .lay .blank) ≡ false → stateAt room kept m ≡ (stateAt room kept m >>= finish (length room))
   unfolding finish
-  last-none e = sym (bind-end (held room kept m)) ∙ shown-then room (m .len .0) kept (m .lay) gives _ (λ x. sym (if-false _ _ e))
+  last-none e = sym (bind-end (stateAt room kept m)) ∙ shown-then room (m .len .0) kept (m .lay) gives _ (λ x. sym (if-false _ _ e))

@@ -1,2 +1,2 @@
-pub mod Shown
-pub mod Pieces
+pub mod InnerShown
+pub mod InnerPieces

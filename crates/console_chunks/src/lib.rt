@@ -10,12 +10,14 @@ ghost use Rattle.splitter.specs.Split.{paragraph};
 ghost use Rattle.splitter.specs.Answers.{chunkOf, PieceWithin};
 ghost use Rattle.renderer.specs.Walk.{withOut};
 ghost use Rattle.splitter.specs.Split.{isSpace};
-ghost use Rattle.console_rules.specs.Console.{measureOf, folds, column, skip, lineEnd, dueLine, dueBlank, reach, gap2, place, put, rawChunk, chunk, finish};
-ghost use Rattle.console_chunks.specs.Shown.{held, told, Fits, Near, Nearby};
-ghost use Rattle.console_chunks.specs.Pieces.{isText, textOr, widthOf};
+ghost use Rattle.console_rules.specs.Console.{measureOf, folds, withColumn, withSkip, lineEnd, dueLine, dueBlank, reach, padGutter, place, put, rawChunk, chunk, finish};
+ghost use Rattle.console_chunks.specs.InnerShown.{stateAt, stateAfter, Fits64, Near, Nearby};
+ghost use Rattle.console_chunks.specs.InnerPieces.{isText, textOr, widthOf};
 use console_rules::Bytes;
 use console_rules::Columns;
 use console_rules::Lay;
+use console_rules::MAX_MISSING;
+use console_rules::MAX_TABSTOP;
 use console_rules::Measure;
 use console_rules::Settings;
 use splitter::Piece;
@@ -43,7 +45,7 @@ fn either(a: bool, b: bool) -> bool
 }
 
 pub fn at_column(lay: Lay, n: Columns) -> Lay
-    ensures { λ r. ⌜ r ≡ column (n .0) lay ⌝ }
+    ensures { λ r. ⌜ r ≡ withColumn (n .0) lay ⌝ }
 {
     Lay {
         column: n,
@@ -60,7 +62,7 @@ pub fn at_column(lay: Lay, n: Columns) -> Lay
 
 // A line end, at once.
 fn line_end(room: &mut [u8], m: Mark) -> Mark
-    ensures { λ r. ⌜ ((kept : List ℕ) → held (now (room .exit)) kept r ≡ bind (held (now (room .entry)) kept m) (lineEnd (length (now (room .entry))))) ⌝ }
+    ensures { λ r. ⌜ ((kept : List ℕ) → stateAt (now (room .exit)) kept r ≡ bind (stateAt (now (room .entry)) kept m) (lineEnd (length (now (room .entry))))) ⌝ }
     ensures near { λ r. ⌜ Near 0 (m .lay) (r .lay) ⌝ }
 {
     let len = Bytes(room::put(room, m.len.0, b'\n'));
@@ -70,7 +72,7 @@ fn line_end(room: &mut [u8], m: Mark) -> Mark
 
 // A line end that is due.
 fn due_line(room: &mut [u8], m: Mark) -> Mark
-    ensures { λ r. ⌜ ((kept : List ℕ) → held (now (room .exit)) kept r ≡ bind (held (now (room .entry)) kept m) (dueLine (length (now (room .entry))))) ⌝ }
+    ensures { λ r. ⌜ ((kept : List ℕ) → stateAt (now (room .exit)) kept r ≡ bind (stateAt (now (room .entry)) kept m) (dueLine (length (now (room .entry))))) ⌝ }
     ensures near { λ r. ⌜ Near 0 (m .lay) (r .lay) ⌝ }
 {
     let lay = m.lay;
@@ -84,7 +86,7 @@ fn due_line(room: &mut [u8], m: Mark) -> Mark
 
 // A blank line that is due.
 fn due_blank(room: &mut [u8], m: Mark) -> Mark
-    ensures { λ r. ⌜ ((kept : List ℕ) → held (now (room .exit)) kept r ≡ bind (held (now (room .entry)) kept m) (dueBlank (length (now (room .entry))))) ⌝ }
+    ensures { λ r. ⌜ ((kept : List ℕ) → stateAt (now (room .exit)) kept r ≡ bind (stateAt (now (room .entry)) kept m) (dueBlank (length (now (room .entry))))) ⌝ }
     ensures near { λ r. ⌜ Near 0 (m .lay) (r .lay) ⌝ }
 {
     let lay = m.lay;
@@ -114,7 +116,7 @@ fn missing_to(margin: Columns, column: Columns) -> Columns
 
 // Spaces up to a margin.
 fn reach_margin(room: &mut [u8], m: Mark, margin: Columns) -> Mark
-    ensures { λ r. ⌜ ((kept : List ℕ) → held (now (room .exit)) kept r ≡ bind (held (now (room .entry)) kept m) (reach (length (now (room .entry))) (margin .0))) ⌝ }
+    ensures { λ r. ⌜ ((kept : List ℕ) → stateAt (now (room .exit)) kept r ≡ bind (stateAt (now (room .entry)) kept m) (reach (length (now (room .entry))) (margin .0))) ⌝ }
     ensures near { λ r. ⌜ Near (margin .0) (m .lay) (r .lay) ⌝ }
 {
     let lay = m.lay;
@@ -125,14 +127,14 @@ fn reach_margin(room: &mut [u8], m: Mark, margin: Columns) -> Mark
 }
 
 // At least two columns before an item's body that starts at column 28, the widest tabstop, or past it.
-fn gap_two(room: &mut [u8], m: Mark, padded: Columns) -> Mark
-    ensures { λ r. ⌜ (Fits (m .lay .column .0 + 2) → (kept : List ℕ) → held (now (room .exit)) kept r ≡ bind (held (now (room .entry)) kept m) (gap2 (length (now (room .entry))) (padded .0))) ⌝ }
+fn pad_gutter(room: &mut [u8], m: Mark, padded: Columns) -> Mark
+    ensures { λ r. ⌜ (Fits64 (m .lay .column .0 + 2) → (kept : List ℕ) → stateAt (now (room .exit)) kept r ≡ bind (stateAt (now (room .entry)) kept m) (padGutter (length (now (room .entry))) (padded .0))) ⌝ }
     ensures near { λ r. ⌜ Near 2 (m .lay) (r .lay) ⌝ }
 {
     let lay = m.lay;
     let column = lay.column.0;
     if lay.gutter {
-        if 28 <= column {
+        if MAX_TABSTOP <= column {
             if padded.0 < 2 {
                 let more = 2 - padded.0;
                 let len = Bytes(room::put_spaces(room, m.len.0, more));
@@ -146,7 +148,7 @@ fn gap_two(room: &mut [u8], m: Mark, padded: Columns) -> Mark
 
 // A chunk where the text stands.
 fn place_here(room: &mut [u8], m: Mark, text: &[u8], width: Columns) -> Mark
-    ensures { λ r. ⌜ (Fits (m .lay .column .0 + width .0) → (kept : List ℕ) → held (now (room .exit)) kept r ≡ bind (held (now (room .entry)) kept m) (place (length (now (room .entry))) (now (text .entry)) (width .0))) ⌝ }
+    ensures { λ r. ⌜ (Fits64 (m .lay .column .0 + width .0) → (kept : List ℕ) → stateAt (now (room .exit)) kept r ≡ bind (stateAt (now (room .entry)) kept m) (place (length (now (room .entry))) (now (text .entry)) (width .0))) ⌝ }
     ensures near { λ r. ⌜ Near (width .0) (m .lay) (r .lay) ⌝ }
 {
     let len = Bytes(room::put_all(room, m.len.0, text));
@@ -175,25 +177,25 @@ fn put_chunk(
     text: &[u8],
     width: Columns,
 ) -> Placed
-    ensures { λ r. ⌜ (Fits (m .lay .column .0 + (margin .0 + width .0 + 2)) → (kept : List ℕ) → told (now (room .exit)) kept r ≡ bind (held (now (room .entry)) kept m) (put (length (now (room .entry))) (margin .0) at (now (text .entry)) (width .0))) ⌝ }
+    ensures { λ r. ⌜ (Fits64 (m .lay .column .0 + (margin .0 + width .0 + 2)) → (kept : List ℕ) → stateAfter (now (room .exit)) kept r ≡ bind (stateAt (now (room .entry)) kept m) (put (length (now (room .entry))) (margin .0) at (now (text .entry)) (width .0))) ⌝ }
     ensures near { λ r. ⌜ Nearby (margin .0 + width .0 + 2) (m .lay) r ⌝ }
 {
     let lay = m.lay;
     let missing = missing_to(margin, lay.column);
-    if 50 < missing.0 {
+    if MAX_MISSING < missing.0 {
         if room.len() < m.len.0 {
             return Placed::At(m);
         }
         return Placed::Deep(at);
     }
     let a = reach_margin(room, m, margin);
-    let b = gap_two(room, a, missing);
+    let b = pad_gutter(room, a, missing);
     Placed::At(place_here(room, b, text, width))
 }
 
 // A fold: the White_Space at the end goes, and a line end follows.
 fn fold_line(room: &mut [u8], m: Mark) -> Mark
-    ensures { λ r. ⌜ ((kept : List ℕ) → held (now (room .exit)) kept r ≡ bind (held (now (room .entry)) kept m) (λ s. lineEnd (length (now (room .entry))) (withOut (trim (s .out)) s))) ⌝ }
+    ensures { λ r. ⌜ ((kept : List ℕ) → stateAt (now (room .exit)) kept r ≡ bind (stateAt (now (room .entry)) kept m) (λ s. lineEnd (length (now (room .entry))) (withOut (trim (s .out)) s))) ⌝ }
     ensures near { λ r. ⌜ Near 0 (m .lay) (r .lay) ⌝ }
 {
     let len = Bytes(room::trim_end(room, m.len.0));
@@ -246,7 +248,7 @@ pub fn place_chunk(
     width: Columns,
     set: Settings,
 ) -> Placed
-    ensures { λ r. ⌜ (Fits (m .lay .column .0 + (margin .0 + width .0 + 2)) → (kept : List ℕ) → told (now (room .exit)) kept r ≡ bind (held (now (room .entry)) kept m) (rawChunk (measureOf set) set (length (now (room .entry))) (margin .0) at (now (text .entry)) (width .0))) ⌝ }
+    ensures { λ r. ⌜ (Fits64 (m .lay .column .0 + (margin .0 + width .0 + 2)) → (kept : List ℕ) → stateAfter (now (room .exit)) kept r ≡ bind (stateAt (now (room .entry)) kept m) (rawChunk (measureOf set) set (length (now (room .entry))) (margin .0) at (now (text .entry)) (width .0))) ⌝ }
     ensures near { λ r. ⌜ Nearby (margin .0 + width .0 + 2) (m .lay) r ⌝ }
 {
     if m.len.0 == 0 {
@@ -267,7 +269,7 @@ pub fn place_chunk(
 
 // From now on text is skipped.
 fn skipping(m: Mark) -> Mark
-    ensures { λ r. ⌜ (r .len .0 ≡ m .len .0) × (r .lay ≡ skip 1 (m .lay)) ⌝ }
+    ensures { λ r. ⌜ (r .len .0 ≡ m .len .0) × (r .lay ≡ withSkip 1 (m .lay)) ⌝ }
 {
     let len = m.len;
     let mut lay = m.lay;
@@ -277,7 +279,7 @@ fn skipping(m: Mark) -> Mark
 
 // A paragraph.
 fn put_paragraph(room: &mut [u8], m: Mark, set: Settings) -> Mark
-    ensures { λ r. ⌜ ((margin at : ℕ) (kept : List ℕ) → held (now (room .exit)) kept r ≡ bind (held (now (room .entry)) kept m) (chunk (measureOf set) set (length (now (room .entry))) margin at paragraph)) ⌝ }
+    ensures { λ r. ⌜ ((margin at : ℕ) (kept : List ℕ) → stateAt (now (room .exit)) kept r ≡ bind (stateAt (now (room .entry)) kept m) (chunk (measureOf set) set (length (now (room .entry))) margin at paragraph)) ⌝ }
     ensures near { λ r. ⌜ Near 0 (m .lay) (r .lay) ⌝ }
 {
     let a = line_end(room, m);
@@ -313,7 +315,7 @@ pub fn width_of(piece: Piece) -> Columns
 
 // A paragraph or a line break.
 pub fn put_break(room: &mut [u8], m: Mark, piece: Piece, set: Settings) -> Placed
-    ensures { λ r. ⌜ (isText piece ≡ false → (body : List ℕ) (margin at : ℕ) (kept : List ℕ) → told (now (room .exit)) kept r ≡ bind (held (now (room .entry)) kept m) (chunk (measureOf set) set (length (now (room .entry))) margin at (chunkOf body piece))) ⌝ }
+    ensures { λ r. ⌜ (isText piece ≡ false → (body : List ℕ) (margin at : ℕ) (kept : List ℕ) → stateAfter (now (room .exit)) kept r ≡ bind (stateAt (now (room .entry)) kept m) (chunk (measureOf set) set (length (now (room .entry))) margin at (chunkOf body piece))) ⌝ }
     ensures near { λ r. ⌜ Nearby 0 (m .lay) r ⌝ }
 {
     match piece {
@@ -326,7 +328,7 @@ pub fn put_break(room: &mut [u8], m: Mark, piece: Piece, set: Settings) -> Place
 
 // The last line end.
 pub fn last_line(room: &mut [u8], m: Mark) -> Mark
-    ensures { λ r. ⌜ ((kept : List ℕ) → held (now (room .exit)) kept r ≡ bind (held (now (room .entry)) kept m) (finish (length (now (room .entry))))) ⌝ }
+    ensures { λ r. ⌜ ((kept : List ℕ) → stateAt (now (room .exit)) kept r ≡ bind (stateAt (now (room .entry)) kept m) (finish (length (now (room .entry))))) ⌝ }
 {
     let lay = m.lay;
     if either(lay.newline, lay.blank) {

@@ -25,7 +25,7 @@ use Rattle.document.proofs.Walks.{check-gives}
 use Rattle.splitter.specs.Split.{Chunk, raw, paragraph, lineBreak, isSpace, Placed, split}
 use Rattle.renderer.specs.Walk.{withOut, withLay, write, empty, last, walk, body}
 use Rattle.skip.specs.Counter.{hides}
-use Rattle.console_rules.specs.Console.{State, initial, folds, lineEnd, dueLine, dueBlank, gap2, place, missing, reach, pad, put, fold, tick}
+use Rattle.console_rules.specs.Console.{State, initial, folds, lineEnd, dueLine, dueBlank, padGutter, place, missing, reach, pad, put, fold, tick}
 use Rattle.console_rules.specs.Console.{outdent, started, ended, finish, narrow, rawChunk, chunk, bodyChunk, turn, gapAhead, tabstop, measureOf}
 use Rattle.console_rules.specs.Console.{consoleBy, console}
 use Rattle.console_rules.specs.Margin.{Ready, printed, dropped, tooFar, ready, FarChunk, FarRecord, Far}
@@ -163,10 +163,10 @@ module _ (room : ℕ) where
   -- a chunk whose turn has come: its padding, the two columns before an item's body, and the chunk
   module _ (margin : ℕ) (x : List ℕ) (w : ℕ) where
     abbrev padded : State → Result State
-    padded s = reach room margin s >>= λ s₁. gap2 room (missing room margin s) s₁ >>= λ s₂. place room x w s₂
+    padded s = reach room margin s >>= λ s₁. padGutter room (missing room margin s) s₁ >>= λ s₂. place room x w s₂
 
     not-padded : (s : State) → Not10 (padded s)
-    unfolding reach gap2 place
+    unfolding reach padGutter place
     not-padded s = not-bind _ _ (not-write _ _) λ s₁. not-bind _ _ (not-if _ (not-write _ _) given) λ s₂. not-write _ _
 
     abbrev written : Ready → Result State
@@ -184,7 +184,7 @@ module _ (room : ℕ) where
     unfolding put pad tooFar if_then_else_ _>>=_
     put-after p s = go (ltb 50 (missing room margin s))
       where
-        go : (b : Bool) → ((if b then refused 10 p else reach room margin s) >>= λ s₁. gap2 room (missing room margin s) s₁ >>= λ s₂. place room x w s₂)
+        go : (b : Bool) → ((if b then refused 10 p else reach room margin s) >>= λ s₁. padGutter room (missing room margin s) s₁ >>= λ s₂. place room x w s₂)
             ≡ (if b then refused 10 p else padded s)
         go true = refl
         go false = refl
@@ -239,15 +239,15 @@ module _ (measure : List ℕ → ℕ) (set : Settings) (room : ℕ) where
     unfolding _>>=_ if_then_else_
     raw-when s q e = go (ready measure set room x s) refl (sym (raw-after s) ∙ e)
       where
-        told : (r : Ready) → ready measure set room x s ≡ gives r → (b : Bool) → tooFar room margin r ≡ b
+        at-ready : (r : Ready) → ready measure set room x s ≡ gives r → (b : Bool) → tooFar room margin r ≡ b
             → (if b then refused 10 p else written room margin x w r) ≡ refused 10 q
             → (r : Ready) × (ready measure set room x s ≡ gives r) × (tooFar room margin r ≡ true) × (q ≡ p)
-        told r f true g h = (r, f, g, same-place h)
-        told r f false g h = absurd (not-refused (written room margin x w r) (not-written room margin x w r) h)
+        at-ready r f true g h = (r, f, g, same-place h)
+        at-ready r f false g h = absurd (not-refused (written room margin x w r) (not-written room margin x w r) h)
 
         go : (v : Result Ready) → ready measure set room x s ≡ v → (v >>= then′) ≡ refused 10 q
             → (r : Ready) × (ready measure set room x s ≡ gives r) × (tooFar room margin r ≡ true) × (q ≡ p)
-        go (gives r) f h = told r f (tooFar room margin r) refl h
+        go (gives r) f h = at-ready r f (tooFar room margin r) refl h
         go (refused n k) f h = absurd (not-refused (ready measure set room x s) (not-ready x s) (f ∙ same-refusal h))
 
   -- The chunks of a body

@@ -11,7 +11,7 @@ use Rattle.room.specs.Room.{extended}
 use Rattle.records.specs.declared.Block.{Block}
 use Rattle.records.specs.declared.Block.the-variants as block
 use Rattle.renderer.specs.Walk.{withOut, withLay, write}
-use Rattle.console_rules.specs.Console.{State, blankLine, skip, gap, outdent, tick, started, ended}
+use Rattle.console_rules.specs.Console.{State, withBlank, withSkip, withGap, outdent, tick, started, ended}
 
 -- the text that a rule gives
 abbrev text : Result State → Result (List ℕ)
@@ -28,7 +28,7 @@ module _ (room : ℕ) where
       go q (gives y) f = rw f
       go q (refused n p) f = rw f
 
-  pub start-shown : (n tab : ℕ) (b : Block) (g : Bool) (s : State) → text (started room tab b g (withLay (skip n) s)) ≡ text (started room tab b g s)
+  pub start-shown : (n tab : ℕ) (b : Block) (g : Bool) (s : State) → text (started room tab b g (withLay (withSkip n) s)) ≡ text (started room tab b g s)
   unfolding started tick if_then_else_ _>>=_
   start-shown n tab block.Header g s = refl
   start-shown n tab block.Section2 g s = refl
@@ -44,7 +44,7 @@ module _ (room : ℕ) where
   start-shown n tab block.Meta g s = refl
   start-shown n tab block.Mono g s = refl
 
-  pub end-shown : (n : ℕ) (b : Block) (s : State) → text (ended room b (withLay (skip n) s)) ≡ text (ended room b s)
+  pub end-shown : (n : ℕ) (b : Block) (s : State) → text (ended room b (withLay (withSkip n) s)) ≡ text (ended room b s)
   unfolding ended tick if_then_else_ _>>=_
   end-shown n block.Header s = refl
   end-shown n block.Section2 s = refl
@@ -56,9 +56,9 @@ module _ (room : ℕ) where
   end-shown n block.Block s = go (s .lay .passing)
     where
       here : Bool → State → State
-      here x t = outdent room (if x then withLay (gap false false) t else withLay blankLine t)
+      here x t = outdent room (if x then withLay (withGap false false) t else withLay withBlank t)
 
-      go : (x : Bool) → text (gives (here x (withLay (skip n) s))) ≡ text (gives (here x s))
+      go : (x : Bool) → text (gives (here x (withLay (withSkip n) s))) ≡ text (gives (here x s))
       go true = refl
       go false = refl
   end-shown n block.InlineBlock s = refl
@@ -87,7 +87,7 @@ module _ (room : ℕ) where
   end-pops block.DefinitionList s = given refl
   end-pops block.Block s = given (go (s .lay .passing))
     where
-      go : (x : Bool) → popped ((if x then withLay (gap false false) s else withLay blankLine s) .kept) ≡ popped (s .kept)
+      go : (x : Bool) → popped ((if x then withLay (withGap false false) s else withLay withBlank s) .kept) ≡ popped (s .kept)
       go true = refl
       go false = refl
   end-pops block.InlineBlock s = given refl

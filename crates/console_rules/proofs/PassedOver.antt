@@ -8,11 +8,11 @@ use Rattle.base.proofs.Choice.{if-true}
 use Rattle.base.proofs.Stack.{popped-pushed}
 use Rattle.records.specs.declared.Block.the-variants as block
 use Rattle.renderer.specs.Walk.{withKept, withLay}
-use Rattle.console_rules.specs.Console.{State, gap, outdent, started, ended}
+use Rattle.console_rules.specs.Console.{State, withGap, outdent, started, ended}
 
 -- the start and the end of a Block that is passed over leave text, margins and all that is due as they were
 pub passed-over : (room tab : ℕ) (g : Bool) (s : State) → s .lay .passing ≡ true
-    → (started room tab block.Block g s >>= ended room block.Block) ≡ gives (withLay (gap false false) s)
+    → (started room tab block.Block g s >>= ended room block.Block) ≡ gives (withLay (withGap false false) s)
 unfolding started ended _>>=_
 passed-over room tab g s e =
-    ap gives (ap (outdent room) (if-true _ _ e) ∙ ap (λ (m : List ℕ). withKept m (withLay (gap false false) s)) (popped-pushed _ (s .kept)))
+    ap gives (ap (outdent room) (if-true _ _ e) ∙ ap (λ (m : List ℕ). withKept m (withLay (withGap false false) s)) (popped-pushed _ (s .kept)))

@@ -29,7 +29,7 @@ use Rattle.room.specs.Room.{extended}
 use Rattle.renderer.specs.Walk.{withOut, withLay, write}
 use Rattle.skip.specs.Counter.{skipStart, skipEnd}
 use Rattle.renderer.proofs.Keeps.{walk-adds, body-says}
-use Rattle.console_rules.specs.Console.{State, column, initial, lineEnd, dueLine, dueBlank, gap2, place, missing, reach, pad, put, fold, tick}
+use Rattle.console_rules.specs.Console.{State, withColumn, initial, lineEnd, dueLine, dueBlank, padGutter, place, missing, reach, pad, put, fold, tick}
 use Rattle.console_rules.specs.Console.{outdent, started, ended, gapAhead, tabstop, rawChunk, chunk, bodyChunk, turn, finish, narrow, measureOf}
 use Rattle.console_rules.specs.Console.{consoleBy, console}
 use Rattle.console_rules.specs.declared.Settings.{Settings}
@@ -91,7 +91,7 @@ module _ (room : ℕ) where
 
   lineEnd-shows : (x : List ℕ) (s : State) → Shows room x s → All (Shows room x) (lineEnd room s)
   unfolding lineEnd
-  lineEnd-shows x s h = write-blank (0x0A ∷ []) x (withLay (column 0) s) line-blank h
+  lineEnd-shows x s h = write-blank (0x0A ∷ []) x (withLay (withColumn 0) s) line-blank h
 
   dueLine-shows : (x : List ℕ) (s : State) → Shows room x s → All (Shows room x) (dueLine room s)
   unfolding dueLine
@@ -101,9 +101,9 @@ module _ (room : ℕ) where
   unfolding dueBlank
   dueBlank-shows x s h = pick (All (Shows room x)) _ (λ _. write-blank (0x0A ∷ []) x s line-blank h) (λ _. given h)
 
-  gap2-shows : (n : ℕ) (x : List ℕ) (s : State) → Shows room x s → All (Shows room x) (gap2 room n s)
-  unfolding gap2
-  gap2-shows n x s h = pick (All (Shows room x)) _ (λ _. write-blank (replicate (2 - n) 0x20) x _ (spaces-blank (2 - n)) h) (λ _. given h)
+  pad-gutter-shows : (n : ℕ) (x : List ℕ) (s : State) → Shows room x s → All (Shows room x) (padGutter room n s)
+  unfolding padGutter
+  pad-gutter-shows n x s h = pick (All (Shows room x)) _ (λ _. write-blank (replicate (2 - n) 0x20) x _ (spaces-blank (2 - n)) h) (λ _. given h)
 
   place-shows : (y : List ℕ) (w : ℕ) (x : List ℕ) (s : State) → Valid y → Shows room x s → All (Shows room (x ++ printing y)) (place room y w s)
   unfolding place
@@ -122,7 +122,7 @@ module _ (room : ℕ) where
     unfolding put
     put-shows p y w x s v h =
         all-bind (Shows room x) _ _ _ (pad-shows p x s h) λ s₁ h₁.
-        all-bind (Shows room x) _ _ _ (gap2-shows _ x s₁ h₁) λ s₂ h₂.
+        all-bind (Shows room x) _ _ _ (pad-gutter-shows _ x s₁ h₁) λ s₂ h₂.
         place-shows y w x s₂ v h₂
 
     fold-shows : (p : ℕ) (y : List ℕ) (w : ℕ) (x : List ℕ) (s : State) → Valid y → Shows room x s
@@ -138,7 +138,7 @@ module _ (room : ℕ) where
   -- a backtick
   tick-shows : (x : List ℕ) (s : State) → Shows room x s → All (Shows room (x ++ 0x60 ∷ [])) (tick room s)
   unfolding tick
-  tick-shows x s h = rw tick-printing at (write-shows (0x60 ∷ []) x (withLay (λ l. column (l .column .0 + 1) l) s) tick-valid h)
+  tick-shows x s h = rw tick-printing at (write-shows (0x60 ∷ []) x (withLay (λ l. withColumn (l .column .0 + 1) l) s) tick-valid h)
 
   same : (x : List ℕ) (s : State) → Shows room x s → All (Shows room (x ++ [])) (gives s)
   same x s h = given {a = s} (rw (append-nil x) h)

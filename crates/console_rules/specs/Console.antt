@@ -26,6 +26,18 @@ use Rattle.console_rules.specs.declared.Columns.{Columns}
 use Rattle.console_rules.specs.declared.Bytes.{Bytes}
 use Rattle.console_rules.specs.declared.Lay.{Lay}
 
+-- The source's `MAX_TAB`: 'the widest ItemTerm of at most 24 characters'
+abbrev pub maxTab : ℕ
+maxTab = 24
+
+-- 'At most .. width 0 to 10,000'
+abbrev pub maxWidth : ℕ
+maxWidth = 10_000
+
+-- how many columns a chunk may miss to its margin: 'misses more than 50 columns to its margin' is refused
+abbrev pub maxMissing : ℕ
+maxMissing = 50
+
 -- The tabstop.
 
 -- The widest term so far, whether a term is being counted, and its characters so far.
@@ -42,7 +54,7 @@ termStart b t = if eqb (index b) 4 then record { widest = t .widest; counting = 
 unfoldable pub termEnd : Block → Terms → Terms
 termEnd b t =
     if eqb (index b) 4
-    then record { widest = if ltb (t .widest) (t .counted) && leb (t .counted) 24 then t .counted else t .widest; counting = false; counted = t .counted }
+    then record { widest = if ltb (t .widest) (t .counted) && leb (t .counted) maxTab then t .counted else t .widest; counting = false; counted = t .counted }
     else t
 
 unfoldable pub term : Kind → List ℕ → Terms → Terms
@@ -61,7 +73,7 @@ tabstop ts = (terms ts (record { widest = 0; counting = false; counted = 0 })) .
 
 -- 02, point 4: an 'ItemTerm end whose count is 24', where so much was counted before it
 abbrev pub settles : Kind → Terms → Bool
-settles k t = isEnd 4 k && eqb (t .counted) 24
+settles k t = isEnd 4 k && eqb (t .counted) maxTab
 
 -- 'the start of that record', the first such one, 'or the document's length when there is none': among some records, before which so much was
 -- counted, of a document of n bytes
@@ -104,27 +116,27 @@ blankLay = record { column = record { 0 = 0 }; newline = false; blank = false; g
 abbrev pub initial : State
 initial = record { out = []; kept = []; lay = blankLay }
 
-abbrev pub column : ℕ → Lay → Lay
-column x l = record { column = record { 0 = x }; newline = l .newline; blank = l .blank; gutter = l .gutter; skip = l .skip; gap = l .gap; passing = l .passing }
+abbrev pub withColumn : ℕ → Lay → Lay
+withColumn x l = record { column = record { 0 = x }; newline = l .newline; blank = l .blank; gutter = l .gutter; skip = l .skip; gap = l .gap; passing = l .passing }
 
-abbrev pub newline : Lay → Lay
-newline l = record { column = l .column; newline = true; blank = l .blank; gutter = l .gutter; skip = l .skip; gap = l .gap; passing = l .passing }
+abbrev pub withNewline : Lay → Lay
+withNewline l = record { column = l .column; newline = true; blank = l .blank; gutter = l .gutter; skip = l .skip; gap = l .gap; passing = l .passing }
 
-abbrev pub blankLine : Lay → Lay
-blankLine l = record { column = l .column; newline = l .newline; blank = true; gutter = l .gutter; skip = l .skip; gap = l .gap; passing = l .passing }
+abbrev pub withBlank : Lay → Lay
+withBlank l = record { column = l .column; newline = l .newline; blank = true; gutter = l .gutter; skip = l .skip; gap = l .gap; passing = l .passing }
 
-abbrev pub gutter : Bool → Lay → Lay
-gutter x l = record { column = l .column; newline = l .newline; blank = l .blank; gutter = x; skip = l .skip; gap = l .gap; passing = l .passing }
+abbrev pub withGutter : Bool → Lay → Lay
+withGutter x l = record { column = l .column; newline = l .newline; blank = l .blank; gutter = x; skip = l .skip; gap = l .gap; passing = l .passing }
 
 -- nothing is due any more: 'pending_newline = false; pending_blank_line = false; pending_margin = false', as a chunk is printed
 abbrev pub settled : Lay → Lay
 settled l = record { column = l .column; newline = false; blank = false; gutter = false; skip = l .skip; gap = l .gap; passing = l .passing }
 
-abbrev pub skip : ℕ → Lay → Lay
-skip x l = record { column = l .column; newline = l .newline; blank = l .blank; gutter = l .gutter; skip = x; gap = l .gap; passing = l .passing }
+abbrev pub withSkip : ℕ → Lay → Lay
+withSkip x l = record { column = l .column; newline = l .newline; blank = l .blank; gutter = l .gutter; skip = x; gap = l .gap; passing = l .passing }
 
-abbrev pub gap : Bool → Bool → Lay → Lay
-gap x y l = record { column = l .column; newline = l .newline; blank = l .blank; gutter = l .gutter; skip = l .skip; gap = x; passing = y }
+abbrev pub withGap : Bool → Bool → Lay → Lay
+withGap x y l = record { column = l .column; newline = l .newline; blank = l .blank; gutter = l .gutter; skip = l .skip; gap = x; passing = y }
 
 -- Tests.
 
@@ -145,7 +157,7 @@ module _ (room : ℕ) where
   -- Chunks.
 
   unfoldable pub lineEnd : State → Result State
-  lineEnd s = write room (0x0A ∷ []) (withLay (column 0) s)
+  lineEnd s = write room (0x0A ∷ []) (withLay (withColumn 0) s)
 
   -- a line end that is due, unless the text ends with one: 'if (pending_newline || pending_blank_line) && !res.ends_with('\n')', and
   -- 'char_pos = 0'
@@ -158,15 +170,15 @@ module _ (room : ℕ) where
 
   -- at least two columns before an item's body that starts at column 28, the widest tabstop, or past it; some are written already:
   -- 'if pending_margin && char_pos >= MAX_TAB + 4 && pushed < 2'
-  unfoldable pub gap2 : ℕ → State → Result State
-  gap2 written s =
-      if s .lay .gutter && leb 28 (s .lay .column .0) && ltb written 2
-      then write room (replicate (2 - written) 0x20) (withLay (column (s .lay .column .0 + (2 - written))) s)
+  unfoldable pub padGutter : ℕ → State → Result State
+  padGutter written s =
+      if s .lay .gutter && leb (maxTab + 4) (s .lay .column .0) && ltb written 2
+      then write room (replicate (2 - written) 0x20) (withLay (withColumn (s .lay .column .0 + (2 - written))) s)
       else gives s
 
   -- the chunk; 'the column then advances by the chunk's width'
   unfoldable pub place : List ℕ → ℕ → State → Result State
-  place x w s = write room x (withLay (λ l. column (l .column .0 + w) (settled l)) s)
+  place x w s = write room x (withLay (λ l. withColumn (l .column .0 + w) (settled l)) s)
 
   -- at a margin
   module _ (margin : ℕ) where
@@ -176,14 +188,14 @@ module _ (room : ℕ) where
 
     -- spaces up to it: 'if let Some(missing) = margin.checked_sub(char_pos)', and 'char_pos = margin'
     unfoldable pub reach : State → Result State
-    reach s = write room (replicate (missing s) 0x20) (withLay (λ l. column (max (l .column .0) margin) l) s)
+    reach s = write room (replicate (missing s) 0x20) (withLay (λ l. withColumn (max (l .column .0) margin) l) s)
 
     -- refusal 10: 'a chunk to be printed misses more than 50 columns to its margin'; p is the place of the chunk
     unfoldable pub pad : ℕ → State → Result State
-    pad p s = if ltb 50 (missing s) then refused 10 p else reach s
+    pad p s = if ltb maxMissing (missing s) then refused 10 p else reach s
 
     unfoldable pub put : ℕ → List ℕ → ℕ → State → Result State
-    put p x w s = pad p s >>= λ s₁. gap2 (missing s) s₁ >>= λ s₂. place x w s₂
+    put p x w s = pad p s >>= λ s₁. padGutter (missing s) s₁ >>= λ s₂. place x w s₂
 
     -- 'A fold trims trailing White_Space first, line ends too'; 'a chunk that is just one space and folds .. is dropped'
     unfoldable pub fold : ℕ → List ℕ → ℕ → State → Result State
@@ -193,7 +205,7 @@ module _ (room : ℕ) where
 
   -- 'Backticks go out at once, before a pending line end, and also while text is skipped.'
   unfoldable pub tick : State → Result State
-  tick s = write room (0x60 ∷ []) (withLay (λ l. column (l .column .0 + 1) l) s)
+  tick s = write room (0x60 ∷ []) (withLay (λ l. withColumn (l .column .0 + 1) l) s)
 
   -- a margin so far inside the current one; none is 0
   abbrev pub indent : ℕ → State → State
@@ -206,16 +218,16 @@ module _ (room : ℕ) where
   -- 'Header, Section2, Block push the current one; Section3 plus 2; Section4 plus 2, or 4 with an adjacent gap ..;
   -- ItemTerm plus 4; ItemBody plus tabstop plus 2. The other five push nothing': g says whether an adjacent gap lies ahead
   unfoldable pub started : ℕ → Block → Bool → State → Result State
-  started tab block.Header g s = gives (indent 0 (withLay newline s))
-  started tab block.Section2 g s = gives (indent 0 (withLay newline s))
-  started tab block.Section3 g s = gives (indent 2 (withLay newline s))
+  started tab block.Header g s = gives (indent 0 (withLay withNewline s))
+  started tab block.Section2 g s = gives (indent 0 (withLay withNewline s))
+  started tab block.Section3 g s = gives (indent 2 (withLay withNewline s))
   started tab block.Section4 g s =
-      if g then gives (indent 4 (withLay (λ l. gap true (l .passing) (newline l)) s)) else gives (indent 2 (withLay newline s))
-  started tab block.ItemTerm g s = gives (indent 4 (withLay newline s))
-  started tab block.ItemBody g s = gives (indent (tab + 2) (withLay (gutter true) s))
+      if g then gives (indent 4 (withLay (λ l. withGap true (l .passing) (withNewline l)) s)) else gives (indent 2 (withLay withNewline s))
+  started tab block.ItemTerm g s = gives (indent 4 (withLay withNewline s))
+  started tab block.ItemBody g s = gives (indent (tab + 2) (withLay (withGutter true) s))
   started tab block.DefinitionList g s = gives s
   started tab block.Block g s = gives (indent 0 s)
-  started tab block.InlineBlock g s = gives (withLay (λ l. skip (skipStart block.InlineBlock (l .skip)) l) s)
+  started tab block.InlineBlock g s = gives (withLay (λ l. withSkip (skipStart block.InlineBlock (l .skip)) l) s)
   started tab block.TermRef g s = tick s
   started tab block.Meta g s = gives s
   started tab block.Mono g s = gives s
@@ -226,12 +238,12 @@ module _ (room : ℕ) where
   ended block.Header s = gives (outdent s)
   ended block.Section2 s = gives (outdent s)
   ended block.Section3 s = gives (outdent s)
-  ended block.Section4 s = gives (outdent (withLay (λ l. gap false (l .gap) l) s))
+  ended block.Section4 s = gives (outdent (withLay (λ l. withGap false (l .gap) l) s))
   ended block.ItemTerm s = gives (outdent s)
-  ended block.ItemBody s = gives (outdent (withLay (gutter false) s))
+  ended block.ItemBody s = gives (outdent (withLay (withGutter false) s))
   ended block.DefinitionList s = gives (outdent s)
-  ended block.Block s = gives (outdent (if s .lay .passing then withLay (gap false false) s else withLay blankLine s))
-  ended block.InlineBlock s = gives (outdent (withLay (λ l. skip (skipEnd block.InlineBlock (l .skip)) l) s))
+  ended block.Block s = gives (outdent (if s .lay .passing then withLay (withGap false false) s else withLay withBlank s))
+  ended block.InlineBlock s = gives (outdent (withLay (λ l. withSkip (skipEnd block.InlineBlock (l .skip)) l) s))
   ended block.TermRef s = tick (outdent s)
   ended block.Meta s = gives (outdent s)
   ended block.Mono s = gives (outdent s)
@@ -242,7 +254,7 @@ module _ (room : ℕ) where
 
 -- refusal 9: 'width over 10,000 (console)'
 unfoldable pub narrow : ℕ → Result ℕ
-narrow width = if ltb 10_000 width then refused 9 0 else gives width
+narrow width = if ltb maxWidth width then refused 9 0 else gives width
 
 -- Records. What a chunk counts for in the fold test is left open.
 
@@ -259,7 +271,7 @@ module _ (measure : List ℕ → ℕ) (set : Settings) (room : ℕ) where
   unfoldable pub chunk : ℕ → ℕ → Chunk → State → Result State
   chunk margin p (raw x w) s = rawChunk margin p x w s
   chunk margin p lineBreak s = lineEnd room s
-  chunk margin p paragraph s = lineEnd room s >>= λ s₁. gives (if set .full then s₁ else withLay (λ l. skip (skipParagraph (l .skip)) l) s₁)
+  chunk margin p paragraph s = lineEnd room s >>= λ s₁. gives (if set .full then s₁ else withLay (λ l. withSkip (skipParagraph (l .skip)) l) s₁)
 
   -- a chunk of a body that starts at a place: '10's place becomes the document offset of that chunk's first byte, or, for an empty chunk, the
   -- offset where it would stand'

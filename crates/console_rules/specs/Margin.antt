@@ -16,7 +16,7 @@ use Rattle.document.specs.Document.{check}
 use Rattle.splitter.specs.Split.{raw, isSpace, Placed, split}
 use Rattle.renderer.specs.Walk.{withOut, empty, last}
 use Rattle.skip.specs.Counter.{hides}
-use Rattle.console_rules.specs.Console.{State, initial, folds, lineEnd, dueLine, dueBlank, missing, bodyChunk, turn, tabstop}
+use Rattle.console_rules.specs.Console.{State, initial, folds, lineEnd, dueLine, dueBlank, missing, bodyChunk, turn, tabstop, maxMissing, maxWidth}
 use Rattle.console_rules.specs.declared.Settings.{Settings}
 
 -- A text chunk when its turn comes: it is to be printed on a page, before any of its padding is written; or a fold has dropped it.
@@ -26,7 +26,7 @@ pub data Ready : Type 0 where
 
 -- it misses more than 50 columns to its margin
 unfoldable pub tooFar : ℕ → ℕ → Ready → Bool
-tooFar room margin (printed s) = ltb 50 (missing room margin s)
+tooFar room margin (printed s) = ltb maxMissing (missing room margin s)
 tooFar room margin (dropped s) = false
 
 module _ (measure : List ℕ → ℕ) (set : Settings) (room : ℕ) where
@@ -58,5 +58,5 @@ module _ (measure : List ℕ → ℕ) (set : Settings) (room : ℕ) where
   -- an accepted document, at an accepted width, has such a record
   pub record Far (document : List ℕ) (place : ℕ) : Type 0 where
     pub accepted : check document ≡ gives []
-    pub narrow : set .width ≤ 10_000
+    pub narrow : set .width ≤ maxWidth
     pub met : FarRecord (tabstop (tokens 0 0 document)) place (tokens 0 0 document) initial

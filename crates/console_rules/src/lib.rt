@@ -1,5 +1,17 @@
 // The types that the console's rules share with its code.
 
+// The characters of the widest term that counts for the tabstop: the source's `MAX_TAB`.
+pub const MAX_TAB: usize = 24;
+
+// The largest tabstop: 'MAX_TAB + 4'.
+pub const MAX_TABSTOP: usize = MAX_TAB + 4;
+
+// 'At most .. width 0 to 10,000'
+pub const MAX_WIDTH: usize = 10_000;
+
+// How many columns a chunk may miss to its margin; where it misses more, refusal 10.
+pub const MAX_MISSING: usize = 50;
+
 // What a chunk counts for in the fold test: its bytes, as in the source, or the characters that it holds.
 pub enum Measure {
     Bytes,

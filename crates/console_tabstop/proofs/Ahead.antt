@@ -13,7 +13,7 @@ use Rattle.records.specs.Answers.{Read}
 use Rattle.records.specs.declared.Head.{Head}
 use Rattle.records.proofs.Tokens.{tokens-at, tokens-end}
 use Rattle.records.proofs.Reading.{read-on}
-use Rattle.console_tabstop.specs.Ahead.{placeOf, afterEnd, Ahead, Known}
+use Rattle.console_tabstop.specs.InnerAhead.{placeOf, afterEnd, Ahead, Known}
 use Rattle.console_tabstop.proofs.Scans.{listed, gap-here, gap-next, gap-none, empty-none}
 
 place-here : (s : List ℕ) (at : ℕ) → at ≤ length s → placeOf (length s) (tokensFrom s at) ≡ at

@@ -1,3 +1,3 @@
-pub mod Counted
+pub mod InnerCounted
 pub mod Answers
-pub mod Ahead
+pub mod InnerAhead

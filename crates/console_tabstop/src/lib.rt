@@ -5,11 +5,13 @@ ghost use Prim.Native.Nat.{_+_, _-_, _≤_, _<_, _^_};
 ghost use lib.ListN.{length};
 ghost use Rattle.records.specs.Records.{isText, kindOf, tokens, tokensFrom};
 ghost use Rattle.records.specs.declared.Block.the-variants as block;
-ghost use Rattle.console_rules.specs.Console.{termStart, termEnd, term, terms, settles, tabstop, settledFrom, settledAt, tabstopIn, settledIn, emptyBlock};
+ghost use Rattle.console_rules.specs.Console.{termStart, termEnd, term, terms, settles, tabstop, settledFrom, settledAt, tabstopIn, settledIn, emptyBlock, maxTab};
 ghost use Rattle.console_tabstop.specs.Answers.{tabstopOf, settledOf};
-ghost use Rattle.console_tabstop.specs.Counted.{termsOf};
-ghost use Rattle.console_tabstop.specs.Ahead.{Ahead, Known, Looked};
+ghost use Rattle.console_tabstop.specs.InnerCounted.{termsOf};
+ghost use Rattle.console_tabstop.specs.InnerAhead.{Ahead, Known, Looked};
 use console_rules::Columns;
+use console_rules::MAX_TAB;
+use console_rules::MAX_TABSTOP;
 use document::Checked;
 use records::Block;
 use refusal::Refusal;
@@ -90,7 +92,7 @@ fn term_end(t: Terms) -> Terms
     let mut r = t;
     r.counting = 0;
     if t.widest < t.counted {
-        if t.counted <= 24 {
+        if t.counted <= MAX_TAB {
             r.widest = t.counted;
         }
     }
@@ -132,7 +134,7 @@ fn settles(t: Terms, code: usize) -> bool
     ensures { λ r. ⌜ r ≡ settles (kindOf code) (termsOf t) ⌝ }
 {
     if code == 0x0204 {
-        return t.counted == 24;
+        return t.counted == MAX_TAB;
     }
     false
 }
@@ -146,7 +148,7 @@ pub struct Tabstop {
 // The search for the tabstop from a record on, where so much was counted before: it stops at the record that settles it.
 fn find_from(document: &[u8], from: usize, first: Terms) -> Tabstop
     requires { ⌜ (first .widest ≤ 24) × (first .counted ≤ from) × (from ≤ length (now document)) ⌝ }
-    ensures tabstop { λ r. ⌜ (r .columns .0 ≡ (terms (tokensFrom (now (document .entry)) from) (termsOf first)) .widest + 4) × (r .columns .0 ≤ 28) ⌝ }
+    ensures tabstop { λ r. ⌜ (r .columns .0 ≡ (terms (tokensFrom (now (document .entry)) from) (termsOf first)) .widest + 4) × (r .columns .0 ≤ maxTab + 4) ⌝ }
     ensures settled { λ r. ⌜ r .at ≡ settledFrom (length (now (document .entry))) (tokensFrom (now (document .entry)) from) (termsOf first) ⌝ }
 {
     let mut t = first;
@@ -158,7 +160,7 @@ fn find_from(document: &[u8], from: usize, first: Terms) -> Tabstop
         let code = h.code;
         if settles(t, code) {
             return Tabstop {
-                columns: Columns(28),
+                columns: Columns(MAX_TABSTOP),
                 at: i,
             };
         }
@@ -175,7 +177,7 @@ fn find_from(document: &[u8], from: usize, first: Terms) -> Tabstop
 // The search in a whole document. A record that is cut short, which an accepted document has none of, is left to `find_from`: so that here no place is
 // compared with the document's end before the next record can be read.
 fn find_tabstop(document: &[u8]) -> Tabstop
-    ensures tabstop { λ r. ⌜ (r .columns .0 ≡ tabstop (tokens 0 0 (now (document .entry)))) × (r .columns .0 ≤ 28) ⌝ }
+    ensures tabstop { λ r. ⌜ (r .columns .0 ≡ tabstop (tokens 0 0 (now (document .entry)))) × (r .columns .0 ≤ maxTab + 4) ⌝ }
     ensures settled { λ r. ⌜ r .at ≡ settledAt (length (now (document .entry))) (tokens 0 0 (now (document .entry))) ⌝ }
 {
     let mut t = Terms {
@@ -194,7 +196,7 @@ fn find_tabstop(document: &[u8]) -> Tabstop
         let code = h.code;
         if settles(t, code) {
             return Tabstop {
-                columns: Columns(28),
+                columns: Columns(MAX_TABSTOP),
                 at,
             };
         }
@@ -210,7 +212,7 @@ fn find_tabstop(document: &[u8]) -> Tabstop
 
 // The tabstop of a document.
 pub fn tabstop_of(document: &[u8]) -> Columns
-    ensures { λ r. ⌜ (r .0 ≡ tabstop (tokens 0 0 (now (document .entry)))) × (r .0 ≤ 28) ⌝ }
+    ensures { λ r. ⌜ (r .0 ≡ tabstop (tokens 0 0 (now (document .entry)))) × (r .0 ≤ maxTab + 4) ⌝ }
 {
     let found = find_tabstop(document);
     found.columns

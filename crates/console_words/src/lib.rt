@@ -2,7 +2,7 @@
 // bytes, without the tests that only another chunk can pass.
 ghost use Prim.Native.Nat.{_<_, _≤_};
 ghost use lib.ListN.{length};
-ghost use Rattle.console_words.specs.Onward.{Onward, Ahead, Moves};
+ghost use Rattle.console_words.specs.InnerAdvance.{LineAdvance, Ahead, Moves};
 use console_chunks::Mark;
 use console_rules::Bytes;
 use console_rules::Columns;
@@ -11,7 +11,7 @@ use console_rules::Settings;
 use splitter::Code;
 
 // How far the text, the column and the walk of a body have come.
-struct Line {
+struct LineFilled {
     len: Bytes,
     column: Columns,
     at: usize,
@@ -26,19 +26,19 @@ fn fill_line(
     body: &[u8],
     from: usize,
     set: Settings,
-) -> Line
+) -> LineFilled
     requires { ⌜ (0 < len .0) × (len .0 ≤ length (now room)) ⌝ }
-    ensures { λ r. ⌜ Onward set (now (body .entry)) (now (room .entry)) (len .0) (column .0) from (now (room .exit)) (r .len .0) (r .column .0) (r .at) ⌝ }
+    ensures { λ r. ⌜ LineAdvance set (now (body .entry)) (now (room .entry)) (len .0) (column .0) from (now (room .exit)) (r .len .0) (r .column .0) (r .at) ⌝ }
 {
     let mut len = len;
     let mut column = column;
     let mut at = from;
     while at < body.len() {
         if set.width <= column.0 {
-            return Line { len, column, at };
+            return LineFilled { len, column, at };
         }
         if body[at] == b'\n' {
-            return Line { len, column, at };
+            return LineFilled { len, column, at };
         }
         let run = words::copy_run(room, len.0, body, at, set.width - column.0);
         let n = run.to - at;
@@ -48,10 +48,10 @@ fn fill_line(
         column = Columns(wider);
         at = run.to;
         if run.width == n {
-            return Line { len, column, at };
+            return LineFilled { len, column, at };
         }
     }
-    Line { len, column, at }
+    LineFilled { len, column, at }
 }
 
 // Whether a word would follow on the line at once: something is written, nothing is due, no column is missing to the margin.

@@ -15,7 +15,7 @@ use Rattle.base.specs.Result.{Result, gives, refused, _>>=_}
 use Rattle.base.proofs.Choice.{if-true, if-false, le-or-lt}
 use Rattle.base.proofs.Stack.{push-take, pop-take, top-take}
 use Rattle.utf8.specs.Utf8.{utf8}
-use Rattle.records.specs.Records.{Token, index, fits}
+use Rattle.records.specs.Records.{Token, index, recordFits}
 use Rattle.document.specs.Document.{opens, closes, bodiless, accept, first, reads, openBlocks, short, closed, check}
 use Rattle.refusal.specs.Numbers.{refusalNumber, refusalPlace}
 use Rattle.document.specs.Answers.{openedAs, turnAs, depthOf, putOn}
@@ -131,11 +131,11 @@ pub turn-refused : {t : Turn} {a : Refusal} (stack : List ℕ) {r : Result (List
 turn-refused stack e f = sym e ∙ ap (λ (t : Turn). turnAs t stack) f
 
 module _ (s : List ℕ) (at : ℕ) (stack : List ℕ) (l : at < length s) where
-  pub reads-cut : fits (drop at s) ≡ false → reads at 0 stack (drop at s) ≡ refused 2 at
+  pub reads-cut : recordFits (drop at s) ≡ false → reads at 0 stack (drop at s) ≡ refused 2 at
   unfolding first if_then_else_
   reads-cut e = reads-at-refused s at stack 2 at l (rw e)
 
-  module _ {h : Head} (r : Read s at h) (f : fits (drop at s) ≡ true) where
+  module _ {h : Head} (r : Read s at h) (f : recordFits (drop at s) ≡ true) where
     pub first-read : first at stack (drop at s) ≡ accept at (h .kind) (part s (h .start) (h .stop)) stack
     unfolding first if_then_else_
     first-read = rw f (ap (λ (t : Token). accept at (t .kind) (t .body) stack) (read-token r l))

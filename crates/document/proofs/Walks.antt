@@ -15,7 +15,7 @@ use Rattle.base.specs.Stack.{top, pushed, popped}
 use Rattle.base.proofs.Choice.{and-left, and-right}
 use Rattle.base.proofs.Stack.{length-pushed, length-popped, push-take, pop-take, top-take}
 use Rattle.utf8.proofs.Text.{Valid}
-use Rattle.records.specs.Records.{Token, index, size, tokenAt, tokens, fits}
+use Rattle.records.specs.Records.{Token, index, size, tokenAt, tokens, recordFits}
 use Rattle.document.specs.Document.{opens, closes, bodiless, accept, first, reads, openBlocks, short, closed, check}
 use Rattle.refusal.specs.Numbers.{refusalNumber, refusalPlace}
 use Rattle.document.specs.Answers.{verdictOf}
@@ -87,9 +87,9 @@ accept-gives p (kind.End b) y stack after e =
 accept-gives p kind.Unknown y stack after e = absurd (refused-gives e)
 
 pub first-gives : (p : ℕ) (stack s after : List ℕ) → first p stack s ≡ gives after
-    → (fits s ≡ true) × (accept p ((tokenAt p s) .kind) ((tokenAt p s) .body) stack ≡ gives after)
+    → (recordFits s ≡ true) × (accept p ((tokenAt p s) .kind) ((tokenAt p s) .body) stack ≡ gives after)
 unfolding first
-first-gives p stack s after e = if-gives (fits s) _ _ _ after e
+first-gives p stack s after e = if-gives (recordFits s) _ _ _ after e
 
 -- All records of an accepted document
 
@@ -172,12 +172,12 @@ module _ {left document : List ℕ} {at : ℕ} {stack : List ℕ} (o : Open-at l
   passed = bind-gives (first at stack (drop at document)) _ left (sym (reads-at document at stack l) ∙ o .runs)
 
   -- the record lies whole in the document
-  pub fits-here : fits (drop at document) ≡ true
+  pub fits-here : recordFits (drop at document) ≡ true
   fits-here = first-gives at stack (drop at document) (passed .0) (passed .1) .0
 
 module _ {left document : List ℕ} {at : ℕ} {stack : List ℕ} {h : Head} (o : Open-at left document at stack) (r : Read document at h)
     (l : at < length document) where
-  pub open-fits : fits (drop at document) ≡ true
+  pub open-fits : recordFits (drop at document) ≡ true
   open-fits = fits-here o l
 
   pub open-whole : (h .start ≡ at + 6) × (h .next ≡ nextAt document at)

@@ -11,6 +11,7 @@ use Rattle.document.specs.declared.Opened.{Opened}
 use Rattle.document.specs.declared.Turn.{Turn}
 use Rattle.document.specs.declared.Turn.the-variants as turn
 use Rattle.refusal.specs.Numbers.{refusalPlace, refusalNumber}
+use Rattle.document.specs.Document.{maxOpen}
 
 module _ {A : Type 0} where
   -- a verdict on what was read: that, or the refusal
@@ -34,4 +35,4 @@ depthOf (turn.Refused r) = 0
 
 -- a stack of blocks with one more at a place below 32
 unfoldable pub putOn : List ℕ → ℕ → ℕ → List ℕ
-putOn stack depth i = if ltb depth 32 then set stack depth i else stack
+putOn stack depth i = if ltb depth maxOpen then set stack depth i else stack

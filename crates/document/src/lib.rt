@@ -3,12 +3,18 @@ ghost use mathlib.Core.Path.{_≡_};
 ghost use mathlib.Core.List.{[]};
 ghost use Prim.Native.Nat.{_+_, _<_, _≤_};
 ghost use lib.ListN.{length, take};
-ghost use Rattle.document.specs.Document.{opens, closes, accept, openBlocks, check};
+ghost use Rattle.document.specs.Document.{opens, closes, accept, openBlocks, check, maxOpen};
 ghost use Rattle.base.specs.Bytes.{part};
 ghost use Rattle.document.specs.Answers.{verdictOf, openedAs, turnAs, depthOf, putOn};
 use records::Head;
 use records::Kind;
 use refusal::Refusal;
+
+// 'At most 32,768 bytes'
+pub const MAX_BYTES: usize = 32_768;
+
+// 'At most .. 32 open blocks'
+pub const MAX_OPEN: usize = 32;
 
 // Whether a document is accepted.
 pub enum Checked {
@@ -19,7 +25,7 @@ pub enum Checked {
 // The verdict on a document whose blocks may be open, and the indices of its open blocks, the innermost last.
 pub struct Opened {
     pub verdict: Checked,
-    pub stack: [u8; 32],
+    pub stack: [u8; MAX_OPEN],
     pub depth: usize,
 }
 
@@ -32,11 +38,11 @@ pub enum Turn {
 // Refusal 7: the start of the block with an index, where the first `depth` blocks of the stack are open. Free is the answer where the
 // stack has fewer than 32 places.
 pub fn open_block(stack: &mut [u8], depth: usize, i: u8, at: usize) -> Turn
-    ensures open { λ r. ⌜ (32 ≤ length (now (stack .entry)) → turnAs r (now (stack .exit)) ≡ opens at i (take depth (now (stack .entry)))) ⌝ }
-    ensures shallow { λ r. ⌜ depthOf r ≤ 32 ⌝ }
+    ensures open { λ r. ⌜ (maxOpen ≤ length (now (stack .entry)) → turnAs r (now (stack .exit)) ≡ opens at i (take depth (now (stack .entry)))) ⌝ }
+    ensures shallow { λ r. ⌜ depthOf r ≤ maxOpen ⌝ }
     ensures written { λ _. ⌜ now (stack .exit) ≡ putOn (now (stack .entry)) depth i ⌝ }
 {
-    if 32 <= depth {
+    if MAX_OPEN <= depth {
         return Turn::Refused(Refusal::TooDeep(at));
     }
     if stack.len() <= depth {
@@ -71,9 +77,9 @@ pub fn close_block(stack: &[u8], depth: usize, i: u8, at: usize) -> Turn
 
 // Refusals 3 to 7 of a record with this head, where the first `depth` blocks of the stack are open.
 fn accept(document: &[u8], at: usize, h: Head, stack: &mut [u8], depth: usize) -> Turn
-    requires { ⌜ (h .start ≤ h .stop) × (h .stop ≤ length (now document)) × (length (now stack) ≡ 32) × (depth ≤ 32) ⌝ }
+    requires { ⌜ (h .start ≤ h .stop) × (h .stop ≤ length (now document)) × (length (now stack) ≡ maxOpen) × (depth ≤ maxOpen) ⌝ }
     ensures open { λ r. ⌜ turnAs r (now (stack .exit)) ≡ accept at (h .kind) (part (now (document .entry)) (h .start) (h .stop)) (take depth (now (stack .entry))) ⌝ }
-    ensures shallow { λ r. ⌜ depthOf r ≤ 32 ⌝ }
+    ensures shallow { λ r. ⌜ depthOf r ≤ maxOpen ⌝ }
 {
     let kind = h.kind;
     let start = h.start;
@@ -105,9 +111,9 @@ fn accept(document: &[u8], at: usize, h: Head, stack: &mut [u8], depth: usize) -
 // refusal, `depth` and all of the stack; `shallow` holds of them.
 pub fn open_blocks(document: &[u8]) -> Opened
     ensures open { λ r. ⌜ openedAs r ≡ openBlocks (now (document .entry)) ⌝ }
-    ensures shallow { λ r. ⌜ (r .depth ≤ 32) × (length (r .stack) ≡ 32) ⌝ }
+    ensures shallow { λ r. ⌜ (r .depth ≤ maxOpen) × (length (r .stack) ≡ maxOpen) ⌝ }
 {
-    let mut stack: [u8; 32] = [0; 32];
+    let mut stack: [u8; MAX_OPEN] = [0; MAX_OPEN];
     let mut depth: usize = 0;
     let mut at: usize = 0;
     while at < document.len() {
@@ -145,7 +151,7 @@ pub fn open_blocks(document: &[u8]) -> Opened
 pub fn check(document: &[u8]) -> Checked
     ensures { λ r. ⌜ verdictOf r [] ≡ check (now (document .entry)) ⌝ }
 {
-    if 32768 < document.len() {
+    if MAX_BYTES < document.len() {
         return Checked::Refused(Refusal::TooLong);
     }
     let o = open_blocks(document);

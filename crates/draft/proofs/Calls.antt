@@ -28,12 +28,12 @@ use Rattle.refusal.specs.declared.Refusal.{Refusal}
 use Rattle.utf8.specs.Utf8.{utf8}
 use Rattle.buffer.specs.Builder.{soFar, fit, writes, opensBlock, closesBlock}
 use Rattle.buffer.specs.Answers.{builtAs, kept, Of01}
-use Rattle.buffer.specs.Parts.{longer}
+use Rattle.buffer.specs.InnerParts.{longer}
 use Rattle.buffer.specs.declared.Built.{Built}
 use Rattle.buffer.specs.declared.Built.the-variants as built
 use Rattle.buffer.proofs.Answering.{So-far, says-same, stops, writes-not, writes-in}
 use Rattle.draft.specs.Draft.{styleIn, oneRecord, Opens, Of, Holds, plausible, draftedAs, Resumed, Does}
-use Rattle.draft.specs.Parts.{textAt, Turned}
+use Rattle.draft.specs.InnerParts.{textAt, Turned}
 use Rattle.draft.specs.declared.Draft.{Draft}
 use Rattle.draft.specs.declared.Drafted.{Drafted}
 use Rattle.draft.specs.declared.Drafted.the-variants as drafted

@@ -20,7 +20,7 @@ use Rattle.buffer.specs.declared.Built.{Built}
 use Rattle.buffer.specs.declared.Built.the-variants as built
 use Rattle.buffer.proofs.Pasting.{length-stored}
 use Rattle.buffer.proofs.Answering.{so-far-on, says-same}
-use Rattle.buffer_doc.specs.Parts.{Ready, Joins, madeOf}
+use Rattle.buffer_doc.specs.InnerParts.{Ready, Joins, madeOf}
 use Rattle.buffer_doc.proofs.Laws.{fit-gives, Nested, around-leaves, around-front, made-nested}
 use Rattle.draft.specs.Draft.{Last, Opens, Holds, Does}
 use Rattle.draft.specs.declared.Draft.{Draft}

@@ -29,7 +29,7 @@ use Rattle.document.proofs.Walks.{first-gives}
 use Rattle.utf8.specs.Utf8.{utf8}
 use Rattle.buffer.specs.Builder.{fit, add, writes, opensBlock, closesBlock}
 use Rattle.buffer.specs.Answers.{kept}
-use Rattle.buffer.specs.Parts.{longer, Accepted}
+use Rattle.buffer.specs.InnerParts.{longer, Accepted}
 use Rattle.buffer.proofs.Pasting.{length-stored}
 use Rattle.buffer.proofs.Records.{Holds-kind, Holds-size, number-small, stored-size, stored-kind, same-size, same-token, same-first}
 use Rattle.buffer.proofs.Records.{reads-before, reads-start, reads-finish}
@@ -37,7 +37,7 @@ use Rattle.buffer.proofs.Answering.{So-far, so-far-given, so-far-on, soFar-in, 
 use Rattle.buffer.proofs.Blocks.{add-refused, add-given}
 use Rattle.buffer_doc.proofs.Laws.{fit-gives, after-write}
 use Rattle.draft.specs.Draft.{styleIn, oneRecord, Last, none, stands, Opens, Of, Holds}
-use Rattle.draft.specs.Parts.{textAt, Turned}
+use Rattle.draft.specs.InnerParts.{textAt, Turned}
 use Rattle.draft.specs.declared.Draft.{Draft}
 use Rattle.draft.proofs.Packing.{opens-length, opens-top, opens-same, opens-none}
 use Rattle.draft.proofs.Places.{one-long, placed}

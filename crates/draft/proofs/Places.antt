@@ -22,11 +22,11 @@ use Rattle.records.proofs.Reading.{fits-room}
 use Rattle.document.specs.Document.{first, reads, openBlocks}
 use Rattle.document.proofs.Walks.{first-gives}
 use Rattle.buffer.specs.Builder.{isText, oneText, written}
-use Rattle.buffer.specs.Parts.{longer, Goes}
+use Rattle.buffer.specs.InnerParts.{longer, Goes}
 use Rattle.buffer.proofs.Records.{size-before}
 use Rattle.buffer.proofs.Written.{written-next, written-last, one-text, not-one-text}
 use Rattle.draft.specs.Draft.{styleIn, oneRecord, Last, none, stands, Of}
-use Rattle.draft.specs.Parts.{textAt}
+use Rattle.draft.specs.InnerParts.{textAt}
 use Rattle.draft.specs.declared.Draft.{Draft}
 
 pub one-long : (l : List ℕ) → oneRecord l ≡ true → length l ≡ 6 + size l

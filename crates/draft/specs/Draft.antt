@@ -12,7 +12,7 @@ use Rattle.base.specs.Stack.{pushed}
 use Rattle.records.specs.Records.{tokenAt, size, number}
 use Rattle.records.specs.declared.Kind.{Kind}
 use Rattle.records.specs.declared.Kind.the-variants as kind
-use Rattle.document.specs.Document.{openBlocks}
+use Rattle.document.specs.Document.{openBlocks, maxBytes, maxOpen}
 use Rattle.refusal.specs.Numbers.{refusalNumber, refusalPlace}
 use Rattle.buffer.specs.Builder.{soFar}
 use Rattle.buffer.specs.Answers.{kept}
@@ -42,7 +42,7 @@ digits d = d .inner + 0x1_0000_0000_0000_0000 * d .outer
 
 -- a draft's open blocks are these, and its words are zero beyond them
 pub record Opens (d : Draft) (stack : List ℕ) : Type 0 where
-  pub shallow : d .depth ≤ 32
+  pub shallow : d .depth ≤ maxOpen
   pub blocks : stack ≡ openIn (d .depth) (digits d)
   pub low : digits d < 2 ^ (4 * d .depth)
 
@@ -74,13 +74,13 @@ pub record Of (d : Draft) (s : List ℕ) : Type 0 where
 -- a draft holds of a room: it is that of the document in the room's first bytes, which is not refused with 13 or 1 either
 pub record Holds (d : Draft) (room : List ℕ) : Type 0 where
   pub inside : d .length ≤ length room
-  pub small : d .length ≤ 32_768
+  pub small : d .length ≤ maxBytes
   pub of : Of d (take (d .length) room)
 
 -- the quick test: a draft may hold of a room; where it fails, the draft does not hold
 unfoldable pub plausible : List ℕ → Draft → Bool
 plausible room d =
-    leb (d .length) (length room) && (leb (d .length) 32_768 && (leb (d .depth) 32
+    leb (d .length) (length room) && (leb (d .length) maxBytes && (leb (d .depth) maxOpen
     && (if eqb (d .length) 0 then true else oneRecord (drop (d .last) (take (d .length) room)))))
 
 -- a draft can be built on: it holds, or the quick test shows that it does not, and then the document so far is checked

@@ -8,12 +8,15 @@ ghost use Rattle.base.specs.Stack.{pushed, popped};
 ghost use Rattle.records.specs.Records.{number, index};
 ghost use Rattle.buffer.specs.Builder.{writes, opensBlock, closesBlock, addsAs, addsDoc, addsEmDoc};
 ghost use Rattle.buffer.specs.Answers.{Of01};
-ghost use Rattle.buffer.specs.Parts.{Accepted};
-ghost use Rattle.buffer_doc.specs.Parts.{madeOf};
+ghost use Rattle.buffer.specs.InnerParts.{Accepted};
+ghost use Rattle.buffer_doc.specs.InnerParts.{madeOf};
 ghost use Rattle.draft.specs.Draft.{draftIn, Opens, Of, Holds, plausible, Sound, draftedAs, Resumed, Does};
-ghost use Rattle.draft.specs.Parts.{Turned, textAt};
+ghost use Rattle.draft.specs.InnerParts.{Turned, textAt};
+ghost use Rattle.document.specs.Document.{maxOpen};
 use buffer::Built;
 use document::Checked;
+use document::MAX_BYTES;
+use document::MAX_OPEN;
 use records::Block;
 use records::Kind;
 use records::Style;
@@ -46,10 +49,10 @@ fn plausible(room: &[u8], d: Draft) -> bool
     if room.len() < length {
         return false;
     }
-    if 32768 < length {
+    if MAX_BYTES < length {
         return false;
     }
-    if 32 < d.depth {
+    if MAX_OPEN < d.depth {
         return false;
     }
     if length == 0 {
@@ -81,13 +84,13 @@ fn inner_down(inner: usize, outer: usize) -> usize
 // The draft with one more block, which starts at its end.
 fn opened(d: Draft, b: Block, next: usize) -> Draft
     ensures long { λ r. ⌜ (r .length ≡ next) × (r .last ≡ d .length) × (r .style ≡ 0) ⌝ }
-    ensures open { λ r. ⌜ ((stack : List ℕ) → length stack < 32 → Opens d stack → Opens r (pushed (index b) stack)) ⌝ }
+    ensures open { λ r. ⌜ ((stack : List ℕ) → length stack < maxOpen → Opens d stack → Opens r (pushed (index b) stack)) ⌝ }
 {
     let depth = d.depth;
     let inner = d.inner;
     let outer = d.outer;
     let last = d.length;
-    if 32 <= depth {
+    if MAX_OPEN <= depth {
         return Draft {
             length: next,
             last,
@@ -270,7 +273,7 @@ fn add_start(room: &mut [u8], d: Draft, b: Block) -> Drafted
 {
     let length = d.length;
     let depth = d.depth;
-    if 32 <= depth {
+    if MAX_OPEN <= depth {
         return Drafted::Refused(Refusal::TooDeep(length));
     }
     let built = buffer::put_block(room, length, 0x0100 + records::index_of(b));

@@ -19,7 +19,7 @@ use Rattle.splitter.specs.Split.{Chunk, raw, paragraph, lineBreak, isSpace, Pla
 use Rattle.room.specs.Room.{extended}
 use Rattle.room.proofs.Laws.{extended-in, extended-out}
 use Rattle.renderer.specs.Walk.{write, last, walk, body}
-use Rattle.console_rules.specs.Console.{State, initial, lineEnd, dueLine, dueBlank, gap2, place, reach, pad, put, fold, tick, started, ended}
+use Rattle.console_rules.specs.Console.{State, initial, lineEnd, dueLine, dueBlank, padGutter, place, reach, pad, put, fold, tick, started, ended}
 use Rattle.console_rules.specs.Console.{gapAhead, rawChunk, chunk, bodyChunk, turn, tabstop, finish, measureOf, consoleBy, console}
 use Rattle.console_rules.specs.declared.Settings.{Settings}
 
@@ -74,8 +74,8 @@ module _ (small large : ℕ) (h : small ≤ large) where
   unfolding dueBlank
   blank-or-full s = if-or-full _ (write-or-full _ s) same
 
-  gap-or-full : (written : ℕ) (s : State) → OrFull (gap2 small written s) (gap2 large written s)
-  unfolding gap2
+  gap-or-full : (written : ℕ) (s : State) → OrFull (padGutter small written s) (padGutter large written s)
+  unfolding padGutter
   gap-or-full written s = if-or-full _ (write-or-full _ _) same
 
   place-or-full : (x : List ℕ) (w : ℕ) (s : State) → OrFull (place small x w s) (place large x w s)

@@ -13,11 +13,11 @@ use Rattle.base.specs.Result.{Result, gives, refused, _>>=_}
 use Rattle.base.specs.Bytes.{part}
 use Rattle.base.proofs.Choice.{if-true, if-false}
 use Rattle.base.proofs.Results.{bind-assoc, bind-same, bind-gives, refused-gives, gives-same}
-use Rattle.records.specs.Records.{little, size, fits}
+use Rattle.records.specs.Records.{little, size, recordFits}
 use Rattle.records.proofs.Tokens.{nextAt, drop-past}
 use Rattle.records.proofs.Reading.{fits-room}
-use Rattle.figures.specs.Bundle.{document, documentsFrom, documents, textOf, accepts, refuses, prints, total, figuresOf, figures}
-use Rattle.figures.specs.Parts.{printedOf, nothing, plus, from}
+use Rattle.figures.specs.Bundle.{document, documentsFrom, documents, fullText, accepts, refuses, prints, total, figuresOf, figures}
+use Rattle.figures.specs.InnerParts.{printedOf, nothing, plus, from}
 use Rattle.figures.specs.declared.Figures.{Figures}
 
 -- Documents
@@ -51,15 +51,15 @@ module _ (s : List ℕ) (at : ℕ) where
 
 -- one record: 15, 14, or its body
 module _ (p : ℕ) (s : List ℕ) where
-  cut-short : fits s ≡ false → document p s ≡ refused 15 p
+  cut-short : recordFits s ≡ false → document p s ≡ refused 15 p
   unfolding document
   cut-short e = if-false _ _ e
 
-  other-kind : fits s ≡ true → eqb (little (take 2 (drop 4 s))) 0x0300 ≡ false → document p s ≡ refused 14 p
+  other-kind : recordFits s ≡ true → eqb (little (take 2 (drop 4 s))) 0x0300 ≡ false → document p s ≡ refused 14 p
   unfolding document
   other-kind e k = if-true _ _ e ∙ if-false _ _ k
 
-  stands : fits s ≡ true → eqb (little (take 2 (drop 4 s))) 0x0300 ≡ true → document p s ≡ gives (take (size s) (drop 6 s))
+  stands : recordFits s ≡ true → eqb (little (take 2 (drop 4 s))) 0x0300 ≡ true → document p s ≡ gives (take (size s) (drop 6 s))
   unfolding document
   stands e k = if-true _ _ e ∙ if-true _ _ k
 
@@ -93,15 +93,15 @@ none-told (refused n q) k p e = (refl, refl, refl)
 
 -- one document more, with a text or without
 module _ (f : Figures) (d : List ℕ) where
-  pub plus-text : (n : ℕ) → gives n ≡ printedOf (textOf d)
+  pub plus-text : (n : ℕ) → gives n ≡ printedOf (fullText d)
       → record { documents = f .documents + 1; accepted = f .accepted + 1; refused = f .refused; characters = f .characters + n } ≡ plus f (d ∷ [])
   unfolding total
-  plus-text n e = let t = text-told (textOf d) n e in figures-eq (omega arith) (omega (arith, t .0)) (omega (arith, t .1)) (omega (arith, t .2))
+  plus-text n e = let t = text-told (fullText d) n e in figures-eq (omega arith) (omega (arith, t .0)) (omega (arith, t .1)) (omega (arith, t .2))
 
-  pub plus-refused : (k p : ℕ) → refused k p ≡ printedOf (textOf d)
+  pub plus-refused : (k p : ℕ) → refused k p ≡ printedOf (fullText d)
       → record { documents = f .documents + 1; accepted = f .accepted; refused = f .refused + 1; characters = f .characters } ≡ plus f (d ∷ [])
   unfolding total
-  plus-refused k p e = let t = none-told (textOf d) k p e in figures-eq (omega arith) (omega (arith, t .0)) (omega (arith, t .1)) (omega (arith, t .2))
+  plus-refused k p e = let t = none-told (fullText d) k p e in figures-eq (omega arith) (omega (arith, t .0)) (omega (arith, t .1)) (omega (arith, t .2))
 
 plus-nothing : (ds : List (List ℕ)) → plus nothing ds ≡ figuresOf ds
 plus-nothing ds = figures-eq (zero-add (length ds)) (zero-add (total accepts ds)) (zero-add (total refuses ds)) (zero-add (total prints ds))
@@ -120,11 +120,11 @@ module _ (s : List ℕ) (at : ℕ) (f : Figures) where
         ∙ bind-same (document at (drop at s)) _ _ (λ d. sym (bind-assoc (documentsFrom (nextAt s at) 0 (drop (nextAt s at) s)) _ _)
         ∙ bind-same (documentsFrom (nextAt s at) 0 (drop (nextAt s at) s)) _ _ (λ ds. ap gives (plus-one f d ds)))
 
-    pub from-cut : fits (drop at s) ≡ false → refused 15 at ≡ from s at f
+    pub from-cut : recordFits (drop at s) ≡ false → refused 15 at ≡ from s at f
     unfolding _>>=_
     from-cut e = sym (from-at ∙ rw (cut-short at (drop at s) e))
 
-    module _ (e : fits (drop at s) ≡ true) (k : ℕ) (ek : k ≡ little (take 2 (drop (at + 4) s))) where
+    module _ (e : recordFits (drop at s) ≡ true) (k : ℕ) (ek : k ≡ little (take 2 (drop (at + 4) s))) where
       number : little (take 2 (drop 4 (drop at s))) ≡ k
       number = ap (λ (l : List ℕ). little (take 2 l)) (drop-drop 4 at s) ∙ sym ek
 
@@ -167,7 +167,7 @@ one-of-both (refused n p) = refl
 both-are-all : (ds : List (List ℕ)) → total accepts ds + total refuses ds ≡ length ds
 unfolding total
 both-are-all [] = refl
-both-are-all (d ∷ ds) = omega (arith, one-of-both (textOf d), both-are-all ds)
+both-are-all (d ∷ ds) = omega (arith, one-of-both (fullText d), both-are-all ds)
 
 pub accepted-plus-refused : (bundle : List ℕ) (f : Figures) → figures bundle ≡ gives f → f .accepted + f .refused ≡ f .documents
 unfolding figures

@@ -12,8 +12,8 @@ use Rattle.records.specs.declared.Kind.{Kind}
 use Rattle.console_rules.specs.Console.{console}
 use Rattle.console_bound.specs.Bound.{ref, refs, boundOn, bound}
 use Rattle.console_bound.proofs.Room.{console-room}
-use Rattle.figures.specs.Bundle.{shelf, textOf}
-use Rattle.figures.specs.Parts.{lent}
+use Rattle.figures.specs.Bundle.{shelf, fullText}
+use Rattle.figures.specs.InnerParts.{lent}
 use Rattle.figures.proofs.LargerRoom.{same-in-larger-room}
 
 ref-small : (k : Kind) → ref k ≤ 1
@@ -37,8 +37,8 @@ unfolding bound boundOn
 bound-small s = omega (arith, records-bound s 0 0)
 
 -- 02, point 10: '13 never comes when that much is lent'
-pub same-when-lent : (d : List ℕ) → console shelf (lent (length d)) d ≡ textOf d
-unfolding textOf
+pub same-when-lent : (d : List ℕ) → console shelf (lent (length d)) d ≡ fullText d
+unfolding fullText
 same-when-lent d =
     ⊎-elim
     (λ (h : 54 * length d + 1 ≤ 65_536).

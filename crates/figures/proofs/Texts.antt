@@ -20,8 +20,8 @@ use Rattle.renderer.specs.declared.Rendered.{Rendered}
 use Rattle.renderer.specs.declared.Rendered.the-variants as rendered
 use Rattle.console_rules.specs.Console.{console}
 use Rattle.console.specs.Answers.{Demand3}
-use Rattle.figures.specs.Bundle.{shelf, textOf}
-use Rattle.figures.specs.Parts.{printedOf, printedAs, Few, lent}
+use Rattle.figures.specs.Bundle.{shelf, fullText}
+use Rattle.figures.specs.InnerParts.{printedOf, printedAs, Few, lent}
 use Rattle.figures.specs.declared.Printed.{Printed}
 use Rattle.figures.specs.declared.Printed.the-variants as printed
 use Rattle.figures.proofs.Lent.{same-when-lent}
@@ -87,13 +87,13 @@ none-printed (refused n q) x a t e = sym (ap answered t) ∙ e
 
 -- what was counted of a document in the part of the room that it is lent
 module _ (room d : List ℕ) (p : Printed) (size : length room ≡ lent (length d)) (e : printedAs p ≡ printedOf (console shelf (length room) d)) where
-  in-room : printedAs p ≡ printedOf (textOf d)
+  in-room : printedAs p ≡ printedOf (fullText d)
   in-room = e ∙ ap (λ (k : ℕ). printedOf (console shelf k d)) size ∙ ap printedOf (same-when-lent d)
 
-  pub some-counted : (n : ℕ) → p ≡ printed.Characters n → gives n ≡ printedOf (textOf d)
+  pub some-counted : (n : ℕ) → p ≡ printed.Characters n → gives n ≡ printedOf (fullText d)
   some-counted n t = sym (ap printedAs t) ∙ in-room
 
-  pub none-counted : (a : Refusal) → p ≡ printed.Refused a → refused (refusalNumber a) (refusalPlace a) ≡ printedOf (textOf d)
+  pub none-counted : (a : Refusal) → p ≡ printed.Refused a → refused (refusalNumber a) (refusalPlace a) ≡ printedOf (fullText d)
   none-counted a t = sym (ap printedAs t) ∙ in-room
 
 pub few-at-most : (most : ℕ) (p : Printed) (n : ℕ) → p ≡ printed.Characters n → Few most p → n ≤ most

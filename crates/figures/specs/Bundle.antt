@@ -7,7 +7,7 @@ use lib.ListN.{length, take, drop}
 use Rattle.base.specs.Choice.{if_then_else_}
 use Rattle.base.specs.Result.{Result, gives, refused, _>>=_}
 use Rattle.white.specs.White.{printing}
-use Rattle.records.specs.Records.{little, size, fits}
+use Rattle.records.specs.Records.{little, size, recordFits}
 use Rattle.console_rules.specs.Console.{console}
 use Rattle.console_rules.specs.declared.Settings.{Settings}
 use Rattle.console_rules.specs.declared.Measure.the-variants as measure
@@ -17,7 +17,7 @@ use Rattle.figures.specs.declared.Figures.{Figures}
 -- record 15 when it is cut short, then 14 when its kind is not 0x0300'.
 unfoldable pub document : ℕ → List ℕ → Result (List ℕ)
 document p s =
-    if fits s
+    if recordFits s
     then if eqb (little (take 2 (drop 4 s))) 0x0300 then gives (take (size s) (drop 6 s)) else refused 14 p
     else refused 15 p
 
@@ -36,8 +36,8 @@ abbrev pub shelf : Settings
 shelf = record { width = 100; full = true; measure = measure.Bytes }
 
 -- '.. and a room of 65,536'
-unfoldable pub textOf : List ℕ → Result (List ℕ)
-textOf d = console shelf 65_536 d
+unfoldable pub fullText : List ℕ → Result (List ℕ)
+fullText d = console shelf 65_536 d
 
 -- a document has a text, or is one of 'the others'
 abbrev pub accepts : Result (List ℕ) → ℕ
@@ -56,7 +56,7 @@ prints (refused n p) = 0
 -- a number of each document's text, added up
 unfoldable pub total : (Result (List ℕ) → ℕ) → List (List ℕ) → ℕ
 total f [] = 0
-total f (d ∷ ds) = f (textOf d) + total f ds
+total f (d ∷ ds) = f (fullText d) + total f ds
 
 -- 'bodies seen, those with a full text .., the others, and the printing characters of the accepted texts'
 abbrev pub figuresOf : List (List ℕ) → Figures

@@ -1,4 +1,4 @@
 pub mod Bundle
 pub mod Answers
-pub mod Parts
+pub mod InnerParts
 pub mod Samples

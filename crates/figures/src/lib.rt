@@ -4,9 +4,9 @@ ghost use mathlib.Core.List.{[], _∷_};
 ghost use Prim.Native.Nat.{_≤_, _+_};
 ghost use lib.ListN.{length};
 ghost use Rattle.console_rules.specs.Console.{console};
-ghost use Rattle.figures.specs.Bundle.{shelf, textOf, figures};
+ghost use Rattle.figures.specs.Bundle.{shelf, fullText, figures};
 ghost use Rattle.figures.specs.Answers.{answered};
-ghost use Rattle.figures.specs.Parts.{printedAs, printedOf, plus, nothing, Few, Bounded, from};
+ghost use Rattle.figures.specs.InnerParts.{printedAs, printedOf, plus, nothing, Few, Bounded, from};
 use refusal::Refusal;
 use renderer::Rendered;
 

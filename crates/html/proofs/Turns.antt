@@ -20,10 +20,10 @@ use Rattle.splitter.specs.Split.{Chunk, raw, paragraph, lineBreak, split}
 use Rattle.renderer.specs.Walk.{withOut, withLay, page, write, last, anywhere, body}
 use Rattle.skip.specs.Counter.{hides, skipStart, skipEnd}
 use Rattle.html_rules.specs.Marks.{separated}
-use Rattle.html_rules.specs.Html.{State, styled, skip, inList, startTag, endTag, br, change, blankLine, tagged, enter, leave, chunk, turn, finish}
+use Rattle.html_rules.specs.Html.{State, withStyle, withSkip, inList, startTag, endTag, br, change, blankLine, tagged, enter, leave, chunk, turn, finish}
 use Rattle.html_rules.specs.declared.Html.{Html}
 use Rattle.html_rules.proofs.Lifts.{lift, lift-then, refuses}
-use Rattle.html_tags.specs.Parts.{chunkText, closed, headed, blockText}
+use Rattle.html_tags.specs.InnerParts.{chunkText, closed, headed, blockText}
 
 module _ (limit p : ℕ) (b : Block) (tag : List ℕ) where
   header : (s : State) (c : Bool) → ((if c then blankLine limit s else gives s) >>= write limit tag) ≡ lift
@@ -65,25 +65,25 @@ module _ (limit : ℕ) (strict full : Bool) (p q : ℕ) (y : List ℕ) (ts : Lis
     unfolding turn change write enter _>>=_
     start-is n =
         ap (λ (r : Result State). r >>= λ s₁. gives (enter limit b s₁)) (block-is limit p b (startTag (inList kept) b) (lay .style)
-        (withLay (styled style.Text) here) n)
-        ∙ sym (bind-assoc (blockText limit (lay .style) b (startTag (inList kept) b) x) (λ z. gives (withOut z (withLay (styled style.Text) here)))
+        (withLay (withStyle style.Text) here) n)
+        ∙ sym (bind-assoc (blockText limit (lay .style) b (startTag (inList kept) b) x) (λ z. gives (withOut z (withLay (withStyle style.Text) here)))
         (λ s₁. gives (enter limit b s₁)))
 
     pub end-is : (index b ≡ 10 → ⊥)
         → turn limit strict full p q (kind.End b) y ts here ≡ (blockText limit (lay .style) b (endTag (inList (popped kept)) b) x >>= λ z. gives (left z))
     unfolding turn change write leave
-    end-is n = block-is limit p b (endTag (inList (popped kept)) b) (lay .style) (withLay (styled style.Text) (leave limit b here)) n
+    end-is n = block-is limit p b (endTag (inList (popped kept)) b) (lay .style) (withLay (withStyle style.Text) (leave limit b here)) n
 
     pub start-meta : index b ≡ 10 → turn limit strict full p q (kind.Start b) y ts here ≡ (closed limit (lay .style) x >>= λ _. refused 11 p)
     unfolding turn change write
     start-meta e =
         ap (λ (r : Result State). r >>= λ s₁. gives (enter limit b s₁)) (meta-is limit p b (startTag (inList kept) b) (lay .style)
-        (withLay (styled style.Text) here) e)
+        (withLay (withStyle style.Text) here) e)
         ∙ refuses (closed limit (lay .style) x) 11 p (λ s₁. gives (enter limit b s₁))
 
     pub end-meta : index b ≡ 10 → turn limit strict full p q (kind.End b) y ts here ≡ (closed limit (lay .style) x >>= λ _. refused 11 p)
     unfolding turn change write leave
-    end-meta e = meta-is limit p b (endTag (inList (popped kept)) b) (lay .style) (withLay (styled style.Text) (leave limit b here)) e
+    end-meta e = meta-is limit p b (endTag (inList (popped kept)) b) (lay .style) (withLay (withStyle style.Text) (leave limit b here)) e
 
   module _ (st : Style) where
     -- text that is hidden, and text that is not
@@ -100,7 +100,7 @@ module _ (limit : ℕ) (strict full : Bool) (p q : ℕ) (y : List ℕ) (ts : Lis
   pub finish-is : (sheet : List ℕ) → finish limit sheet here ≡ (closed limit (lay .style) x >>= extended limit sheet)
   unfolding finish change write _>>=_
   finish-is sheet =
-      let s : State = withLay (styled style.Text) here in
+      let s : State = withLay (withStyle style.Text) here in
       let r : Result (List ℕ) = closed limit (lay .style) x >>= extended limit sheet in
       ap (λ (t : Result State). t >>= λ s₁. gives (s₁ .out)) (lift-then (closed limit (lay .style)) s (extended limit sheet))
       ∙ sym (bind-assoc r (λ z. gives (withOut z s)) (λ s₁. gives (s₁ .out)))
@@ -121,7 +121,7 @@ module _ (limit : ℕ) (strict full : Bool) (c : Chunk) (s : State) where
       go paragraph e = if-true _ _ (on full e)
       go lineBreak e = refl
 
-  pub chunk-last : last full c ≡ true → chunk limit strict full c s ≡ gives (withLay (skip 1) s)
+  pub chunk-last : last full c ≡ true → chunk limit strict full c s ≡ gives (withLay (withSkip 1) s)
   unfolding chunk
   chunk-last e = go c e
     where
@@ -129,7 +129,7 @@ module _ (limit : ℕ) (strict full : Bool) (c : Chunk) (s : State) where
       off true e = sym e
       off false e = refl
 
-      go : (d : Chunk) → last full d ≡ true → chunk limit strict full d s ≡ gives (withLay (skip 1) s)
+      go : (d : Chunk) → last full d ≡ true → chunk limit strict full d s ≡ gives (withLay (withSkip 1) s)
       go (raw x w) e = cc
       go paragraph e = if-false _ _ (off full e)
       go lineBreak e = cc

@@ -12,7 +12,7 @@ use Rattle.base.specs.Stack.{pushed, popped}
 use Rattle.base.proofs.Results.{bind-assoc, bind-same, bind-end}
 use Rattle.base.proofs.Stack.{push-take, pop-take}
 use Rattle.room.specs.Room.{extended, seen}
-use Rattle.records.specs.Records.{index, tokens, tokensFrom, fits}
+use Rattle.records.specs.Records.{index, tokens, tokensFrom, recordFits}
 use Rattle.document.specs.Document.{check}
 use Rattle.records.specs.Answers.{Read}
 use Rattle.records.specs.declared.Style.{Style}
@@ -29,17 +29,17 @@ use Rattle.splitter.specs.declared.Piece.{Piece}
 use Rattle.splitter.proofs.Answers.{Took}
 use Rattle.renderer.specs.Walk.{page, withLay, write, shown, last, anywhere, walk, body}
 use Rattle.skip.specs.Counter.{hides, skipParagraph, skipStart, skipEnd}
-use Rattle.skip.specs.Answers.{held}
-use Rattle.skip.proofs.Counter.{held-fits, skip-start-most, skip-end-most}
+use Rattle.skip.specs.Answers.{newIfFits}
+use Rattle.skip.proofs.Counter.{new-fits, skip-start-most, skip-end-most}
 use Rattle.renderer.proofs.Shown.{shown-in, shown-then, shown-write, shown-changed}
 use Rattle.renderer.proofs.Leads.{Leads, leads-start, chunksThen}
-use Rattle.html_rules.specs.Html.{State, plain, initial, styled, skip, inList, opening, closing, startTag, endTag, escaped, change, chunk, turn, finish}
+use Rattle.html_rules.specs.Html.{State, plain, initial, withStyle, withSkip, inList, opening, closing, startTag, endTag, escaped, change, chunk, turn, finish}
 use Rattle.html_rules.specs.declared.Html.{Html}
-use Rattle.html_marks.specs.Parts.{isMeta}
+use Rattle.html_marks.specs.InnerParts.{isMeta}
 use Rattle.html_rules.proofs.Rest as walking
 use Rattle.html_rules.proofs.Rest.{chunks-on, chunks-stop, chunks-done}
-use Rattle.html_tags.specs.Parts.{tags as allTags, chunkText, closed, blockText}
-use Rattle.html_lines.specs.Lines.{plainLine}
+use Rattle.html_tags.specs.InnerParts.{tags as allTags, chunkText, closed, blockText}
+use Rattle.html_lines.specs.InnerLines.{plainLine}
 use Rattle.html_lines.proofs.Chunks.{line-leads}
 use Rattle.html.proofs.Turns.{start-is, end-is, start-meta, end-meta, hidden-is, text-is, finish-is, chunk-on, chunk-last}
 
@@ -109,15 +109,15 @@ module _ (limit : ℕ) (strict full : Bool) (sheet tags document : List ℕ) whe
     on-out h = walking.rest-out (turn limit strict full) (finish limit sheet) document whole at room len kept lay (o .leads) h
 
     -- no record is left
-    pub on-end : (told : Result (List ℕ)) → length document ≤ at
-        → (tags ≡ allTags → told ≡ (seen room len >>= λ x. closed (length room) (lay .style) x >>= extended (length room) sheet)) → told ≡ whole
-    on-end told h w =
-        walking.rest-end (turn limit strict full) (finish limit sheet) document whole at room len kept lay (o .leads) told
+    pub on-end : (text : Result (List ℕ)) → length document ≤ at
+        → (tags ≡ allTags → text ≡ (seen room len >>= λ x. closed (length room) (lay .style) x >>= extended (length room) sheet)) → text ≡ whole
+    on-end text h w =
+        walking.rest-end (turn limit strict full) (finish limit sheet) document whole at room len kept lay (o .leads) text
         (λ x. closed limit (lay .style) x >>= extended limit sheet) h (λ x. finish-is limit strict full at at [] [] kept lay x sheet)
         (w (o .table) ∙ ap (λ (m : ℕ). seen room len >>= λ x. closed m (lay .style) x >>= extended m sheet) (o .same))
 
     -- the record that was read without a look at the document's end: it lies whole there
-    pub on-read : {h : Head} → at < length document → (fits (drop at document) ≡ true → Read document at h) → Read document at h
+    pub on-read : {h : Head} → at < length document → (recordFits (drop at document) ≡ true → Read document at h) → Read document at h
     on-read l r = r (fits-here (o .opened) l)
 
     -- a record was read here
@@ -142,27 +142,27 @@ module _ (limit : ℕ) (strict full : Bool) (sheet tags document : List ℕ) whe
           ∙ ap (λ (y : List ℕ). seen room len >>= blockText limit (lay .style) b y) e
 
       -- a turn that meets 11
-      meta : (told : Result (List ℕ)) → ((x : List ℕ) → Turned (page kept lay x) ≡ (closed limit (lay .style) x >>= λ _. refused 11 at))
-          → (tags ≡ allTags → told ≡ (seen room len >>= λ x. closed (length room) (lay .style) x >>= λ _. refused 11 at)) → told ≡ whole
-      meta told t w =
+      meta : (text : Result (List ℕ)) → ((x : List ℕ) → Turned (page kept lay x) ≡ (closed limit (lay .style) x >>= λ _. refused 11 at))
+          → (tags ≡ allTags → text ≡ (seen room len >>= λ x. closed (length room) (lay .style) x >>= λ _. refused 11 at)) → text ≡ whole
+      meta text t w =
           walking.turn-refuses (turn limit strict full) (finish limit sheet) document whole at room len kept lay (o .leads) r l (closed limit (lay .style))
-          told t
+          text t
           (w (o .table) ∙ ap (λ (c : ℕ). seen room len >>= λ x. closed c (lay .style) x >>= λ _. refused 11 at) (o .same))
 
       pub on-unknown : {A : Type 0} → h .kind ≡ kind.Unknown → A
       on-unknown e = absurd (open-known (o .opened) r l e)
 
       -- Meta
-      pub on-meta : (told : Result (List ℕ)) → isMeta (h .kind) ≡ true
-          → (tags ≡ allTags → told ≡ (seen room len >>= λ x. closed (length room) (lay .style) x >>= λ _. refused 11 at)) → told ≡ whole
-      on-meta told t w = go (h .kind) refl t
+      pub on-meta : (text : Result (List ℕ)) → isMeta (h .kind) ≡ true
+          → (tags ≡ allTags → text ≡ (seen room len >>= λ x. closed (length room) (lay .style) x >>= λ _. refused 11 at)) → text ≡ whole
+      on-meta text t w = go (h .kind) refl t
         where
-          go : (k : Kind) → h .kind ≡ k → isMeta k ≡ true → told ≡ whole
+          go : (k : Kind) → h .kind ≡ k → isMeta k ≡ true → text ≡ whole
           go (kind.Text s) e t = cc
           go (kind.Start b) e t =
-              meta told (λ x. by-kind (kind.Start b) e (page kept lay x) ∙ start-meta limit strict full at _ _ _ kept lay x b (eqb-true (index b) 10 t)) w
+              meta text (λ x. by-kind (kind.Start b) e (page kept lay x) ∙ start-meta limit strict full at _ _ _ kept lay x b (eqb-true (index b) 10 t)) w
           go (kind.End b) e t =
-              meta told (λ x. by-kind (kind.End b) e (page kept lay x) ∙ end-meta limit strict full at _ _ _ kept lay x b (eqb-true (index b) 10 t)) w
+              meta text (λ x. by-kind (kind.End b) e (page kept lay x) ∙ end-meta limit strict full at _ _ _ kept lay x b (eqb-true (index b) 10 t)) w
           go kind.Unknown e t = cc
 
       module _ {b : Block} where
@@ -172,12 +172,12 @@ module _ (limit : ℕ) (strict full : Bool) (sheet tags document : List ℕ) whe
 
         pub on-entered : (new stack′ : List ℕ) (n k : ℕ) → h .kind ≡ kind.Start b → isMeta (h .kind) ≡ false → length new ≡ length room
             → (tags ≡ allTags → seen new n ≡ (seen room len >>= blockText (length room) (lay .style) b (startTag (inList kept) b)))
-            → stack′ ≡ set stack depth (index b) → length stack′ ≡ length stack → k ≡ held (lay .skip) (skipStart b (lay .skip))
+            → stack′ ≡ set stack depth (index b) → length stack′ ≡ length stack → k ≡ newIfFits (lay .skip) (skipStart b (lay .skip))
             → On new (h .next) n (record { style = style.Text; skip = k }) stack′ (depth + 1)
         on-entered new stack′ n k e m s w v z f =
             let d = array-start stack depth (o .long) (o .low) (o .opened) r l e in
             let most = skip-start-most b (lay .skip) in
-            let j : k ≡ skipStart b (lay .skip) = f ∙ held-fits (lay .skip) (skipStart b (lay .skip)) (omega (arith, o .few, o .short)) in
+            let j : k ≡ skipStart b (lay .skip) = f ∙ new-fits (lay .skip) (skipStart b (lay .skip)) (omega (arith, o .few, o .short)) in
             let t : take (depth + 1) stack′ ≡ pushed (index b) kept = ap (take (depth + 1)) v ∙ push-take stack depth (index b) (omega (arith, d .0, o .long))
             in
             record {
@@ -248,7 +248,7 @@ module _ (limit : ℕ) (strict full : Bool) (sheet tags document : List ℕ) whe
             (sym (bind-end (seen room len))))
 
         -- the style has changed, and the chunks of the body are left
-        pub on-body : (y new : List ℕ) (n : ℕ) (lay′ : Html) → y ≡ part document (h .start) (h .stop) → hides (lay .skip) ≡ false → lay′ ≡ styled st lay
+        pub on-body : (y new : List ℕ) (n : ℕ) (lay′ : Html) → y ≡ part document (h .start) (h .stop) → hides (lay .skip) ≡ false → lay′ ≡ withStyle st lay
             → (tags ≡ allTags → seen new n ≡ (seen room len >>= extended (length room) (closing (lay .style) ++ opening st)))
             → InBody new (h .next) n lay′ kept y start
         unfolding change split
@@ -258,16 +258,16 @@ module _ (limit : ℕ) (strict full : Bool) (sheet tags document : List ℕ) whe
               few = omega (arith, o .few, further);
               leads = rw u
                   (walking.turn-begins (turn limit strict full) (finish limit sheet) document whole at room len kept lay (o .leads) r l
-                  (change limit st) (chunksThen full (anywhere (chunk limit strict full)) (rest (h .next)) (split y)) (shown new n kept (styled st lay))
+                  (change limit st) (chunksThen full (anywhere (chunk limit strict full)) (rest (h .next)) (split y)) (shown new n kept (withStyle st lay))
                   (λ x.
                   ap (λ (q : Result State). q >>= rest (h .next))
                   (by-kind (kind.Text st) e (page kept lay x)
                   ∙ text-is limit strict full at _ _ _ kept lay x st z
                   ∙ ap (λ (b : List ℕ). change limit st (page kept lay x) >>= body full (anywhere (chunk limit strict full)) (split b)) (sym g))
                   ∙ sym (bind-assoc (change limit st (page kept lay x)) _ (rest (h .next))))
-                  (shown-write (withLay (styled st)) kept kept lay (styled st lay) (λ x. refl) limit room new len n (closing (lay .style) ++ opening st)
+                  (shown-write (withLay (withStyle st)) kept kept lay (withStyle st lay) (λ x. refl) limit room new len n (closing (lay .style) ++ opening st)
                   (w (o .table) ∙ ap (λ (c : ℕ). seen room len >>= extended c (closing (lay .style) ++ opening st)) (o .same))
-                  ∙ sym (shown-then room len kept lay (change limit st) (λ s. write limit (closing (lay .style) ++ opening st) (withLay (styled st) s))
+                  ∙ sym (shown-then room len kept lay (change limit st) (λ s. write limit (closing (lay .style) ++ opening st) (withLay (withStyle st) s))
                   (λ x. refl))));
             }
 
@@ -278,11 +278,11 @@ module _ (limit : ℕ) (strict full : Bool) (sheet tags document : List ℕ) whe
               on-text new n l₁ s (i .few) (chunks-done full (chunk limit strict full) (rest (h .next)) whole y c (shown new n kept l₁) (i .leads) f)
 
           pub on-stopped : {p : Piece} {d : Cursor} → Took y c p d → last full (chunkOf y p) ≡ true → (k : ℕ) → k ≡ skipParagraph (l₁ .skip)
-              → On new (h .next) n (skip k l₁) stack depth
+              → On new (h .next) n (withSkip k l₁) stack depth
           on-stopped {p} t f k g =
-              on-text new n (skip k l₁) s (omega (arith, further, g))
-              (chunks-stop full (chunk limit strict full) (rest (h .next)) whole y c (shown new n kept l₁) (i .leads) t (shown new n kept (skip k l₁))
-              (shown-changed (withLay (skip 1)) kept kept l₁ (skip k l₁) (λ x. ap (λ (j : ℕ). page kept (skip j l₁) x) (sym g)) new n
+              on-text new n (withSkip k l₁) s (omega (arith, further, g))
+              (chunks-stop full (chunk limit strict full) (rest (h .next)) whole y c (shown new n kept l₁) (i .leads) t (shown new n kept (withSkip k l₁))
+              (shown-changed (withLay (withSkip 1)) kept kept l₁ (withSkip k l₁) (λ x. ap (λ (j : ℕ). page kept (withSkip j l₁) x) (sym g)) new n
               ∙ sym (bind-same (shown new n kept l₁) _ _ (λ s. chunk-last limit strict full (chunkOf y p) s f))) f)
 
 -- the same for a room that has kept its length

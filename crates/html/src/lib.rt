@@ -10,9 +10,10 @@ ghost use Rattle.records.specs.Records.{index, tokens};
 ghost use Rattle.document.specs.Document.{check};
 ghost use Rattle.renderer.specs.Walk.{walk as records};
 ghost use Rattle.renderer.specs.Rendered.{answered, standing, filled, Inside};
-ghost use Rattle.html_rules.specs.Html.{styled as withStyle, initial, turn, finish as finished, html};
-ghost use Rattle.html_tags.specs.Parts.{tags as allTags, closed};
+ghost use Rattle.html_rules.specs.Html.{withStyle, initial, turn, finish as finished, html};
+ghost use Rattle.html_tags.specs.InnerParts.{tags as allTags, closed};
 use document::Checked;
+use document::MAX_OPEN;
 use html_rules::Html;
 use records::Block;
 use records::Kind;
@@ -72,7 +73,7 @@ fn walk(
         style: Style::Text,
         skip: 0,
     };
-    let mut stack: [u8; 32] = [0; 32];
+    let mut stack: [u8; MAX_OPEN] = [0; MAX_OPEN];
     let mut depth: usize = 0;
     'records: while at < document.len() {
         if room.len() < len {

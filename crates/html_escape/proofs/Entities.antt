@@ -8,7 +8,7 @@ use Rattle.base.specs.Choice.{if_then_else_}
 use Rattle.utf8.specs.Utf8.{bytes, encode}
 use Rattle.html_rules.specs.Html.{entity}
 use Rattle.html_rules.specs.Markdown.{bracket}
-use Rattle.html_escape.specs.Parts.{entityOf}
+use Rattle.html_escape.specs.InnerParts.{entityOf}
 use Rattle.html_escape.specs.declared.Escape.{Escape}
 use Rattle.html_escape.specs.declared.Escape.the-variants as escape
 

@@ -7,7 +7,7 @@ ghost use Rattle.room.specs.Room.{seen, extended};
 ghost use Rattle.html_rules.specs.Marks.{escapedBy};
 ghost use Rattle.html_rules.specs.Html.{entity};
 ghost use Rattle.html_rules.specs.Markdown.{bracket};
-ghost use Rattle.html_escape.specs.Parts.{entityOf};
+ghost use Rattle.html_escape.specs.InnerParts.{entityOf};
 
 // How the bytes of a chunk are escaped: as HTML, as strict HTML, as Markdown inside Mono.
 pub enum Escape {

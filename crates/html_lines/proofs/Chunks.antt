@@ -15,7 +15,7 @@ use Rattle.base.proofs.Results.{bind-assoc, bind-same}
 use Rattle.room.specs.Room.{extended, seen}
 use Rattle.room.proofs.Laws.{extended-twice}
 use Rattle.splitter.specs.Split.{before, isLineEnd, isLineEndOrSpace, line, word, raw}
-use Rattle.splitter.specs.Parts.{wordFrom}
+use Rattle.splitter.specs.InnerParts.{wordFrom}
 use Rattle.splitter.specs.Answers.{placedFrom, cursor}
 use Rattle.splitter.specs.declared.Code.{Code}
 use Rattle.splitter.specs.declared.Code.the-variants as code
@@ -29,7 +29,7 @@ use Rattle.html_rules.specs.Html.{State, entity, escaped, chunk}
 use Rattle.html_rules.specs.Marks.{escapedBy}
 use Rattle.html_rules.specs.declared.Html.{Html}
 use Rattle.html_rules.proofs.Lifts.{lift-then}
-use Rattle.html_lines.specs.Lines.{lineFrom, plainLine, afterLine}
+use Rattle.html_lines.specs.InnerLines.{lineFrom, plainLine, afterLine}
 use Rattle.html_lines.proofs.Lines.{before-split, escaped-append, seen-nothing}
 
 -- two writes are one

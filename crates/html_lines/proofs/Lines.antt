@@ -19,12 +19,12 @@ use Rattle.splitter.specs.Split.{before, isLineEnd, line}
 use Rattle.splitter.specs.declared.Code.the-variants as code
 use Rattle.splitter.specs.declared.Cursor.{Cursor}
 use Rattle.splitter.proofs.Before.{before-stop, before-go, before-none, before-part, before-after}
-use Rattle.runs.specs.Runs.{among}
+use Rattle.runs.specs.InnerRuns.{among}
 use Rattle.html_rules.specs.Html.{entity, escaped}
 use Rattle.html_rules.specs.Marks.{escapedBy}
 use Rattle.html_rules.proofs.Writes.{seen-then}
-use Rattle.html_lines.specs.Lines.{lineFrom, plainLine}
-use Rattle.html_lines.specs.declared.Line.{Line}
+use Rattle.html_lines.specs.InnerLines.{lineFrom, plainLine}
+use Rattle.html_lines.specs.declared.LineWritten.{LineWritten}
 
 -- Bytes before the first that passes a test
 
@@ -169,12 +169,12 @@ module _ (strict : Bool) (body old : List ℕ) (len at : ℕ) where
 -- By what the code of a cursor was found to be: outside ticks the line, in them nothing
 
 -- what the whole answer says
-abbrev pub Lined : Bool → List ℕ → Cursor → List ℕ → ℕ → List ℕ → Line → Type 0
+abbrev pub Lined : Bool → List ℕ → Cursor → List ℕ → ℕ → List ℕ → LineWritten → Type 0
 Lined strict body c old len new r =
     (seen new (r .len) ≡ (seen old len >>= extended (length old) (escaped strict (plainLine body c)))) × (r .at ≡ c .at + length (plainLine body c))
 
 module _ (strict : Bool) (body old : List ℕ) (len : ℕ) (c : Cursor) where
-  pub lined-outside : (new : List ℕ) (r : Line) → c .code ≡ code.No
+  pub lined-outside : (new : List ℕ) (r : LineWritten) → c .code ≡ code.No
       → (seen new (r .len) ≡ (seen old len >>= extended (length old) (escaped strict (line (drop (c .at) body)))))
       × (r .at ≡ c .at + length (line (drop (c .at) body)))
       → Lined strict body c old len new r

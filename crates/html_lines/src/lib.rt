@@ -7,18 +7,18 @@ ghost use Rattle.base.specs.Result.{_>>=_ as bind};
 ghost use Rattle.room.specs.Room.{seen, extended};
 ghost use Rattle.splitter.specs.Split.{line};
 ghost use Rattle.html_rules.specs.Html.{escaped};
-ghost use Rattle.html_lines.specs.Lines.{plainLine};
+ghost use Rattle.html_lines.specs.InnerLines.{plainLine};
 use splitter::Code;
 use splitter::Cursor;
 
 // The length of the text after a line, and where in the body the line ends.
-pub struct Line {
+pub struct LineWritten {
     pub len: usize,
     pub at: usize,
 }
 
 // The bytes of a body from a place up to the next line end, escaped.
-fn put_up_to_end(room: &mut [u8], len: usize, body: &[u8], at: usize, strict: bool) -> Line
+fn put_up_to_end(room: &mut [u8], len: usize, body: &[u8], at: usize, strict: bool) -> LineWritten
     ensures text { λ r. ⌜ seen (now (room .exit)) (r .len) ≡ bind (seen (now (room .entry)) len) (extended (length (now (room .entry))) (escaped strict (line (drop at (now (body .entry)))))) ⌝ }
     ensures place { λ r. ⌜ r .at ≡ at + length (line (drop at (now (body .entry)))) ⌝ }
 {
@@ -29,10 +29,10 @@ fn put_up_to_end(room: &mut [u8], len: usize, body: &[u8], at: usize, strict: bo
         n = room::put_all(room, n, base::get(body, i, to));
         i = to;
         if body.len() <= i {
-            return Line { len: n, at: i };
+            return LineWritten { len: n, at: i };
         }
         if body[i] == b'\n' {
-            return Line { len: n, at: i };
+            return LineWritten { len: n, at: i };
         }
         n = html_tags::put_text(room, n, base::get(body, i, i + 1), strict);
         i += 1;
@@ -40,14 +40,14 @@ fn put_up_to_end(room: &mut [u8], len: usize, body: &[u8], at: usize, strict: bo
 }
 
 // What is left of a line at a cursor outside ticks; in ticks nothing, since each line there is a chunk.
-pub fn put_line(room: &mut [u8], len: usize, body: &[u8], c: Cursor, strict: bool) -> Line
+pub fn put_line(room: &mut [u8], len: usize, body: &[u8], c: Cursor, strict: bool) -> LineWritten
     ensures text { λ r. ⌜ seen (now (room .exit)) (r .len) ≡ bind (seen (now (room .entry)) len) (extended (length (now (room .entry))) (escaped strict (plainLine (now (body .entry)) c))) ⌝ }
     ensures place { λ r. ⌜ r .at ≡ c .at + length (plainLine (now (body .entry)) c) ⌝ }
 {
     let code = c.code;
     match code {
         Code::No => put_up_to_end(room, len, body, c.at, strict),
-        Code::First => Line { len, at: c.at },
-        Code::Rest => Line { len, at: c.at },
+        Code::First => LineWritten { len, at: c.at },
+        Code::Rest => LineWritten { len, at: c.at },
     }
 }

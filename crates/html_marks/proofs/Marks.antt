@@ -20,7 +20,7 @@ use Rattle.records.specs.declared.Kind.{Kind}
 use Rattle.records.specs.declared.Kind.the-variants as kind
 use Rattle.renderer.specs.Walk.{empty}
 use Rattle.html_rules.specs.Marks.{separated}
-use Rattle.html_marks.specs.Parts.{spanned, isMeta}
+use Rattle.html_marks.specs.InnerParts.{spanned, isMeta}
 use Rattle.html_marks.specs.declared.Span.{Span}
 use Rattle.html_rules.proofs.Writes.{seen-then}
 

@@ -5,7 +5,7 @@ ghost use lib.ListN.{length};
 ghost use Rattle.base.specs.Result.{_>>=_ as bind};
 ghost use Rattle.room.specs.Room.{seen, extended};
 ghost use Rattle.html_rules.specs.Marks.{separated};
-ghost use Rattle.html_marks.specs.Parts.{spanned, isMeta};
+ghost use Rattle.html_marks.specs.InnerParts.{spanned, isMeta};
 use records::Kind;
 
 // Where a text lies in a table of texts: from a place up to another.

@@ -26,7 +26,7 @@ use Rattle.room.proofs.Laws.{extended-twice}
 use Rattle.renderer.specs.Walk.{page, withOut, withLay, write, anywhere, body}
 use Rattle.skip.specs.Counter.{hides}
 use Rattle.html_rules.specs.Marks.{escapedBy}
-use Rattle.html_rules.specs.Html.{State, plain, initial, opening, closing, styled, entity, escaped, change, chunk, turn}
+use Rattle.html_rules.specs.Html.{State, plain, initial, opening, closing, withStyle, entity, escaped, change, chunk, turn}
 use Rattle.html_rules.proofs.Lifts.{lift-then}
 use Rattle.html_read.specs.Read.{readBack}
 use Rattle.html_read.specs.Forms.{free, form}
@@ -155,17 +155,17 @@ module _ (room : ℕ) where
     -- a text record, where it is not hidden
     record-written : (place start : ℕ) (st : Style) (x : List ℕ) (ts : List Token) (s : State)
         → free isLineEnd x ≡ true → hides (s .lay .skip) ≡ false
-        → turn room true full place start (kind.Text st) x ts s ≡ write room (form (s .lay .style) st x) (withLay (styled st) s)
+        → turn room true full place start (kind.Text st) x ts s ≡ write room (form (s .lay .style) st x) (withLay (withStyle st) s)
     unfolding turn change split form
-    record-written place start st x ts s e h = if-false _ _ h ∙ chunks-written (closing (s .lay .style) ++ opening st) x 0 0 (withLay (styled st) s) e
+    record-written place start st x ts s e h = if-false _ _ h ∙ chunks-written (closing (s .lay .style) ++ opening st) x 0 0 (withLay (withStyle st) s) e
 
 -- Bodies told apart
 
 without-line-ends : ToldApart (free isLineEnd)
 without-line-ends room place start full st x y ts s a b e f h g k same =
     let before = s .lay .style in
-    let u = write-gives room (form before st x) (withLay (styled st) s) a (sym (record-written room full place start st x ts s e h) ∙ g) in
-    let v = write-gives room (form before st y) (withLay (styled st) s) b (sym (record-written room full place start st y ts s f h) ∙ k) in
+    let u = write-gives room (form before st x) (withLay (withStyle st) s) a (sym (record-written room full place start st x ts s e h) ∙ g) in
+    let v = write-gives room (form before st y) (withLay (withStyle st) s) b (sym (record-written room full place start st y ts s f h) ∙ k) in
     sym (form-told before st x) ∙ ap readBack (append-cancel-left (s .out) _ _ (sym u ∙ same ∙ v)) ∙ form-told before st y
 
 -- `a⏎b` and `a b` in style Text, on an empty page

@@ -11,7 +11,7 @@ use Rattle.records.specs.declared.Kind.the-variants as kind
 use Rattle.splitter.specs.Split.{isLineEnd, isLineEndOrSpace}
 use Rattle.renderer.specs.Walk.{withLay, write}
 use Rattle.skip.specs.Counter.{hides}
-use Rattle.html_rules.specs.Html.{State, styled, escaped, turn}
+use Rattle.html_rules.specs.Html.{State, withStyle, escaped, turn}
 use Rattle.html_read.specs.Read.{readBack}
 use Rattle.html_read.specs.Forms.{free, form}
 
@@ -33,7 +33,7 @@ pub record Bodies : Type 0 where
   -- A text record that is not hidden and has no line end adds its escaped form to the page, or meets 13 ..
   pub written : (room place start : ℕ) (full : Bool) (st : Style) (x : List ℕ) (ts : List Token) (s : State)
       → free isLineEnd x ≡ true → hides (s .lay .skip) ≡ false
-      → turn room true full place start (kind.Text st) x ts s ≡ write room (form (s .lay .style) st x) (withLay (styled st) s)
+      → turn room true full place start (kind.Text st) x ts s ≡ write room (form (s .lay .style) st x) (withLay (withStyle st) s)
   -- .. and the escaped form tells the body.
   pub told : (before st : Style) (x : List ℕ) → readBack (form before st x) ≡ x
   -- 'different bodies in one style, free of space and line end, have different escaped forms'

@@ -37,10 +37,10 @@ module _ {L : Type 0} (turn : Turn (Page L)) (finish : Page L → Result (List �
       rest-out h = sym (leads-out whole (rest at) (shown room len kept lay) leads 13 0 (shown-out {L = L} room len kept lay h))
 
       -- no record is left
-      pub rest-end : (told : Result (List ℕ)) (f : List ℕ → Result (List ℕ)) → length document ≤ at → ((x : List ℕ) → finish (page kept lay x) ≡ f x)
-          → told ≡ (seen room len >>= f) → told ≡ whole
+      pub rest-end : (text : Result (List ℕ)) (f : List ℕ → Result (List ℕ)) → length document ≤ at → ((x : List ℕ) → finish (page kept lay x) ≡ f x)
+          → text ≡ (seen room len >>= f) → text ≡ whole
       unfolding _>>=_
-      rest-end told f h e w =
+      rest-end text f h e w =
           w ∙ bind-same (seen room len) _ _ (λ x. sym (e x)) ∙ sym (shown-bind room len kept lay finish)
           ∙ leads-same whole (rest at) (shown room len kept lay) leads finish (λ s. ap (λ (q : Result (Page L)). q >>= finish) (walk-end turn document at h s))
 
@@ -72,10 +72,10 @@ module _ {L : Type 0} (turn : Turn (Page L)) (finish : Page L → Result (List �
             ∙ sym (shown-then room len kept lay Turned (λ s. rule (s .out) >>= λ y. gives (page kept′ lay′ y)) t))
 
         -- a turn that meets 11
-        pub turn-refuses : (rule : List ℕ → Result (List ℕ)) (told : Result (List ℕ))
+        pub turn-refuses : (rule : List ℕ → Result (List ℕ)) (text : Result (List ℕ))
             → ((x : List ℕ) → Turned (page kept lay x) ≡ (rule x >>= λ _. refused 11 at))
-            → told ≡ (seen room len >>= λ x. rule x >>= λ _. refused 11 at) → told ≡ whole
-        turn-refuses rule told t w =
+            → text ≡ (seen room len >>= λ x. rule x >>= λ _. refused 11 at) → text ≡ whole
+        turn-refuses rule text t w =
             w ∙ sym (shown-bind room len kept lay (λ s. rule (s .out) >>= λ _. refused 11 at))
             ∙ sym (shown-then room len kept lay (rest at) (λ s. rule (s .out) >>= λ _. refused 11 at)
             (λ x. rest-record (page kept lay x) ∙ ap (λ (q : Result (Page L)). q >>= rest (h .next)) (t x) ∙ refuses (rule x) 11 at (rest (h .next))))

@@ -31,11 +31,11 @@ plain = record { style = style.Text; skip = 0 }
 abbrev pub initial : State
 initial = record { out = []; kept = []; lay = plain }
 
-abbrev pub styled : Style → Html → Html
-styled x l = record { style = x; skip = l .skip }
+abbrev pub withStyle : Style → Html → Html
+withStyle x l = record { style = x; skip = l .skip }
 
-abbrev pub skip : ℕ → Html → Html
-skip x l = record { style = l .style; skip = x }
+abbrev pub withSkip : ℕ → Html → Html
+withSkip x l = record { style = l .style; skip = x }
 
 -- `stack.last().copied() == Some(Block::DefinitionList)`
 abbrev pub inList : List ℕ → Bool
@@ -111,7 +111,7 @@ css = bytes "\n<style>\ndiv.bpaf-doc {\n    padding: 14px;\n    background-color
 module _ (room : ℕ) where
   -- change_style: the open style is closed, and another opened
   unfoldable pub change : Style → State → Result State
-  change new s = write room (closing (s .lay .style) ++ opening new) (withLay (styled new) s)
+  change new s = write room (closing (s .lay .style) ++ opening new) (withLay (withStyle new) s)
 
   -- blank_html_line
   unfoldable pub blankLine : State → Result State
@@ -125,11 +125,11 @@ module _ (room : ℕ) where
 
   -- `stack.push(b)`, and 'InlineBlock's start adds 1 if it is over 0'
   unfoldable pub enter : Block → State → State
-  enter b s = withKept (pushed (index b) (s .kept)) (withLay (λ l. skip (skipStart b (l .skip)) l) s)
+  enter b s = withKept (pushed (index b) (s .kept)) (withLay (λ l. withSkip (skipStart b (l .skip)) l) s)
 
   -- `stack.pop()`, and 'its end takes 1 down to 0'
   unfoldable pub leave : Block → State → State
-  leave b s = withKept (popped (s .kept)) (withLay (λ l. skip (skipEnd b (l .skip)) l) s)
+  leave b s = withKept (popped (s .kept)) (withLay (λ l. withSkip (skipEnd b (l .skip)) l) s)
 
   -- after the last record: the style is closed, and the style sheet follows
   unfoldable pub finish : List ℕ → State → Result (List ℕ)
@@ -140,7 +140,7 @@ module _ (room : ℕ) where
     unfoldable pub chunk : Chunk → State → Result State
     chunk (raw x w) s = write room (escaped strict x) s
     chunk lineBreak s = write room br s
-    chunk paragraph s = if full then write room br s else gives (withLay (λ l. skip (skipParagraph (l .skip)) l) s)
+    chunk paragraph s = if full then write room br s else gives (withLay (λ l. withSkip (skipParagraph (l .skip)) l) s)
 
     -- a record: 'It hides text only'
     unfoldable pub turn : Turn State

@@ -13,7 +13,7 @@ use Rattle.records.specs.declared.Style.the-variants as style
 use Rattle.records.specs.declared.Block.{Block}
 use Rattle.records.specs.declared.Block.the-variants as block
 use Rattle.records.specs.declared.Kind.the-variants as kind
-use Rattle.splitter.specs.Split.{Chunk, raw, paragraph, lineBreak, split}
+use Rattle.splitter.specs.Split.{Chunk, raw, paragraph, lineBreak, split, chunkCode, chunkTickedCode}
 use Rattle.renderer.specs.Walk.{Page, withOut, withLay, write, Turn, anywhere, walk, body}
 use Rattle.skip.specs.Counter.{hides, skipParagraph, skipStart, skipEnd}
 use Rattle.html_rules.specs.Marks.{separated, escapedBy}
@@ -30,26 +30,26 @@ plain = record { style = style.Text; skip = 0; bare = false; mono = 0; listed = 
 abbrev pub initial : State
 initial = record { out = []; kept = []; lay = plain }
 
-abbrev pub styled : Style → Markdown → Markdown
-styled x l = record { style = x; skip = l .skip; bare = l .bare; mono = l .mono; listed = l .listed; fenced = l .fenced; titled = l .titled }
+abbrev pub withStyle : Style → Markdown → Markdown
+withStyle x l = record { style = x; skip = l .skip; bare = l .bare; mono = l .mono; listed = l .listed; fenced = l .fenced; titled = l .titled }
 
-abbrev pub skip : ℕ → Markdown → Markdown
-skip x l = record { style = l .style; skip = x; bare = l .bare; mono = l .mono; listed = l .listed; fenced = l .fenced; titled = l .titled }
+abbrev pub withSkip : ℕ → Markdown → Markdown
+withSkip x l = record { style = l .style; skip = x; bare = l .bare; mono = l .mono; listed = l .listed; fenced = l .fenced; titled = l .titled }
 
-abbrev pub bare : Bool → Markdown → Markdown
-bare x l = record { style = l .style; skip = l .skip; bare = x; mono = l .mono; listed = l .listed; fenced = l .fenced; titled = l .titled }
+abbrev pub withBare : Bool → Markdown → Markdown
+withBare x l = record { style = l .style; skip = l .skip; bare = x; mono = l .mono; listed = l .listed; fenced = l .fenced; titled = l .titled }
 
-abbrev pub mono : ℕ → Markdown → Markdown
-mono x l = record { style = l .style; skip = l .skip; bare = l .bare; mono = x; listed = l .listed; fenced = l .fenced; titled = l .titled }
+abbrev pub withMono : ℕ → Markdown → Markdown
+withMono x l = record { style = l .style; skip = l .skip; bare = l .bare; mono = x; listed = l .listed; fenced = l .fenced; titled = l .titled }
 
-abbrev pub listed : Bool → Markdown → Markdown
-listed x l = record { style = l .style; skip = l .skip; bare = l .bare; mono = l .mono; listed = x; fenced = l .fenced; titled = l .titled }
+abbrev pub withListed : Bool → Markdown → Markdown
+withListed x l = record { style = l .style; skip = l .skip; bare = l .bare; mono = l .mono; listed = x; fenced = l .fenced; titled = l .titled }
 
-abbrev pub fenced : Bool → Markdown → Markdown
-fenced x l = record { style = l .style; skip = l .skip; bare = l .bare; mono = l .mono; listed = l .listed; fenced = x; titled = l .titled }
+abbrev pub withFenced : Bool → Markdown → Markdown
+withFenced x l = record { style = l .style; skip = l .skip; bare = l .bare; mono = l .mono; listed = l .listed; fenced = x; titled = l .titled }
 
-abbrev pub titled : Markdown → Markdown
-titled l = record { style = l .style; skip = l .skip; bare = l .bare; mono = l .mono; listed = l .listed; fenced = l .fenced; titled = true }
+abbrev pub withTitled : Markdown → Markdown
+withTitled l = record { style = l .style; skip = l .skip; bare = l .bare; mono = l .mono; listed = l .listed; fenced = l .fenced; titled = true }
 
 -- Styles (`Styles::from`, change_to_markdown_style): `_`, `**`, a backtick in this order, and closed the other way round.
 
@@ -106,18 +106,18 @@ bullet empty = if empty then bytes "  " else bytes "- "
 -- `Token::BlockStart` of the block at place p, with `empty_term` for a term: also `app_name_seen = true`, `def_list = true`, `skip.push()`,
 -- `mono += 1`; 11, 'Meta in .. Markdown'
 unfoldable pub started : ℕ → Block → Bool → Markdown → Result AtStart
-started p block.Header empty l = onLine (bytes "\n\n") (if l .titled then bytes "## " else bytes "# ") (titled l)
+started p block.Header empty l = onLine (bytes "\n\n") (if l .titled then bytes "## " else bytes "# ") (withTitled l)
 started p block.Section2 empty l = pushing [] l
 started p block.Section3 empty l = pushing (bytes "### ") l
-started p block.Section4 empty l = onLine (bytes "\n") (bullet empty) (bare empty l)
-started p block.ItemTerm empty l = onLine (bytes "\n") (bullet empty) (bare empty l)
+started p block.Section4 empty l = onLine (bytes "\n") (bullet empty) (withBare empty l)
+started p block.ItemTerm empty l = onLine (bytes "\n") (bullet empty) (withBare empty l)
 started p block.ItemBody empty l = starting (dash l) (bytes "\n") (bytes "  ") l
-started p block.DefinitionList empty l = pushing [] (listed true l)
+started p block.DefinitionList empty l = pushing [] (withListed true l)
 started p block.Block empty l = pushing (bytes "\n") l
-started p block.InlineBlock empty l = pushing [] (skip (skipStart block.InlineBlock (l .skip)) l)
+started p block.InlineBlock empty l = pushing [] (withSkip (skipStart block.InlineBlock (l .skip)) l)
 started p block.TermRef empty l = pushing [] l
 started p block.Meta empty l = refused 11 p
-started p block.Mono empty l = pushing [] (mono (l .mono + 1) l)
+started p block.Mono empty l = pushing [] (withMono (l .mono + 1) l)
 
 -- What a block's end does: the text that goes out, and the numbers and flags then.
 pub record AtEnd : Type 0 where
@@ -135,12 +135,12 @@ ended p block.Section3 l = ending (bytes "\n") l
 ended p block.Section4 l = ending (bytes "\n") l
 ended p block.ItemTerm l = ending [] l
 ended p block.ItemBody l = ending (if l .listed then bytes "\n" else []) l
-ended p block.DefinitionList l = ending (bytes "\n") (listed false l)
+ended p block.DefinitionList l = ending (bytes "\n") (withListed false l)
 ended p block.Block l = ending (bytes "\n") l
-ended p block.InlineBlock l = ending [] (skip (skipEnd block.InlineBlock (l .skip)) l)
+ended p block.InlineBlock l = ending [] (withSkip (skipEnd block.InlineBlock (l .skip)) l)
 ended p block.TermRef l = ending [] l
 ended p block.Meta l = refused 11 p
-ended p block.Mono l = ending [] (mono (l .mono - 1) l)
+ended p block.Mono l = ending [] (withMono (l .mono - 1) l)
 
 -- Text (`Token::Text`).
 
@@ -167,7 +167,7 @@ paragraphText l = if l .listed then bytes "\n\n  " else bytes "\n\n"
 module _ (room : ℕ) where
   -- change_to_markdown_style: the open style is closed, and another opened
   unfoldable pub change : Style → State → Result State
-  change new s = write room (closing (s .lay .style) ++ opening new) (withLay (styled new) s)
+  change new s = write room (closing (s .lay .style) ++ opening new) (withLay (withStyle new) s)
 
   -- blank_markdown_line, new_markdown_line
   unfoldable pub separate : List ℕ → State → Result State
@@ -183,13 +183,13 @@ module _ (room : ℕ) where
   -- `Chunk::Raw`: a line in ticks (`Chunk::TICKED_CODE`), a code line (`Chunk::CODE`), or a word
   unfoldable pub rawChunk : List ℕ → ℕ → State → Result State
   rawChunk x w s =
-      if eqb w 1_000_001 then (separate (bytes "\n") s >>= write room (lineText x)) else
-      if eqb w 1_000_000 then (write room (codeBegins (s .lay)) s >>= λ s₁. write room (lineText x) (withLay (fenced true) s₁)) else
-      (write room (codeStops (s .lay)) s >>= λ s₁. write room (wordText (s .lay) x) (withLay (fenced false) s₁))
+      if eqb w chunkTickedCode then (separate (bytes "\n") s >>= write room (lineText x)) else
+      if eqb w chunkCode then (write room (codeBegins (s .lay)) s >>= λ s₁. write room (lineText x) (withLay (withFenced true) s₁)) else
+      (write room (codeStops (s .lay)) s >>= λ s₁. write room (wordText (s .lay) x) (withLay (withFenced false) s₁))
 
   -- after the last chunk of a body
   unfoldable pub bodyEnds : State → Result State
-  bodyEnds s = write room (codeEnds (s .lay)) (withLay (fenced false) s)
+  bodyEnds s = write room (codeEnds (s .lay)) (withLay (withFenced false) s)
 
   -- after the last record: the style is closed
   unfoldable pub finish : State → Result (List ℕ)
@@ -200,7 +200,7 @@ module _ (room : ℕ) where
     unfoldable pub chunk : Chunk → State → Result State
     chunk (raw x w) s = rawChunk x w s
     chunk lineBreak s = write room (bytes "\n") s
-    chunk paragraph s = if full then write room (paragraphText (s .lay)) s else gives (withLay (λ l. skip (skipParagraph (l .skip)) l) s)
+    chunk paragraph s = if full then write room (paragraphText (s .lay)) s else gives (withLay (λ l. withSkip (skipParagraph (l .skip)) l) s)
 
     -- a record: 'It hides text only'
     unfoldable pub turn : Turn State

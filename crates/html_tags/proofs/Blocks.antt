@@ -20,13 +20,13 @@ use Rattle.room.specs.Room.{extended, seen}
 use Rattle.records.specs.Records.{index}
 use Rattle.records.specs.declared.Style.{Style}
 use Rattle.records.specs.declared.Block.{Block}
-use Rattle.splitter.specs.Answers.{chunkOf, textOf}
+use Rattle.splitter.specs.Answers.{chunkOf, pieceText}
 use Rattle.splitter.specs.declared.Piece.{Piece}
 use Rattle.splitter.specs.declared.Piece.the-variants.{Raw, Space, Paragraph, LineBreak}
 use Rattle.html_rules.specs.Marks.{separated, escapedBy}
 use Rattle.html_rules.specs.Html.{entity, escaped, inList, br}
 use Rattle.html_rules.proofs.Writes.{wrote-then}
-use Rattle.html_tags.specs.Parts.{chunkText, closed, headed, blockText}
+use Rattle.html_tags.specs.InnerParts.{chunkText, closed, headed, blockText}
 
 pub br-is : 0x3C ∷ 0x62 ∷ 0x72 ∷ 0x3E ∷ 0x0A ∷ [] ≡ br
 unfolding br bytes encode if_then_else_
@@ -60,7 +60,7 @@ module _ (strict : Bool) where
   space-kept false = refl
 
   module _ (body : List ℕ) (p : Piece) where
-    pub chunk-raw : {from to width : ℕ} → p ≡ Raw from to width → (y : List ℕ) → y ≡ textOf body p → escaped strict y ≡ chunkText strict (chunkOf body p)
+    pub chunk-raw : {from to width : ℕ} → p ≡ Raw from to width → (y : List ℕ) → y ≡ pieceText body p → escaped strict y ≡ chunkText strict (chunkOf body p)
     chunk-raw e y f = rw (f, e)
 
     pub chunk-space : {at : ℕ} → p ≡ Space at → 0x20 ∷ [] ≡ chunkText strict (chunkOf body p)

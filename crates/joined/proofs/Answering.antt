@@ -16,7 +16,7 @@ use Rattle.base.proofs.Pasting.{overwritten-fits}
 use Rattle.base.proofs.Results.{bind-assoc, bind-same, refused-gives, gives-same, if-gives}
 use Rattle.room.specs.Room.{extended, seen}
 use Rattle.room.proofs.Laws.{seen-in, seen-out, extended-in, extended-out, extended-twice}
-use Rattle.records.specs.Records.{textOf}
+use Rattle.records.specs.Records.{documentText}
 use Rattle.records.specs.Stored.{littleBytes}
 use Rattle.document.specs.Document.{check}
 use Rattle.joined_rules.specs.Joined.{headsOf, concat, joinedForm, unjoined, checkJoined, joins, unjoins, joinsInto, unjoinsInto}
@@ -109,12 +109,12 @@ module _ (old a b c : List ℕ) (i j k : ℕ) (z text heads : List ℕ) (la : le
 
 -- so the joined form stands there
 pub join-parts : (d old a b c e : List ℕ) (i j k n : ℕ) → check d ≡ gives [] → length a ≡ length old → length b ≡ length a → length c ≡ length b
-    → length e ≡ length c → seen a i ≡ (seen old 0 >>= extended (length old) (littleBytes 4 0)) → seen b j ≡ (seen a i >>= extended (length a) (textOf d))
+    → length e ≡ length c → seen a i ≡ (seen old 0 >>= extended (length old) (littleBytes 4 0)) → seen b j ≡ (seen a i >>= extended (length a) (documentText d))
     → seen c k ≡ (seen b j >>= extended (length b) (concat (headsOf d))) → e ≡ overwritten c 0 (littleBytes 4 n) → n ≡ j - i
     → seen e k ≡ joinsInto (length old) d
 unfolding joinedForm
 join-parts d old a b c e i j k n v la lb lc le p q r w m =
-    set-length old a b c i j k (littleBytes 4 0) (textOf d) (concat (headsOf d)) la lb p q r e n (four-long 0) lc le w m
+    set-length old a b c i j k (littleBytes 4 0) (documentText d) (concat (headsOf d)) la lb p q r e n (four-long 0) lc le w m
     ∙ join-written d (length old) v
 
 -- Back

@@ -5,7 +5,7 @@ ghost use Prim.Native.Nat.{_≤_};
 ghost use lib.ListN.{length};
 ghost use Rattle.base.specs.Bytes.{overwritten};
 ghost use Rattle.base.specs.Result.{gives, measured, _>>=_ as bind};
-ghost use Rattle.records.specs.Records.{textOf};
+ghost use Rattle.records.specs.Records.{documentText};
 ghost use Rattle.records.specs.Stored.{littleBytes};
 ghost use Rattle.document.specs.Document.{check as checkOf};
 ghost use Rattle.room.specs.Room.{extended, seen};
@@ -35,7 +35,7 @@ fn set_four(room: &mut [u8], n: usize)
 
 // The bodies of a document's records.
 fn put_bodies(document: &[u8], room: &mut [u8], len: usize) -> usize
-    ensures { λ r. ⌜ seen (now (room .exit)) r ≡ bind (seen (now (room .entry)) len) (extended (length (now (room .entry))) (textOf (now (document .entry)))) ⌝ }
+    ensures { λ r. ⌜ seen (now (room .exit)) r ≡ bind (seen (now (room .entry)) len) (extended (length (now (room .entry))) (documentText (now (document .entry)))) ⌝ }
 {
     let mut to = len;
     let mut at: usize = 0;

@@ -7,7 +7,9 @@ ghost use lib.ListN.{length, take};
 ghost use Rattle.base.specs.Bytes.{part};
 ghost use Rattle.document.specs.Answers.{verdictOf, turnAs, depthOf};
 ghost use Rattle.joined_rules.specs.Joined.{hasText, textIn, shares, acceptShare, readsJoined, checkJoined};
+ghost use Rattle.document.specs.Document.{maxOpen};
 use document::Checked;
+use document::MAX_OPEN;
 use document::Turn;
 use document::close_block;
 use document::open_block;
@@ -38,9 +40,9 @@ pub fn text_in<'a>(joined: &'a [u8]) -> &'a [u8]
 
 // Refusals 18 and 5: a text's share of `size` bytes, where the text from `from` to `to` is left.
 fn share(joined: &[u8], at: usize, size: usize, from: usize, to: usize, depth: usize) -> Turn
-    requires { ⌜ (from ≤ to) × (to ≤ length (now joined)) × (depth ≤ 32) ⌝ }
+    requires { ⌜ (from ≤ to) × (to ≤ length (now joined)) × (depth ≤ maxOpen) ⌝ }
     ensures open { λ r. ⌜ ((stack : List ℕ) → turnAs r stack ≡ shares at size (part (now (joined .entry)) from to) (take depth stack)) ⌝ }
-    ensures shallow { λ r. ⌜ depthOf r ≤ 32 ⌝ }
+    ensures shallow { λ r. ⌜ depthOf r ≤ maxOpen ⌝ }
 {
     if to - from < size {
         return Turn::Refused(Refusal::WrongShare(at));
@@ -63,9 +65,9 @@ fn accept(
     stack: &mut [u8],
     depth: usize,
 ) -> Turn
-    requires { ⌜ (from ≤ to) × (to ≤ length (now joined)) × (length (now stack) ≡ 32) × (depth ≤ 32) ⌝ }
+    requires { ⌜ (from ≤ to) × (to ≤ length (now joined)) × (length (now stack) ≡ maxOpen) × (depth ≤ maxOpen) ⌝ }
     ensures open { λ r. ⌜ turnAs r (now (stack .exit)) ≡ acceptShare at kind size (part (now (joined .entry)) from to) (take depth (now (stack .entry))) ⌝ }
-    ensures shallow { λ r. ⌜ depthOf r ≤ 32 ⌝ }
+    ensures shallow { λ r. ⌜ depthOf r ≤ maxOpen ⌝ }
 {
     match kind {
         Kind::Unknown => Turn::Refused(Refusal::UnknownKind(at)),
@@ -90,7 +92,7 @@ fn read_shares(joined: &[u8]) -> Checked
     requires { ⌜ hasText (now joined) ≡ true ⌝ }
     ensures { λ r. ⌜ verdictOf r [] ≡ readsJoined (now (joined .entry)) ⌝ }
 {
-    let mut stack: [u8; 32] = [0; 32];
+    let mut stack: [u8; MAX_OPEN] = [0; MAX_OPEN];
     let mut depth: usize = 0;
     let to = 4 + four(joined, 0);
     let mut from: usize = 4;

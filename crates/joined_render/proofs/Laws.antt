@@ -26,8 +26,8 @@ use Rattle.joined_rules.specs.Places.{backIn, relocated}
 use Rattle.joined_rules.proofs.Forms.{joined-none, unjoined-length}
 use Rattle.joined_render_rules.specs.Render.{joinedConsoleBy, joinedConsole, joinedHtml, joinedMarkdown, joinedRoff}
 use Rattle.joined_render_rules.proofs.Laws.{from-joined}
-use Rattle.any_renderer.specs.Renders.{renders, tooWide}
-use Rattle.joined_render.specs.Parts.{rendersJoined}
+use Rattle.any_renderer.specs.InnerRenders.{renders, tooWide}
+use Rattle.joined_render.specs.InnerParts.{rendersJoined}
 use Rattle.any_renderer.specs.declared.Asked.{Asked}
 use Rattle.any_renderer.specs.declared.Asked.the-variants as asked
 

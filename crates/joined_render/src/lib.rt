@@ -7,12 +7,13 @@ ghost use lib.ListN.{length, replicate};
 ghost use Rattle.base.specs.Result.{refused, measured};
 ghost use Rattle.refusal.specs.Numbers.{refusalNumber, refusalPlace};
 ghost use Rattle.renderer.specs.Rendered.{answered, filled};
-ghost use Rattle.any_renderer.specs.Renders.{tooWide};
+ghost use Rattle.any_renderer.specs.InnerRenders.{tooWide};
 ghost use Rattle.joined_rules.specs.Joined.{hasText};
 ghost use Rattle.joined_render_rules.specs.Render.{joinedConsole, joinedHtml, joinedMarkdown, joinedRoff};
-ghost use Rattle.joined_render.specs.Parts.{rendersJoined};
+ghost use Rattle.joined_render.specs.InnerParts.{rendersJoined};
 use any_renderer::Asked;
 use console_rules::Settings;
+use document::MAX_BYTES;
 use refusal::Refusal;
 use renderer::Rendered;
 
@@ -60,7 +61,7 @@ fn render(joined: &[u8], asked: Asked, room: &mut [u8]) -> Rendered
         let mut small: [u8; 4_096] = [0; 4_096];
         return through(joined, asked, &mut small[..n], room);
     }
-    let mut buffer: [u8; 32_768] = [0; 32_768];
+    let mut buffer: [u8; MAX_BYTES] = [0; MAX_BYTES];
     through(joined, asked, &mut buffer[..n], room)
 }
 

@@ -12,7 +12,7 @@ use Rattle.records.specs.declared.Block.the-variants as block
 use Rattle.records.specs.declared.Kind.the-variants as kind
 use Rattle.splitter.specs.Split.{Chunk, raw, paragraph, lineBreak, Placed}
 use Rattle.renderer.specs.Walk.{withOut}
-use Rattle.console_rules.specs.Console.{State, initial, lineEnd, dueLine, dueBlank, gap2, place, reach, pad, put, fold, tick, started, ended}
+use Rattle.console_rules.specs.Console.{State, initial, lineEnd, dueLine, dueBlank, padGutter, place, reach, pad, put, fold, tick, started, ended}
 use Rattle.console_rules.specs.Console.{emptyBlock, gapAhead, rawChunk, chunk, bodyChunk, turn, finish, Terms, terms, term, tabstop, missing, consoleOn}
 use Rattle.console_rules.specs.declared.Settings.{Settings}
 use Rattle.joined_rules.proofs.Alike.{Alike, given, alike-bind, alike-if, write-alike}
@@ -56,9 +56,9 @@ module _ (R : ℕ → ℕ → ℕ → Type 0) (room : ℕ) where
   unfolding dueBlank
   dueBlank-alike s = alike-if R _ (write-alike R room _ s) (given s)
 
-  gap2-alike : (n : ℕ) (s : State) → Alike R (gap2 room n s) (gap2 room n s)
-  unfolding gap2
-  gap2-alike n s = alike-if R _ (write-alike R room _ _) (given s)
+  pad-gutter-alike : (n : ℕ) (s : State) → Alike R (padGutter room n s) (padGutter room n s)
+  unfolding padGutter
+  pad-gutter-alike n s = alike-if R _ (write-alike R room _ _) (given s)
 
   place-alike : (x : List ℕ) (w : ℕ) (s : State) → Alike R (place room x w s) (place room x w s)
   unfolding place
@@ -116,7 +116,7 @@ module _ (R : ℕ → ℕ → ℕ → Type 0) (room : ℕ) where
     unfolding put
     put-alike x w s =
         alike-bind R _ _ (pad-alike s) λ s₁.
-        alike-bind R _ _ (gap2-alike (missing room margin s) s₁) λ s₂.
+        alike-bind R _ _ (pad-gutter-alike (missing room margin s) s₁) λ s₂.
         place-alike x w s₂
 
     fold-alike : (x : List ℕ) (w : ℕ) (s : State) → Alike R (fold room margin p x w s) (fold room margin q x w s)

@@ -10,7 +10,7 @@ use native.Mathlib.Omega.{arith}
 use borrow.Author.Tests.{le-leb}
 use Rattle.base.specs.Result.{gives}
 use Rattle.base.proofs.Choice.{and-both, le-or-lt}
-use Rattle.records.specs.Records.{size, tokenAt, tokens, fits, joined, textOf}
+use Rattle.records.specs.Records.{size, tokenAt, tokens, recordFits, joined, documentText}
 use Rattle.records.proofs.Tokens.{drop-past}
 use Rattle.document.specs.Document.{check}
 use Rattle.joined_rules.specs.Joined.{cut, concat, headsOf, joinedForm, records, checkJoined}
@@ -63,8 +63,8 @@ tokens-past [] p pass h = refl
 tokens-past (b ∷ s) p zero h = let z : ⊥ = omega arith in absurd z
 tokens-past (b ∷ s) p (suc pass) h = tokens-past s (p + 1) pass (omega arith)
 
-fits-whole : (s : List ℕ) → 6 + size s ≤ length s → fits s ≡ true
-unfolding fits
+fits-whole : (s : List ℕ) → 6 + size s ≤ length s → recordFits s ≡ true
+unfolding recordFits
 fits-whole s h = and-both (le-leb 6 (length s) (omega arith)) (le-leb (size s) (length s - 6) (omega arith))
 
 pub shared-first : {h text : List ℕ} {hs : List (List ℕ)} → Shared text (h ∷ hs) → (length h ≡ 6) × (size h ≤ length text) × Shared (drop (size h) text) hs
@@ -103,18 +103,18 @@ module _ (d x : List ℕ) (e : checkJoined (joinedForm d) ≡ gives x) where
   unfolding headsOf
   regular = regular-cut (cut-regular d 0)
 
-  few : length (textOf d) ≤ 32_772
+  few : length (documentText d) ≤ 32_772
   unfolding joinedForm
-  few = omega (arith, checkJoined-gives (joinedForm d) x e .0, form-length (textOf d) (headsOf d))
+  few = omega (arith, checkJoined-gives (joinedForm d) x e .0, form-length (documentText d) (headsOf d))
 
-  shared : Shared (textOf d) (headsOf d)
+  shared : Shared (documentText d) (headsOf d)
   unfolding joinedForm
-  shared = subst₂ Shared (form-text (textOf d) (headsOf d) few) (form-heads (textOf d) (headsOf d) few regular) (joined-shared (joinedForm d) x e)
+  shared = subst₂ Shared (form-text (documentText d) (headsOf d) few) (form-heads (documentText d) (headsOf d) few regular) (joined-shared (joinedForm d) x e)
 
   pub accepted-only : check d ≡ gives []
-  unfolding joinedForm textOf headsOf
+  unfolding joinedForm documentText headsOf
   accepted-only =
-      ap check (sym (form-unjoined (textOf d) (headsOf d) few regular ∙ shared-whole d 0 0 (omega arith) shared)) ∙ unjoined-accepted (joinedForm d) x e
+      ap check (sym (form-unjoined (documentText d) (headsOf d) few regular ∙ shared-whole d 0 0 (omega arith) shared)) ∙ unjoined-accepted (joinedForm d) x e
 
 -- 'accepted by one check exactly where the moved one is by the other'
 pub accepted-exactly : (d : List ℕ)

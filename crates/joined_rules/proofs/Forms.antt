@@ -13,7 +13,7 @@ use Rattle.base.specs.Choice.{if_then_else_}
 use Rattle.base.specs.Result.{Result, gives, _>>=_}
 use Rattle.base.proofs.Choice.{if-true, if-false, and-left, and-right, and-both}
 use Rattle.base.proofs.Results.{gives-same, bind-gives, if-gives, else-gives}
-use Rattle.records.specs.Records.{little, size, textOf}
+use Rattle.records.specs.Records.{little, size, documentText}
 use Rattle.records.specs.Stored.{littleBytes}
 use Rattle.document.specs.Document.{reads, openBlocks, short, closed, check}
 use Rattle.document.proofs.Walks.{check-gives}
@@ -114,37 +114,37 @@ module _ (d : List ℕ) (e : check d ≡ gives []) where
   unfolding openBlocks
   runs = check-gives d [] e .1
 
-  pub document-shared : Shared (textOf d) (headsOf d)
-  unfolding textOf headsOf
+  pub document-shared : Shared (documentText d) (headsOf d)
+  unfolding documentText headsOf
   document-shared = reads-shared d 0 0 [] [] (omega arith) runs .0
 
-  pub document-records : records (textOf d) (headsOf d) ≡ d
-  unfolding textOf headsOf
+  pub document-records : records (documentText d) (headsOf d) ≡ d
+  unfolding documentText headsOf
   document-records = reads-shared d 0 0 [] [] (omega arith) runs .1
 
-  few : length (textOf d) + length (concat (headsOf d)) ≤ 32_768
+  few : length (documentText d) + length (concat (headsOf d)) ≤ 32_768
   few = omega (arith, check-gives d [] e .0, records-length document-shared, ap length document-records)
 
   -- four bytes more
   pub joined-length : length (joinedForm d) ≡ length d + 4
   unfolding joinedForm
-  joined-length = omega (arith, form-length (textOf d) (headsOf d), records-length document-shared, ap length document-records)
+  joined-length = omega (arith, form-length (documentText d) (headsOf d), records-length document-shared, ap length document-records)
 
   -- it is accepted over there, and back it is the same
   pub joined-accepted : checkJoined (joinedForm d) ≡ gives []
   unfolding joinedForm
   joined-accepted =
-      form-accepted (textOf d) (headsOf d) (omega (arith, few)) document-shared (omega (arith, few, form-length (textOf d) (headsOf d)))
+      form-accepted (documentText d) (headsOf d) (omega (arith, few)) document-shared (omega (arith, few, form-length (documentText d) (headsOf d)))
       (ap (reads 0 0 []) document-records ∙ runs)
 
   pub joined-back : unjoined (joinedForm d) ≡ d
   unfolding joinedForm
-  joined-back = form-unjoined (textOf d) (headsOf d) (omega (arith, few)) (concat-cut document-shared) ∙ document-records
+  joined-back = form-unjoined (documentText d) (headsOf d) (omega (arith, few)) (concat-cut document-shared) ∙ document-records
 
   -- its text stands in one place
-  pub joined-text : textIn (joinedForm d) ≡ textOf d
+  pub joined-text : textIn (joinedForm d) ≡ documentText d
   unfolding joinedForm
-  joined-text = form-text (textOf d) (headsOf d) (omega (arith, few))
+  joined-text = form-text (documentText d) (headsOf d) (omega (arith, few))
 
 -- From a joined form
 
@@ -197,8 +197,8 @@ module _ (j x : List ℕ) (e : checkJoined j ≡ gives x) where
   unjoined-length = omega (arith, records-length joined-shared, text-length, heads-length, text-fits)
 
   -- its text is the document's
-  pub unjoined-text : textOf (unjoined j) ≡ textIn j
-  unfolding textOf unjoined
+  pub unjoined-text : documentText (unjoined j) ≡ textIn j
+  unfolding documentText unjoined
   unjoined-text = records-text joined-shared 0
 
   pub unjoined-accepted : check (unjoined j) ≡ gives []
@@ -219,7 +219,7 @@ module _ (j x : List ℕ) (e : checkJoined j ≡ gives x) where
 
   -- and over again it is the same, where it is bytes
   pub unjoined-back : Bytes j → joinedForm (unjoined j) ≡ j
-  unfolding joinedForm textOf headsOf unjoined
+  unfolding joinedForm documentText headsOf unjoined
   unjoined-back b =
       ap₂ form (records-text joined-shared 0) (records-cut joined-shared)
       ∙ ap₂ (λ (s : List ℕ) (t : List ℕ). s ++ t) (front b) behind ∙ take-append-drop 4 j

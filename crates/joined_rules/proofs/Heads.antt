@@ -9,7 +9,7 @@ use native.Mathlib.Omega.{arith}
 use borrow.Author.Tests.{le-leb}
 use Rattle.base.specs.Result.{Result, _>>=_}
 use Rattle.base.proofs.Choice.{and-both, if-true}
-use Rattle.records.specs.Records.{Token, little, kindOf, size, tokenAt, tokens, fits}
+use Rattle.records.specs.Records.{Token, little, kindOf, size, tokenAt, tokens, recordFits}
 use Rattle.records.proofs.Tokens.{tokens-some}
 use Rattle.document.specs.Document.{accept, first, reads}
 use Rattle.document.proofs.Refusals.{reads-some}
@@ -71,8 +71,8 @@ module _ (h : List ℕ) (six : length h ≡ 6) where
         cut-some size (h ++ (x ++ rest)) (omega (arith, long))
         ∙ ap₂ (λ (a : List ℕ) (y : List ℕ). a ∷ cut size 0 y) (take-at h (x ++ rest) 6 six) after-here
 
-    fits-here : fits (h ++ (x ++ rest)) ≡ true
-    unfolding fits
+    fits-here : recordFits (h ++ (x ++ rest)) ≡ true
+    unfolding recordFits
     fits-here =
         and-both (le-leb 6 (length (h ++ (x ++ rest))) (omega (arith, long)))
         (le-leb (size (h ++ (x ++ rest))) (length (h ++ (x ++ rest)) - 6) (omega (arith, long, here)))

@@ -14,7 +14,7 @@ use Rattle.base.specs.Stack.{popped}
 use Rattle.base.proofs.Choice.{if-true, if-false}
 use Rattle.base.proofs.Results.{refused-gives, gives-same, bind-gives, if-gives, else-gives}
 use Rattle.utf8.specs.Utf8.{utf8}
-use Rattle.records.specs.Records.{index, size, tokenAt, tokens, fits, joined}
+use Rattle.records.specs.Records.{index, size, tokenAt, tokens, recordFits, joined}
 use Rattle.records.specs.declared.Kind.{Kind}
 use Rattle.records.specs.declared.Kind.the-variants as kind
 use Rattle.records.proofs.Reading.{fits-room}
@@ -42,7 +42,7 @@ cut-small after (b ∷ s) zero = at-most {h = take 6 (b ∷ s)} (omega (arith, l
 
 -- A document as text and first bytes
 
-module _ (s y : List ℕ) (hs : List (List ℕ)) (f : fits s ≡ true) where
+module _ (s y : List ℕ) (hs : List (List ℕ)) (f : recordFits s ≡ true) where
   unfoldable pub body : List ℕ
   body = take (size s) (drop 6 s)
 

@@ -6,7 +6,7 @@ use Rattle.base.specs.Choice.{if_then_else_}
 use Rattle.base.specs.Result.{Result, gives, refused, _>>=_}
 use Rattle.base.specs.Stack.{top, pushed, popped}
 use Rattle.utf8.specs.Utf8.{table, rowOf, bytes, encode}
-use Rattle.records.specs.Records.{Token, little, styles, blocks, kindOf, size, tokenAt, tokens, fits, joined, textOf}
+use Rattle.records.specs.Records.{Token, little, styles, blocks, kindOf, size, tokenAt, tokens, recordFits, joined, documentText}
 use Rattle.records.specs.Stored.{littleBytes, head}
 use Rattle.records.specs.declared.Style.the-variants as style
 use Rattle.records.specs.declared.Block.the-variants as block
@@ -40,8 +40,8 @@ form : List ℕ
 form = 3 ∷ 0 ∷ 0 ∷ 0 ∷ 0x61 ∷ 0x20 ∷ 0x62 ∷ 3 ∷ 0 ∷ 0 ∷ 0 ∷ 1 ∷ 0 ∷ []
 
 over : map (λ (n : ℕ). joinsInto n document) (13 ∷ 12 ∷ []) ≡ gives form ∷ refused 13 0 ∷ []
-unfolding document form joinsInto joins joinedForm textOf headsOf joined tokens tokenAt cut concat littleBytes extended check short openBlocks reads
-    first accept bodiless fits closed opens closes kindOf styles blocks little size table rowOf if_then_else_ _>>=_
+unfolding document form joinsInto joins joinedForm documentText headsOf joined tokens tokenAt cut concat littleBytes extended check short openBlocks reads
+    first accept bodiless recordFits closed opens closes kindOf styles blocks little size table rowOf if_then_else_ _>>=_
 over = refl
 
 back : map (λ (n : ℕ). unjoinsInto n form) (9 ∷ 8 ∷ []) ≡ gives document ∷ refused 13 0 ∷ []

@@ -8,7 +8,7 @@ use lib.ListN.{length, take, drop}
 use Rattle.base.specs.Choice.{if_then_else_}
 use Rattle.base.specs.Result.{Result, gives, refused, _>>=_}
 use Rattle.utf8.specs.Utf8.{utf8}
-use Rattle.records.specs.Records.{Token, little, kindOf, index, size, order, textOf}
+use Rattle.records.specs.Records.{Token, little, kindOf, index, size, order, documentText}
 use Rattle.records.specs.Stored.{littleBytes}
 use Rattle.records.specs.declared.Kind.{Kind}
 use Rattle.records.specs.declared.Kind.the-variants as kind
@@ -122,7 +122,7 @@ headsOf d = cut size 0 d
 
 -- a document in the joined form
 unfoldable pub joinedForm : List ℕ → List ℕ
-joinedForm d = littleBytes 4 (length (textOf d)) ++ (textOf d ++ concat (headsOf d))
+joinedForm d = littleBytes 4 (length (documentText d)) ++ (documentText d ++ concat (headsOf d))
 
 -- each record's first bytes, and its share of the text
 unfoldable pub records : List ℕ → List (List ℕ) → List ℕ

@@ -21,12 +21,12 @@ use Rattle.records.specs.declared.Style.{Style}
 use Rattle.records.specs.declared.Style.the-variants as style
 use Rattle.records.proofs.Block as blockType
 use Rattle.records.proofs.Style as styleType
-use Rattle.roff_escape.specs.declared.roff.Mark.{Mark}
+use Rattle.roff_escape.specs.declared.roff.Roff.{Roff}
 use Rattle.roff_escape.specs.Monoid.{Piece}
-use Rattle.roff_escape.specs.Parts.{Followed}
+use Rattle.roff_escape.specs.InnerParts.{Followed}
 use Rattle.roff_escape.proofs.Composing.{pushed-none}
 use Rattle.manpage.specs.Roff.{Locals, Outcome, subsection, heading, started, ended}
-use Rattle.manpage.specs.Parts.{locals, Follows, isHeading, isTermRef, opening, closing, closed}
+use Rattle.manpage.specs.InnerParts.{locals, Follows, isHeading, isTermRef, opening, closing, closed}
 
 -- where a block or a style stands among the variants of its type
 abbrev pub place : Block → ℕ
@@ -72,7 +72,7 @@ subsection-nothing style.Literal h = refl
 subsection-nothing style.Metavar h = refl
 subsection-nothing style.Invalid h = refl
 
-module _ (p : ℕ) (kept : List ℕ) (capture : Bool) (room : List ℕ) (m : Mark) where
+module _ (p : ℕ) (kept : List ℕ) (capture : Bool) (room : List ℕ) (m : Roff) where
   -- nothing, at the start of these blocks and at the end of those
   pub started-nothing : (b : Block) → OneOf (0 ∷ 1 ∷ 2 ∷ 3 ∷ 5 ∷ 6 ∷ 8 ∷ 9 ∷ 11 ∷ []) (place b)
       → Follows (started p b (locals m kept capture)) room m room m
@@ -124,7 +124,7 @@ ended-section p l block.Meta e h = absurd (false≢true e)
 ended-section p l block.Mono e h = absurd (false≢true e)
 
 -- line ends are stripped from here on, or not
-pub stripped : {ps : List Piece} {s state : Bool} {old new : List ℕ} {m n r : Mark} → (r .len ≡ n .len) × (r .fresh ≡ n .fresh) × (r .strip ≡ state)
+pub stripped : {ps : List Piece} {s state : Bool} {old new : List ℕ} {m n r : Roff} → (r .len ≡ n .len) × (r .fresh ≡ n .fresh) × (r .strip ≡ state)
     → Followed ps s old m new n → Followed ps state old m new r
 stripped e f = rw (e .0, e .1) (record { text = f .text; line = f .line; strip = e .2 })
 

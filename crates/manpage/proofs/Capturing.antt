@@ -29,14 +29,14 @@ use Rattle.utf8.proofs.Laws.{one-at}
 use Rattle.upper.specs.Upper.{upper, asciiUpper}
 use Rattle.upper.proofs.Text.{upper-none, upper-both, upper-ascii, upper-empty}
 use Rattle.roff_escape.specs.declared.escape.Escape.the-variants as mode
-use Rattle.roff_escape.specs.declared.roff.Mark.{Mark}
+use Rattle.roff_escape.specs.declared.roff.Roff.{Roff}
 use Rattle.roff_escape.specs.Escape.{escape, lineStart}
 use Rattle.roff_escape.specs.Monoid.{piece, escapeAll, lineAfter}
 use Rattle.roff_escape.specs.Composer.{argument}
-use Rattle.roff_escape.specs.Parts.{Pushed}
+use Rattle.roff_escape.specs.InnerParts.{Pushed}
 use Rattle.roff_escape.proofs.Escaping.{puts}
 use Rattle.roff_escape.proofs.Composing.{piece-put, pushed-then, pushed-same}
-use Rattle.manpage.specs.Parts.{argumentPieces, isText, recordText, textsValid, textTo, between, beginning}
+use Rattle.manpage.specs.InnerParts.{argumentPieces, isText, recordText, textsValid, textTo, between, beginning}
 
 -- Upper case
 
@@ -193,7 +193,7 @@ none-captured [] e = refl
 none-captured (c ∷ x) e = absurd (false≢true (sym e))
 
 -- after the space
-module _ (x old mid new : List ℕ) (m a c : Mark) (same : length mid ≡ length old) (space : Pushed (piece mode.Unescaped (0x20 ∷ []) ∷ []) old m mid a)
+module _ (x old mid new : List ℕ) (m a c : Roff) (same : length mid ≡ length old) (space : Pushed (piece mode.Unescaped (0x20 ∷ []) ∷ []) old m mid a)
     (wrote : seen new (c .len) ≡ (seen mid (a .len) >>= extended (length mid) (escape mode.Spaces (a .fresh) (upper x))))
     (line : c .fresh ≡ lineStart mode.Spaces (a .fresh) (upper x)) (strip : c .strip ≡ a .strip) (some : Bool) (any : some ≡ not (empty x)) where
   -- the captured text
@@ -205,7 +205,7 @@ module _ (x old mid new : List ℕ) (m a c : Mark) (same : length mid ≡ length
       (pushed-then same space (record { text = w .0; line = w .1; strip = strip }))
 
   -- nothing was written, and then two quotes
-  pub argument-none : some ≡ false → (last : List ℕ) (r : Mark) → length new ≡ length mid
+  pub argument-none : some ≡ false → (last : List ℕ) (r : Roff) → length new ≡ length mid
       → Pushed (piece mode.Spaces (0x22 ∷ 0x22 ∷ []) ∷ []) new c last r → Pushed (argumentPieces (upper x)) old m last r
   unfolding argumentPieces argument escape lineStart escapeAll lineAfter bytes encode if_then_else_
   argument-none e last r k q =

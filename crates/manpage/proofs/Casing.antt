@@ -15,7 +15,7 @@ use Rattle.roff_escape.specs.declared.escape.Escape.the-variants as mode
 use Rattle.roff_escape.specs.Escape.{escape, lineStart}
 use Rattle.roff_escape.proofs.Escaping.{escape-append, line-append, Escaped, escaped-part, escaped-end}
 use Rattle.manpage.specs.declared.Cased.{Cased}
-use Rattle.manpage.specs.Parts.{CasedTo}
+use Rattle.manpage.specs.InnerParts.{CasedTo}
 
 -- two texts, one after the other
 in-turn : (limit : ℕ) (r : Result (List ℕ)) (fresh : Bool) (y z : List ℕ) → (r >>= extended limit (escape mode.Spaces fresh (y ++ z)))

@@ -38,7 +38,7 @@ use Rattle.roff_escape.specs.Composer.{fontEscape, argument, linebreak, control
 use Rattle.roff_escape.proofs.Escaping.{escape-append}
 use Rattle.manpage.specs.Roff.{Locals, initial, Outcome, captures, heading, fontOf, subsection, started, ended, token, roff}
 use Rattle.manpage.specs.Pieces.{pushedBy, collected, pieces}
-use Rattle.manpage.specs.Parts.{recordText, textsValid}
+use Rattle.manpage.specs.InnerParts.{recordText, textsValid}
 use Rattle.manpage.proofs.Whole.{roff-given}
 
 -- The records of an accepted document

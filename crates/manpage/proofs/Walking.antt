@@ -31,15 +31,15 @@ use Rattle.renderer.specs.Rendered.{standing, Inside}
 use Rattle.renderer.specs.declared.Rendered.{Rendered}
 use Rattle.renderer.specs.declared.Rendered.the-variants as rendered
 use Rattle.renderer.proofs.Leads.{Leads, leads-on, leads-out, leads-refused, leads-end, records, turned, walk-record, walk-end}
-use Rattle.roff_escape.specs.declared.roff.Mark.{Mark}
+use Rattle.roff_escape.specs.declared.roff.Roff.{Roff}
 use Rattle.roff_escape.specs.Escape.{preamble}
 use Rattle.roff_escape.specs.Monoid.{Written, escapeAll, lineAfter, writes, begun, pushes}
 use Rattle.roff_escape.specs.Composer.{text}
-use Rattle.roff_escape.specs.Parts.{Followed, Pushed}
+use Rattle.roff_escape.specs.InnerParts.{Followed, Pushed}
 use Rattle.roff_escape.proofs.Buffer.{pushes-writes}
 use Rattle.roff_escape.proofs.Composing.{pushed-none}
 use Rattle.manpage.specs.Roff.{Locals, initial, Outcome, captures, fontOf, subsection, started, ended, token, State, state, turn, roffOn, roff}
-use Rattle.manpage.specs.Parts.{locals, Follows, isHeading, isTermRef, recordText, textsValid, between, beginning, opening, closing, closed}
+use Rattle.manpage.specs.InnerParts.{locals, Follows, isHeading, isTermRef, recordText, textsValid, between, beginning, opening, closing, closed}
 use Rattle.manpage.proofs.Capturing.{between-record, valid-record, between-none}
 use Rattle.manpage.proofs.Blocks.{started-gives, ended-gives, started-refused, ended-refused}
 
@@ -93,11 +93,11 @@ module _ {document : List ℕ} {at : ℕ} {h : Head} (r : Read document at h) (l
 -- The state
 
 -- what stands in a room up to a mark's length, with some locals
-unfoldable pub marked : List ℕ → Mark → Locals → Result State
+unfoldable pub marked : List ℕ → Roff → Locals → Result State
 marked room m l = seen room (m .len) >>= λ x. gives (state l (record { out = x; fresh = m .fresh }))
 
 -- a length within the room, and one past it
-module _ (room : List ℕ) (m : Mark) (l : Locals) where
+module _ (room : List ℕ) (m : Roff) (l : Locals) where
   marked-in : m .len ≤ length room → marked room m l ≡ gives (state l (record { out = take (m .len) room; fresh = m .fresh }))
   unfolding marked _>>=_
   marked-in h = rw (seen-in room (m .len) h)
@@ -127,7 +127,7 @@ module _ (limit p q : ℕ) (k : Kind) (x : List ℕ) (ts : List Token) (l : Loca
       ∙ ap (λ (t : Result Written). t >>= λ v. gives (state (o .after) v)) (pushes-writes limit (o .pushed) w h)
       ∙ sym (bind-assoc (extended limit (escapeAll (w .fresh) (o .pushed)) (w .out)) _ _)
 
-  turn-made : (old new : List ℕ) (m r : Mark) → length old ≡ limit → Followed (o .pushed) (o .after .strip) old m new r
+  turn-made : (old new : List ℕ) (m r : Roff) → length old ≡ limit → Followed (o .pushed) (o .after .strip) old m new r
       → marked new r (o .after) ≡ (marked old m l >>= turn limit p q k x ts)
   unfolding marked _>>=_
   turn-made old new m r size f =
@@ -159,14 +159,14 @@ answer-refused limit document room a e n k = record {
 }
 
 -- Before a record: what is captured is the text from where capture began up to here; from there on, and from here on, text is UTF-8.
-pub record On (limit : ℕ) (document room : List ℕ) (m : Mark) (on : Bool) (from at : ℕ) : Type 0 where
+pub record On (limit : ℕ) (document room : List ℕ) (m : Roff) (on : Bool) (from at : ℕ) : Type 0 where
   pub same : length room ≡ limit
   pub ahead : textsValid (tokensFrom document at) ≡ true
   pub behind : textsValid (tokensFrom document (beginning on from at)) ≡ true
   pub chain : Chain document (beginning on from at) at
   pub leads : Leads (whole limit document) (records (turn limit) document at) (marked room m (locals m (between document (beginning on from at) at) on))
 
-pub on-start : (limit : ℕ) (document room : List ℕ) (m : Mark) → textsValid (tokens 0 0 document) ≡ true → length room ≡ limit
+pub on-start : (limit : ℕ) (document room : List ℕ) (m : Roff) → textsValid (tokens 0 0 document) ≡ true → length room ≡ limit
     → seen room (m .len) ≡ extended limit preamble [] → (m .fresh ≡ true) × (m .strip ≡ false) → On limit document room m false 0 0
 unfolding beginning if_then_else_ marked begun writes _>>=_
 on-start limit document room m v k e f = record {
@@ -191,7 +191,7 @@ unfolding opening
 opening-off b on = pick (λ (c : Bool). c ≡ false → on ≡ false) (isHeading b) (λ _ e. absurd (false≢true (sym e))) (λ _ e. e)
 
 -- At a record that was read: what is captured is the text from a place f on.
-pub record Taken (limit : ℕ) (document room : List ℕ) (m : Mark) (on : Bool) (f at : ℕ) (h : Head) : Type 0 where
+pub record Taken (limit : ℕ) (document room : List ℕ) (m : Roff) (on : Bool) (f at : ℕ) (h : Head) : Type 0 where
   pub same : length room ≡ limit
   pub inside : at < length document
   pub reads : Read document at h
@@ -201,7 +201,7 @@ pub record Taken (limit : ℕ) (document room : List ℕ) (m : Mark) (on : Bool)
   pub none : on ≡ false → between document f at ≡ []
   pub leads : Leads (whole limit document) (records (turn limit) document at) (marked room m (locals m (between document f at) on))
 
-pub taken : {limit : ℕ} {document room : List ℕ} {m : Mark} {on : Bool} {from at : ℕ} {h : Head} → On limit document room m on from at → Read document at h
+pub taken : {limit : ℕ} {document room : List ℕ} {m : Roff} {on : Bool} {from at : ℕ} {h : Head} → On limit document room m on from at → Read document at h
     → at < length document → (f : ℕ) → f ≡ beginning on from at → Taken limit document room m on f at h
 taken {limit} {document} {room} {m} {on} {from} {at} o r l f e = record {
   same = o .same;
@@ -215,7 +215,7 @@ taken {limit} {document} {room} {m} {on} {from} {at} o r l f e = record {
       (sym e) (o .leads);
 }
 
-module _ {limit : ℕ} {document room : List ℕ} {m : Mark} {on : Bool} {f at : ℕ} {h : Head} (t : Taken limit document room m on f at h) where
+module _ {limit : ℕ} {document room : List ℕ} {m : Roff} {on : Bool} {f at : ℕ} {h : Head} (t : Taken limit document room m on f at h) where
   -- fewer bytes are left after it
   pub taken-less : length document - h .next < length document - at
   taken-less = omega (arith, t .inside, read-on (t .reads) (t .inside) .0)
@@ -234,7 +234,7 @@ module _ {limit : ℕ} {document room : List ℕ} {m : Mark} {on : Bool} {f at :
   behind-on on′ = pick (λ (x : ℕ). textsValid (tokensFrom document x) ≡ true) on′ (λ _. t .behind) (λ _. ahead-on)
 
   -- a record's token was followed
-  on-next : (room′ : List ℕ) (m′ : Mark) (on′ : Bool) (q : Outcome) → length room′ ≡ length room → token at (h .kind) body here ≡ gives q
+  on-next : (room′ : List ℕ) (m′ : Roff) (on′ : Bool) (q : Outcome) → length room′ ≡ length room → token at (h .kind) body here ≡ gives q
       → Followed (q .pushed) (q .after .strip) room m room′ m′ → q .after .kept ≡ between document (beginning on′ f (h .next)) (h .next)
       → q .after .capture ≡ on′ → On limit document room′ m′ on′ f (h .next)
   on-next room′ m′ on′ q k e w kept c = record {
@@ -262,7 +262,7 @@ module _ {limit : ℕ} {document room : List ℕ} {m : Mark} {on : Bool} {f at :
       on-next room m on _ refl (as-kind kind.Unknown _ e refl) (pushed-none room m)
       (sym (kept-on (t .reads) (t .inside) f (t .chain) on (no-text kind.Unknown e refl) (t .none))) refl
 
-  module _ (room′ : List ℕ) (m′ : Mark) (same : length room′ ≡ length room) where
+  module _ (room′ : List ℕ) (m′ : Roff) (same : length room′ ≡ length room) where
     pub on-started : {b : Block} (on′ : Bool) → h .kind ≡ kind.Start b → isTermRef (kind.Start b) ≡ false → on′ ≡ opening b on
         → ((p : ℕ) (kept : List ℕ) (capture : Bool) → Follows (started p b (locals m kept capture)) room m room′ m′)
         → On limit document room′ m′ on′ f (h .next)
@@ -320,7 +320,7 @@ module _ {limit : ℕ} {document room : List ℕ} {m : Mark} {on : Bool} {f at :
   pub refused-11 : m .len ≤ length room → isTermRef (h .kind) ≡ true → whole limit document ≡ refused 11 at
   refused-11 i e = refuses 11 at i (token-refused at (h .kind) body here e)
 
-module _ {limit : ℕ} {document room : List ℕ} {m : Mark} {on : Bool} {from at : ℕ} (o : On limit document room m on from at) where
+module _ {limit : ℕ} {document room : List ℕ} {m : Roff} {on : Bool} {from at : ℕ} (o : On limit document room m on from at) where
   abbrev now-locals : Locals
   now-locals = locals m (between document (beginning on from at) at) on
 

@@ -1,3 +1,3 @@
 pub mod Roff
 pub mod Pieces
-pub mod Parts
+pub mod InnerParts

@@ -39,14 +39,14 @@ pub record Locals : Type 0 where
 abbrev pub initial : Locals
 initial = record { strip = false; kept = []; capture = false }
 
-abbrev pub strip : Bool → Locals → Locals
-strip x l = record { strip = x; kept = l .kept; capture = l .capture }
+abbrev pub withStrip : Bool → Locals → Locals
+withStrip x l = record { strip = x; kept = l .kept; capture = l .capture }
 
-abbrev pub kept : List ℕ → Locals → Locals
-kept x l = record { strip = l .strip; kept = x; capture = l .capture }
+abbrev pub withKept : List ℕ → Locals → Locals
+withKept x l = record { strip = l .strip; kept = x; capture = l .capture }
 
-abbrev pub capture : Bool → Locals → Locals
-capture x l = record { strip = l .strip; kept = l .kept; capture = x }
+abbrev pub withCapture : Bool → Locals → Locals
+withCapture x l = record { strip = l .strip; kept = l .kept; capture = x }
 
 -- What a token does: the pieces that it pushes, and the locals after it.
 pub record Outcome : Type 0 where
@@ -60,12 +60,12 @@ pushing ps l = gives (record { pushed = ps; after = l })
 
 -- 'Headings are captured': the text of a record
 unfoldable pub captures : List ℕ → Locals → Result Outcome
-captures x l = pushing [] (kept (l .kept ++ x) l)
+captures x l = pushing [] (withKept (l .kept ++ x) l)
 
 -- 'written at their end' in upper case, by the whole mapping of 02, point 6; which ends all capture: 'An inner heading's end also ends
 -- capture for the outer'
 unfoldable pub heading : List ℕ → Locals → Result Outcome
-heading name l = pushing (control name (upper (l .kept))) (kept [] (capture false l))
+heading name l = pushing (control name (upper (l .kept))) (withKept [] (withCapture false l))
 
 -- Tokens
 
@@ -79,11 +79,11 @@ subsection style.Invalid = []
 
 -- `Token::BlockStart` of the block at place p; 11, 'TermRef in roff'
 unfoldable pub started : ℕ → Block → Locals → Result Outcome
-started p block.Header l = pushing [] (capture true l)
-started p block.Section2 l = pushing [] (capture true l)
-started p block.Section3 l = pushing [] (capture true l)
-started p block.Section4 l = pushing [] (capture true l)
-started p block.ItemTerm l = pushing (control0 (bytes "TP")) (strip true l)
+started p block.Header l = pushing [] (withCapture true l)
+started p block.Section2 l = pushing [] (withCapture true l)
+started p block.Section3 l = pushing [] (withCapture true l)
+started p block.Section4 l = pushing [] (withCapture true l)
+started p block.ItemTerm l = pushing (control0 (bytes "TP")) (withStrip true l)
 started p block.ItemBody l = pushing [] l
 started p block.DefinitionList l = pushing [] l
 started p block.Block l = pushing (control0 (bytes "PP")) l
@@ -98,8 +98,8 @@ ended p block.Header l = heading (bytes "SH") l
 ended p block.Section2 l = heading (bytes "SS") l
 ended p block.Section3 l = heading (bytes "SS") l
 ended p block.Section4 l = heading (bytes "SS") l
-ended p block.ItemTerm l = pushing linebreak (strip false l)
-ended p block.ItemBody l = pushing (control0 (bytes "PP")) (strip false l)
+ended p block.ItemTerm l = pushing linebreak (withStrip false l)
+ended p block.ItemBody l = pushing (control0 (bytes "PP")) (withStrip false l)
 ended p block.DefinitionList l = pushing [] l
 ended p block.Block l = pushing [] l
 ended p block.InlineBlock l = pushing [] l

@@ -9,7 +9,7 @@ ghost use Rattle.base.specs.Bytes.{part};
 ghost use Rattle.base.specs.Result.{_>>=_ as bind, measured};
 ghost use Rattle.utf8.specs.Utf8.{utf8};
 ghost use Rattle.upper.specs.Upper.{upper};
-ghost use Rattle.upper.specs.Parts.{Columns};
+ghost use Rattle.upper.specs.InnerParts.{Columns};
 ghost use Rattle.records.specs.Records.{tokens, tokensFrom};
 ghost use Rattle.records.specs.declared.Kind.the-variants as kind;
 ghost use Rattle.room.specs.Room.{seen, extended};
@@ -18,9 +18,9 @@ ghost use Rattle.renderer.specs.Rendered.{answered, standing, filled, Inside};
 ghost use Rattle.roff_escape.specs.declared.escape.Escape.the-variants as mode;
 ghost use Rattle.roff_escape.specs.Escape.{escape, lineStart};
 ghost use Rattle.roff_escape.specs.Composer.{control, text};
-ghost use Rattle.roff_escape.specs.Parts.{Pushed};
+ghost use Rattle.roff_escape.specs.InnerParts.{Pushed};
 ghost use Rattle.manpage.specs.Roff.{fontOf, subsection, started, ended, roffOn, roff};
-ghost use Rattle.manpage.specs.Parts.{argumentPieces, locals, Follows, CasedTo, isHeading, isText, isTermRef, textsValid, between, beginning, opening, closing};
+ghost use Rattle.manpage.specs.InnerParts.{argumentPieces, locals, Follows, CasedTo, isHeading, isText, isTermRef, textsValid, between, beginning, opening, closing};
 use document::Checked;
 use records::Block;
 use records::Head;
@@ -30,10 +30,10 @@ use refusal::Refusal;
 use renderer::Rendered;
 use roff_escape::escape;
 use roff_escape::escape::Escape;
-use roff_escape::escape::Line;
+use roff_escape::escape::Payload;
 use roff_escape::roff;
 use roff_escape::roff::Font;
-use roff_escape::roff::Mark;
+use roff_escape::roff::Roff;
 
 // The captured text as it was written: the length of the text then, whether a line starts there, and whether any was captured.
 struct Captured {
@@ -110,7 +110,7 @@ fn escape_mapped(
     capitals: &[u16],
     bytes: &[u8],
     at: usize,
-) -> Line
+) -> Payload
     requires { ⌜ Columns (now characters) (now capitals) × (utf8 (drop at (now bytes)) ≡ true) ⌝ }
     ensures text { λ r. ⌜ seen (now (room .exit)) (r .len) ≡ bind (seen (now (room .entry)) len) (extended (length (now (room .entry))) (escape mode.Spaces start (upper (drop at (now (bytes .entry)))))) ⌝ }
     ensures line { λ r. ⌜ r .fresh ≡ lineStart mode.Spaces start (upper (drop at (now (bytes .entry)))) ⌝ }
@@ -127,7 +127,7 @@ fn escape_mapped(
         fresh = line.fresh;
         i = cased.next;
     }
-    Line { len: n, fresh }
+    Payload { len: n, fresh }
 }
 
 // Text of a heading in upper case, up to the first byte beyond ASCII.
@@ -167,7 +167,7 @@ fn escape_cased(
     characters: &[u16],
     capitals: &[u16],
     bytes: &[u8],
-) -> Line
+) -> Payload
     requires { ⌜ Columns (now characters) (now capitals) × (utf8 (now bytes) ≡ true) ⌝ }
     ensures text { λ r. ⌜ seen (now (room .exit)) (r .len) ≡ bind (seen (now (room .entry)) len) (extended (length (now (room .entry))) (escape mode.Spaces start (upper (now (bytes .entry))))) ⌝ }
     ensures line { λ r. ⌜ r .fresh ≡ lineStart mode.Spaces start (upper (now (bytes .entry))) ⌝ }
@@ -187,7 +187,7 @@ fn put_mapped(
     document: &[u8],
     from: usize,
     to: usize,
-) -> Line
+) -> Payload
     requires { ⌜ (utf8 (drop i (now bytes)) ≡ true) × (to ≤ length (now document)) × (textsValid (tokensFrom (now document) from) ≡ true) ⌝ }
     ensures text { λ r. ⌜ seen (now (room .exit)) (r .len) ≡ bind (seen (now (room .entry)) len) (extended (length (now (room .entry))) (escape mode.Spaces start (upper (drop i (now (bytes .entry))) ++ upper (between (now (document .entry)) from to)))) ⌝ }
     ensures line { λ r. ⌜ r .fresh ≡ lineStart mode.Spaces start (upper (drop i (now (bytes .entry))) ++ upper (between (now (document .entry)) from to)) ⌝ }
@@ -217,7 +217,7 @@ fn put_mapped(
         }
         at = next;
     }
-    Line { len: n, fresh }
+    Payload { len: n, fresh }
 }
 
 // The text between two places in upper case, from its records read again. From the first byte beyond ASCII on the table is needed.
@@ -276,13 +276,13 @@ fn put_captured(
 }
 
 // The argument of a heading's control line, and the space before it; an empty one is `""`.
-fn put_argument(room: &mut [u8], m: Mark, document: &[u8], from: usize, to: usize) -> Mark
+fn put_argument(room: &mut [u8], m: Roff, document: &[u8], from: usize, to: usize) -> Roff
     requires { ⌜ (to ≤ length (now document)) × (textsValid (tokensFrom (now document) from) ≡ true) ⌝ }
     ensures { λ r. ⌜ Pushed (argumentPieces (upper (between (now (document .entry)) from to))) (now (room .entry)) m (now (room .exit)) r ⌝ }
 {
     let a = roff::push(room, m, Escape::Unescaped, b" ");
     let b = put_captured(room, a.len, a.fresh, document, from, to);
-    let c = Mark {
+    let c = Roff {
         len: b.len,
         fresh: b.fresh,
         strip: a.strip,
@@ -294,7 +294,7 @@ fn put_argument(room: &mut [u8], m: Mark, document: &[u8], from: usize, to: usiz
 }
 
 // `Roff::control` with the text between two places as its argument.
-fn control(room: &mut [u8], m: Mark, name: &[u8], document: &[u8], from: usize, to: usize) -> Mark
+fn control(room: &mut [u8], m: Roff, name: &[u8], document: &[u8], from: usize, to: usize) -> Roff
     requires { ⌜ (to ≤ length (now document)) × (textsValid (tokensFrom (now document) from) ≡ true) ⌝ }
     ensures { λ r. ⌜ Pushed (control (now (name .entry)) (upper (between (now (document .entry)) from to))) (now (room .entry)) m (now (room .exit)) r ⌝ }
 {
@@ -304,7 +304,7 @@ fn control(room: &mut [u8], m: Mark, name: &[u8], document: &[u8], from: usize, 
 }
 
 // 'if style == Style::Emphasis': a control line before it.
-fn put_subsection(room: &mut [u8], m: Mark, style: Style) -> Mark
+fn put_subsection(room: &mut [u8], m: Roff, style: Style) -> Roff
     ensures { λ r. ⌜ Pushed (subsection style) (now (room .entry)) m (now (room .exit)) r ⌝ }
 {
     match style {
@@ -314,7 +314,7 @@ fn put_subsection(room: &mut [u8], m: Mark, style: Style) -> Mark
 }
 
 // The text between two places of a document, which is not captured.
-fn put_text(room: &mut [u8], m: Mark, style: Style, document: &[u8], from: usize, to: usize) -> Mark
+fn put_text(room: &mut [u8], m: Roff, style: Style, document: &[u8], from: usize, to: usize) -> Roff
     ensures { λ r. ⌜ Pushed (subsection style ++ text (m .strip) (fontOf style) (part (now (document .entry)) from to)) (now (room .entry)) m (now (room .exit)) r ⌝ }
 {
     let a = put_subsection(room, m, style);
@@ -322,7 +322,7 @@ fn put_text(room: &mut [u8], m: Mark, style: Style, document: &[u8], from: usize
 }
 
 // `Token::BlockStart`. The walk starts capture at a heading, and refuses TermRef before it comes here.
-fn started(room: &mut [u8], m: Mark, b: Block) -> Mark
+fn started(room: &mut [u8], m: Roff, b: Block) -> Roff
     ensures { λ r. ⌜ ((p : ℕ) (kept : List ℕ) (capture : Bool) → Follows (started p b (locals m kept capture)) (now (room .entry)) m (now (room .exit)) r) ⌝ }
 {
     match b {
@@ -334,7 +334,7 @@ fn started(room: &mut [u8], m: Mark, b: Block) -> Mark
 }
 
 // The end of a heading at a place, where the text from `from` on is captured.
-fn headed(room: &mut [u8], m: Mark, b: Block, document: &[u8], from: usize, at: usize) -> Mark
+fn headed(room: &mut [u8], m: Roff, b: Block, document: &[u8], from: usize, at: usize) -> Roff
     requires { ⌜ (isHeading b ≡ true) × (at ≤ length (now document)) × (textsValid (tokensFrom (now document) from) ≡ true) ⌝ }
     ensures { λ r. ⌜ ((p : ℕ) (capture : Bool) → Follows (ended p b (locals m (between (now (document .entry)) from at) capture)) (now (room .entry)) m (now (room .exit)) r) ⌝ }
 {
@@ -345,7 +345,7 @@ fn headed(room: &mut [u8], m: Mark, b: Block, document: &[u8], from: usize, at: 
 }
 
 // The end of a block that is no heading; the text that is captured does not matter.
-fn left(room: &mut [u8], m: Mark, b: Block) -> Mark
+fn left(room: &mut [u8], m: Roff, b: Block) -> Roff
     requires { ⌜ isHeading b ≡ false ⌝ }
     ensures { λ r. ⌜ ((p : ℕ) (kept : List ℕ) (capture : Bool) → Follows (ended p b (locals m kept capture)) (now (room .entry)) m (now (room .exit)) r) ⌝ }
 {
@@ -359,7 +359,7 @@ fn left(room: &mut [u8], m: Mark, b: Block) -> Mark
 
 // `Token::BlockEnd` at a place, where the text from `from` on is captured. TermRef is refused before. Headings, which are few, stand apart: the
 // others then need nothing of the document at hand.
-fn ended(room: &mut [u8], m: Mark, b: Block, document: &[u8], from: usize, at: usize) -> Mark
+fn ended(room: &mut [u8], m: Roff, b: Block, document: &[u8], from: usize, at: usize) -> Roff
     requires { ⌜ (at ≤ length (now document)) × (textsValid (tokensFrom (now document) from) ≡ true) ⌝ }
     ensures { λ r. ⌜ ((p : ℕ) (capture : Bool) → Follows (ended p b (locals m (between (now (document .entry)) from at) capture)) (now (room .entry)) m (now (room .exit)) r) ⌝ }
 {

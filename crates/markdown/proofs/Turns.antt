@@ -20,13 +20,13 @@ use Rattle.splitter.specs.Split.{Chunk, raw, paragraph, lineBreak, split}
 use Rattle.renderer.specs.Walk.{withOut, withLay, page, write, last, anywhere, body}
 use Rattle.skip.specs.Counter.{hides}
 use Rattle.html_rules.specs.Marks.{separated}
-use Rattle.html_rules.specs.Markdown.{State, AtStart, AtEnd, styled, skip, fenced, termEnds, started, ended, codeBegins, codeStops, lineText, wordText}
+use Rattle.html_rules.specs.Markdown.{State, AtStart, AtEnd, withStyle, withSkip, withFenced, termEnds, started, ended, codeBegins, codeStops, lineText, wordText}
 use Rattle.html_rules.specs.Markdown.{change, separate, begin, close, rawChunk, bodyEnds, finish, chunk, turn}
 use Rattle.html_rules.specs.declared.Markdown.{Markdown}
 use Rattle.html_rules.proofs.Lifts.{lift, lift-then, lift-lay}
-use Rattle.markdown_marks.specs.Parts.{metTerm, startOf, endOf, closed, startRule}
+use Rattle.markdown_marks.specs.InnerParts.{metTerm, startOf, endOf, closed, startRule}
 use Rattle.markdown_marks.proofs.Flags.{start-told, end-told}
-use Rattle.markdown_chunks.specs.Parts.{rawRule, chunkRule, fenceAfter}
+use Rattle.markdown_chunks.specs.InnerParts.{rawRule, chunkRule, fenceAfter}
 
 -- the texts of a start as one rule
 begin-is : (limit : ℕ) (o : AtStart) (s : State) → begin limit o s
@@ -73,30 +73,30 @@ module _ (limit : ℕ) (full : Bool) (p q : ℕ) (y : List ℕ) (ts : List Token
 
   -- the flags with the style closed, and with the term that is met
   abbrev pub met : Block → Markdown
-  met b = metTerm b (termEnds ts) (styled style.Text lay)
+  met b = metTerm b (termEnds ts) (withStyle style.Text lay)
 
   module _ (b : Block) where
     pub start-is : (index b ≡ 10 → ⊥) → turn limit full p q (kind.Start b) y ts here
         ≡ (closed limit (lay .style) x >>= startRule limit (met b) b >>= λ z. gives (page kept ((startOf (met b) b) .after) z))
     unfolding turn change write
-    start-is n = started-is limit p b (lay .style) (withLay (styled style.Text) here) (termEnds ts) n
+    start-is n = started-is limit p b (lay .style) (withLay (withStyle style.Text) here) (termEnds ts) n
 
     pub end-is : (index b ≡ 10 → ⊥) → turn limit full p q (kind.End b) y ts here
-        ≡ (closed limit (lay .style) x >>= extended limit ((endOf (styled style.Text lay) b) .text)
-        >>= λ z. gives (page kept ((endOf (styled style.Text lay) b) .after) z))
+        ≡ (closed limit (lay .style) x >>= extended limit ((endOf (withStyle style.Text lay) b) .text)
+        >>= λ z. gives (page kept ((endOf (withStyle style.Text lay) b) .after) z))
     unfolding turn change write
-    end-is n = ended-is limit p b (lay .style) (withLay (styled style.Text) here) n
+    end-is n = ended-is limit p b (lay .style) (withLay (withStyle style.Text) here) n
 
     pub start-meta : index b ≡ 10 → turn limit full p q (kind.Start b) y ts here ≡ (closed limit (lay .style) x >>= λ _. refused 11 p)
     unfolding turn change write _>>=_
     start-meta e =
-        refused-is limit p b (lay .style) (withLay (styled style.Text) here) (λ s. started p b (termEnds ts) (s .lay) >>= λ o. begin limit o s)
+        refused-is limit p b (lay .style) (withLay (withStyle style.Text) here) (λ s. started p b (termEnds ts) (s .lay) >>= λ o. begin limit o s)
         (λ t. ap (λ (r : Result AtStart). r >>= λ o. begin limit o t) (start-told p b (termEnds ts) (t .lay) ∙ if-true _ _ (eq-eqb (index b) 10 e)))
 
     pub end-meta : index b ≡ 10 → turn limit full p q (kind.End b) y ts here ≡ (closed limit (lay .style) x >>= λ _. refused 11 p)
     unfolding turn change write _>>=_
     end-meta e =
-        refused-is limit p b (lay .style) (withLay (styled style.Text) here) (λ s. ended p b (s .lay) >>= λ o. close limit o s)
+        refused-is limit p b (lay .style) (withLay (withStyle style.Text) here) (λ s. ended p b (s .lay) >>= λ o. close limit o s)
         (λ t. ap (λ (r : Result AtEnd). r >>= λ o. close limit o t) (end-told p b (t .lay) ∙ if-true _ _ (eq-eqb (index b) 10 e)))
 
   pub unknown-is : turn limit full p q kind.Unknown y ts here ≡ gives here
@@ -118,12 +118,12 @@ module _ (limit : ℕ) (full : Bool) (p q : ℕ) (y : List ℕ) (ts : List Token
   pub finish-is : finish limit here ≡ closed limit (lay .style) x
   unfolding finish change write _>>=_
   finish-is =
-      sym (bind-assoc (closed limit (lay .style) x) (λ z. gives (withOut z (withLay (styled style.Text) here))) (λ s₁. gives (s₁ .out)))
+      sym (bind-assoc (closed limit (lay .style) x) (λ z. gives (withOut z (withLay (withStyle style.Text) here))) (λ s₁. gives (s₁ .out)))
       ∙ bind-end (closed limit (lay .style) x)
 
 -- a chunk's change of the flags
 abbrev pub fencing : Chunk → Markdown → Markdown
-fencing c l = fenced (fenceAfter c (l .fenced)) l
+fencing c l = withFenced (fenceAfter c (l .fenced)) l
 
 module _ (limit : ℕ) (s : State) where
   raw-is : (x : List ℕ) (w : ℕ) → rawChunk limit x w s ≡ lift (rawRule limit (s .lay) x w) (withLay (fencing (raw x w)) s)
@@ -132,16 +132,16 @@ module _ (limit : ℕ) (s : State) where
     where
       go : (t u : Bool) →
           (if t then (lift (separated limit (bytes "\n")) s >>= lift (extended limit (lineText x))) else
-          if u then (lift (extended limit (codeBegins (s .lay))) s >>= λ s₁. lift (extended limit (lineText x)) (withLay (fenced true) s₁)) else
-          (lift (extended limit (codeStops (s .lay))) s >>= λ s₁. lift (extended limit (wordText (s .lay) x)) (withLay (fenced false) s₁)))
+          if u then (lift (extended limit (codeBegins (s .lay))) s >>= λ s₁. lift (extended limit (lineText x)) (withLay (withFenced true) s₁)) else
+          (lift (extended limit (codeStops (s .lay))) s >>= λ s₁. lift (extended limit (wordText (s .lay) x)) (withLay (withFenced false) s₁)))
           ≡ lift (λ z.
           if t then (separated limit (bytes "\n") z >>= extended limit (lineText x)) else
           if u then (extended limit (codeBegins (s .lay)) z >>= extended limit (lineText x)) else
           (extended limit (codeStops (s .lay)) z >>= extended limit (wordText (s .lay) x)))
-          (withLay (λ l. fenced (if t then l .fenced else if u then true else false) l) s)
+          (withLay (λ l. withFenced (if t then l .fenced else if u then true else false) l) s)
       go true u = lift-then (separated limit (bytes "\n")) s (extended limit (lineText x))
-      go false true = lift-lay (extended limit (codeBegins (s .lay))) s (λ _. extended limit (lineText x)) (fenced true)
-      go false false = lift-lay (extended limit (codeStops (s .lay))) s (λ _. extended limit (wordText (s .lay) x)) (fenced false)
+      go false true = lift-lay (extended limit (codeBegins (s .lay))) s (λ _. extended limit (lineText x)) (withFenced true)
+      go false false = lift-lay (extended limit (codeStops (s .lay))) s (λ _. extended limit (wordText (s .lay) x)) (withFenced false)
 
   -- a chunk that goes on, and one that ends the walk of its body
   module _ (full : Bool) where
@@ -151,7 +151,7 @@ module _ (limit : ℕ) (s : State) where
     chunk-on paragraph e = if-true _ _ (not-false full e)
     chunk-on lineBreak e = refl
 
-    pub chunk-last : (c : Chunk) → last full c ≡ true → chunk limit full c s ≡ gives (withLay (skip 1) s)
+    pub chunk-last : (c : Chunk) → last full c ≡ true → chunk limit full c s ≡ gives (withLay (withSkip 1) s)
     unfolding chunk
     chunk-last (raw x w) e = cc
     chunk-last paragraph e = if-false _ _ (not-true full e)

@@ -10,7 +10,7 @@ use Rattle.base.specs.Bytes.{part}
 use Rattle.base.specs.Result.{Result, gives, refused, _>>=_}
 use Rattle.base.proofs.Results.{bind-assoc, bind-same, bind-end}
 use Rattle.room.specs.Room.{extended, seen}
-use Rattle.records.specs.Records.{index, tokens, tokensFrom, fits}
+use Rattle.records.specs.Records.{index, tokens, tokensFrom, recordFits}
 use Rattle.document.specs.Document.{check}
 use Rattle.records.specs.Answers.{Read}
 use Rattle.records.specs.declared.Style.{Style}
@@ -31,15 +31,15 @@ use Rattle.renderer.specs.Walk.{page, withLay, write, shown, last, anywhere, wa
 use Rattle.skip.specs.Counter.{hides, skipParagraph}
 use Rattle.renderer.proofs.Shown.{shown-in, shown-then, shown-by, shown-write, shown-changed}
 use Rattle.renderer.proofs.Leads.{Leads, leads-start, leads-on, chunksThen}
-use Rattle.html_rules.specs.Markdown.{State, plain, initial, styled, skip, fenced, opening, closing, termEnds, codeEnds, change}
+use Rattle.html_rules.specs.Markdown.{State, plain, initial, withStyle, withSkip, withFenced, opening, closing, termEnds, codeEnds, change}
 use Rattle.html_rules.specs.Markdown.{bodyEnds, finish, chunk, turn}
 use Rattle.html_rules.specs.declared.Markdown.{Markdown}
-use Rattle.html_marks.specs.Parts.{isMeta}
-use Rattle.markdown_marks.specs.Parts.{tags as allTags, metTerm, startOf, endOf, closed, startRule, startedText, endedText, Few}
+use Rattle.html_marks.specs.InnerParts.{isMeta}
+use Rattle.markdown_marks.specs.InnerParts.{tags as allTags, metTerm, startOf, endOf, closed, startRule, startedText, endedText, Few}
 use Rattle.html_rules.proofs.Rest as walking
 use Rattle.html_rules.proofs.Rest.{chunks-on, chunks-stop, chunks-done}
-use Rattle.markdown_chunks.specs.Parts.{chunkRule, fenceAfter}
-use Rattle.markdown_chunks.specs.Onward.{onward, Moves}
+use Rattle.markdown_chunks.specs.InnerParts.{chunkRule, fenceAfter}
+use Rattle.markdown_chunks.specs.InnerAdvance.{markedFrom, Moves}
 use Rattle.markdown_marks.proofs.Flags.{start-few, end-few, met-few, met-skip, met-mono, met-style, met-styled}
 use Rattle.markdown.proofs.Turns.{start-is, end-is, start-meta, end-meta, unknown-is, hidden-is, text-is, finish-is, fencing, chunk-on, chunk-last}
 
@@ -94,10 +94,10 @@ module _ (limit : ℕ) (full : Bool) (tags document : List ℕ) where
   body-words {room} {at} {len} {lay} {y} {from} {d} i new n from′ s f m = record {
     few = i .few;
     open-few = i .open-few;
-    leads = bind-assoc (shown new n [] lay) (onward full limit y from′ d) (after at)
+    leads = bind-assoc (shown new n [] lay) (markedFrom full limit y from′ d) (after at)
         ∙ ap (λ (r : Result State). r >>= after at)
-        (subst (λ (k : ℕ). (shown new n [] lay >>= onward full k y from′ d) ≡ (shown room len [] lay >>= onward full k y from d)) s (m .same f full []))
-        ∙ sym (bind-assoc (shown room len [] lay) (onward full limit y from d) (after at))
+        (subst (λ (k : ℕ). (shown new n [] lay >>= markedFrom full k y from′ d) ≡ (shown room len [] lay >>= markedFrom full k y from d)) s (m .same f full []))
+        ∙ sym (bind-assoc (shown room len [] lay) (markedFrom full limit y from d) (after at))
         ∙ i .leads;
   }
 
@@ -105,13 +105,13 @@ module _ (limit : ℕ) (full : Bool) (tags document : List ℕ) where
   pub body-on : {room : List ℕ} {at len : ℕ} {lay : Markdown} {y : List ℕ} {c : Cursor} → InBody room at len lay y c
       → {p : Piece} {d : Cursor} → Took y c p d → (new : List ℕ) (n : ℕ) (f : Bool) → length room ≡ limit → last full (chunkOf y p) ≡ false
       → tags ≡ allTags → (tags ≡ allTags → seen new n ≡ (seen room len >>= chunkRule (length room) lay (chunkOf y p)))
-      → f ≡ fenceAfter (chunkOf [] p) (lay .fenced) → InBody new at n (fenced f lay) y d
+      → f ≡ fenceAfter (chunkOf [] p) (lay .fenced) → InBody new at n (withFenced f lay) y d
   body-on {room} {at} {len} {lay} {y} {c} i {p} t new n f s e z w g = record {
     few = i .few;
     open-few = i .open-few;
-    leads = chunks-on full (chunk limit full) (after at) whole y c (shown room len [] lay) (i .leads) t (shown new n [] (fenced f lay))
-        (shown-by (withLay (fencing (chunkOf y p))) [] [] lay (fenced f lay)
-        (λ x. ap (λ (b : Bool). page [] (fenced b lay) x) (fence-any p y (lay .fenced) ∙ sym g))
+    leads = chunks-on full (chunk limit full) (after at) whole y c (shown room len [] lay) (i .leads) t (shown new n [] (withFenced f lay))
+        (shown-by (withLay (fencing (chunkOf y p))) [] [] lay (withFenced f lay)
+        (λ x. ap (λ (b : Bool). page [] (withFenced b lay) x) (fence-any p y (lay .fenced) ∙ sym g))
         (chunkRule limit lay (chunkOf y p)) room new len n (w z ∙ ap (λ (m : ℕ). seen room len >>= chunkRule m lay (chunkOf y p)) s)
         ∙ sym (shown-then room len [] lay (chunk limit full (chunkOf y p)) _ (λ x. chunk-on limit (page [] lay x) full (chunkOf y p) e))) e;
   }
@@ -122,15 +122,15 @@ module _ (limit : ℕ) (full : Bool) (tags document : List ℕ) where
     on-out h = walking.rest-out (turn limit full) (finish limit) document whole at room len [] lay (o .leads) h
 
     -- no record is left
-    pub on-end : (told : Result (List ℕ)) → length document ≤ at → (tags ≡ allTags → told ≡ (seen room len >>= closed (length room) (lay .style)))
-        → told ≡ whole
-    on-end told h w =
-        walking.rest-end (turn limit full) (finish limit) document whole at room len [] lay (o .leads) told (closed limit (lay .style)) h
+    pub on-end : (text : Result (List ℕ)) → length document ≤ at → (tags ≡ allTags → text ≡ (seen room len >>= closed (length room) (lay .style)))
+        → text ≡ whole
+    on-end text h w =
+        walking.rest-end (turn limit full) (finish limit) document whole at room len [] lay (o .leads) text (closed limit (lay .style)) h
         (λ x. finish-is limit full at at [] [] [] lay x)
         (w (o .table) ∙ ap (λ (m : ℕ). seen room len >>= closed m (lay .style)) (o .same))
 
     -- the record that was read without a look at the document's end: it lies whole there
-    pub on-read : {h : Head} → at < length document → (fits (drop at document) ≡ true → Read document at h) → Read document at h
+    pub on-read : {h : Head} → at < length document → (recordFits (drop at document) ≡ true → Read document at h) → Read document at h
     on-read l r = r (fits-here (o .opened .here) l)
 
     -- a record was read here
@@ -171,22 +171,22 @@ module _ (limit : ℕ) (full : Bool) (tags document : List ℕ) where
       on-unknown e = passes (λ x. by-kind kind.Unknown e (page [] lay x) ∙ unknown-is limit full at _ _ _ [] lay x)
 
       -- Meta
-      meta : (told : Result (List ℕ)) → ((x : List ℕ) → Turned (page [] lay x) ≡ (closed limit (lay .style) x >>= λ _. refused 11 at))
-          → (tags ≡ allTags → told ≡ (seen room len >>= λ x. closed (length room) (lay .style) x >>= λ _. refused 11 at)) → told ≡ whole
-      meta told t w =
-          walking.turn-refuses (turn limit full) (finish limit) document whole at room len [] lay (o .leads) r l (closed limit (lay .style)) told t
+      meta : (text : Result (List ℕ)) → ((x : List ℕ) → Turned (page [] lay x) ≡ (closed limit (lay .style) x >>= λ _. refused 11 at))
+          → (tags ≡ allTags → text ≡ (seen room len >>= λ x. closed (length room) (lay .style) x >>= λ _. refused 11 at)) → text ≡ whole
+      meta text t w =
+          walking.turn-refuses (turn limit full) (finish limit) document whole at room len [] lay (o .leads) r l (closed limit (lay .style)) text t
           (w (o .table) ∙ ap (λ (c : ℕ). seen room len >>= λ x. closed c (lay .style) x >>= λ _. refused 11 at) (o .same))
 
-      pub on-meta : (told : Result (List ℕ)) → isMeta (h .kind) ≡ true
-          → (tags ≡ allTags → told ≡ (seen room len >>= λ x. closed (length room) (lay .style) x >>= λ _. refused 11 at)) → told ≡ whole
-      on-meta told t w = go (h .kind) refl t
+      pub on-meta : (text : Result (List ℕ)) → isMeta (h .kind) ≡ true
+          → (tags ≡ allTags → text ≡ (seen room len >>= λ x. closed (length room) (lay .style) x >>= λ _. refused 11 at)) → text ≡ whole
+      on-meta text t w = go (h .kind) refl t
         where
-          go : (k : Kind) → h .kind ≡ k → isMeta k ≡ true → told ≡ whole
+          go : (k : Kind) → h .kind ≡ k → isMeta k ≡ true → text ≡ whole
           go (kind.Text s) e t = cc
           go (kind.Start b) e t =
-              meta told (λ x. by-kind (kind.Start b) e (page [] lay x) ∙ start-meta limit full at _ _ _ [] lay x b (eqb-true (index b) 10 t)) w
+              meta text (λ x. by-kind (kind.Start b) e (page [] lay x) ∙ start-meta limit full at _ _ _ [] lay x b (eqb-true (index b) 10 t)) w
           go (kind.End b) e t =
-              meta told (λ x. by-kind (kind.End b) e (page [] lay x) ∙ end-meta limit full at _ _ _ [] lay x b (eqb-true (index b) 10 t)) w
+              meta text (λ x. by-kind (kind.End b) e (page [] lay x) ∙ end-meta limit full at _ _ _ [] lay x b (eqb-true (index b) 10 t)) w
           go kind.Unknown e t = cc
 
       -- whether the record after this one is the end of a term
@@ -197,13 +197,14 @@ module _ (limit : ℕ) (full : Bool) (tags document : List ℕ) where
         -- another block starts
         pub on-started : (met : Markdown) → h .kind ≡ kind.Start b → isMeta (h .kind) ≡ false → length new ≡ length room → met ≡ metTerm b empty lay
             → (tags ≡ allTags → seen new k ≡ (seen room len >>= startedText (length room) met b))
-            → (Few met → lay′ ≡ (startOf (styled style.Text met) b) .after) → On new (h .next) k lay′
+            → (Few met → lay′ ≡ (startOf (withStyle style.Text met) b) .after) → On new (h .next) k lay′
         on-started met e m s t w f =
             let few : Few lay = record { skipped = omega (arith, o .few, o .short); opened = omega (arith, o .open-few, o .short) } in
-            let u : styled style.Text met ≡ metTerm b empty (styled style.Text lay) = ap (styled style.Text) t ∙ sym (met-styled b empty lay style.Text) in
+            let u : withStyle style.Text met ≡ metTerm b empty (withStyle style.Text lay) =
+            ap (withStyle style.Text) t ∙ sym (met-styled b empty lay style.Text) in
             let v : met .style ≡ lay .style = ap (λ (l : Markdown). l .style) t ∙ met-style b empty lay in
-            let z : lay′ ≡ (startOf (styled style.Text met) b) .after = f (rw t (met-few b empty lay few)) in
-            let x = start-few b (styled style.Text met) in
+            let z : lay′ ≡ (startOf (withStyle style.Text met) b) .after = f (rw t (met-few b empty lay few)) in
+            let x = start-few b (withStyle style.Text met) in
             let x₁ = ap (λ (l : Markdown). l .skip) t ∙ met-skip b empty lay in
             let x₂ = ap (λ (l : Markdown). l .mono) t ∙ met-mono b empty lay in
             let y₁ = ap (λ (l : Markdown). l .skip) z in
@@ -216,19 +217,19 @@ module _ (limit : ℕ) (full : Bool) (tags document : List ℕ) where
               open-few = omega (arith, o .open-few, further);
               short = o .short;
               leads = rw (z, u)
-                  (turn-leads (λ x. closed limit (lay .style) x >>= startRule limit (metTerm b empty (styled style.Text lay)) b) new k _
+                  (turn-leads (λ x. closed limit (lay .style) x >>= startRule limit (metTerm b empty (withStyle style.Text lay)) b) new k _
                   (λ x. by-kind (kind.Start b) e (page [] lay x) ∙ start-is limit full at _ _ _ [] lay x b (eqb-false (index b) 10 (ap isMeta (sym e) ∙ m)))
                   (w (o .table) ∙ ap (λ (c : ℕ). seen room len >>= startedText c met b) (o .same)
-                  ∙ ap (λ (st : Style). seen room len >>= λ x. closed limit st x >>= startRule limit (styled style.Text met) b) v
+                  ∙ ap (λ (st : Style). seen room len >>= λ x. closed limit st x >>= startRule limit (withStyle style.Text met) b) v
                   ∙ ap (λ (l : Markdown). seen room len >>= λ x. closed limit (lay .style) x >>= startRule limit l b) u));
             }
 
         -- it ends
         pub on-ended : h .kind ≡ kind.End b → isMeta (h .kind) ≡ false → length new ≡ length room
-            → (tags ≡ allTags → seen new k ≡ (seen room len >>= endedText (length room) lay b)) → lay′ ≡ (endOf (styled style.Text lay) b) .after
+            → (tags ≡ allTags → seen new k ≡ (seen room len >>= endedText (length room) lay b)) → lay′ ≡ (endOf (withStyle style.Text lay) b) .after
             → On new (h .next) k lay′
         on-ended e m s w f =
-            let x = end-few b (styled style.Text lay) in
+            let x = end-few b (withStyle style.Text lay) in
             let y₁ = ap (λ (l : Markdown). l .skip) f in
             let y₂ = ap (λ (l : Markdown). l .mono) f in
             record {
@@ -251,7 +252,7 @@ module _ (limit : ℕ) (full : Bool) (tags document : List ℕ) where
 
         -- the style has changed, and the chunks of the body are left
         pub on-body : (y new : List ℕ) (n : ℕ) (lay′ : Markdown) → y ≡ part document (h .start) (h .stop) → hides (lay .skip) ≡ false
-            → (tags ≡ allTags → seen new n ≡ (seen room len >>= extended (length room) (closing (lay .style) ++ opening st))) → lay′ ≡ styled st lay
+            → (tags ≡ allTags → seen new n ≡ (seen room len >>= extended (length room) (closing (lay .style) ++ opening st))) → lay′ ≡ withStyle st lay
             → InBody new (h .next) n lay′ y start
         unfolding change split
         on-body y new n lay′ b z w g =
@@ -262,16 +263,16 @@ module _ (limit : ℕ) (full : Bool) (tags document : List ℕ) where
               open-few = omega (arith, o .open-few, further);
               leads = rw g
                   (walking.turn-begins (turn limit full) (finish limit) document whole at room len [] lay (o .leads) r l
-                  (change limit st) (chunksThen full (anywhere (chunk limit full)) (after (h .next)) (split y)) (shown new n [] (styled st lay))
+                  (change limit st) (chunksThen full (anywhere (chunk limit full)) (after (h .next)) (split y)) (shown new n [] (withStyle st lay))
                   (λ x.
                   ap (λ (q : Result State). q >>= rest (h .next))
                   (by-kind (kind.Text st) e (page [] lay x) ∙ text-is limit full at _ _ _ [] lay x st z
                   ∙ ap (λ (a : List ℕ). change limit st (page [] lay x) >>= body full (anywhere (chunk limit full)) (split a) >>= bodyEnds limit) (sym b))
                   ∙ sym (bind-assoc (change limit st (page [] lay x) >>= body full (anywhere (chunk limit full)) (split y)) (bodyEnds limit) (rest (h .next)))
                   ∙ sym (bind-assoc (change limit st (page [] lay x)) (body full (anywhere (chunk limit full)) (split y)) (after (h .next))))
-                  (shown-write (withLay (styled st)) [] [] lay (styled st lay) (λ x. refl) limit room new len n (closing (lay .style) ++ opening st)
+                  (shown-write (withLay (withStyle st)) [] [] lay (withStyle st lay) (λ x. refl) limit room new len n (closing (lay .style) ++ opening st)
                   (w (o .table) ∙ ap (λ (c : ℕ). seen room len >>= extended c (closing (lay .style) ++ opening st)) (o .same))
-                  ∙ sym (shown-then room len [] lay (change limit st) (λ s. write limit (closing (lay .style) ++ opening st) (withLay (styled st) s))
+                  ∙ sym (shown-then room len [] lay (change limit st) (λ s. write limit (closing (lay .style) ++ opening st) (withLay (withStyle st) s))
                   (λ x. refl))));
             }
 
@@ -279,16 +280,16 @@ module _ (limit : ℕ) (full : Bool) (tags document : List ℕ) where
         module _ {y old : List ℕ} {k : ℕ} {l₁ : Markdown} {c : Cursor} (s : length old ≡ limit) (i : InBody old (h .next) k l₁ y c)
             (new : List ℕ) (n : ℕ) (u : length new ≡ length old) (w : tags ≡ allTags → seen new n ≡ (seen old k >>= extended (length old) (codeEnds l₁))) where
           ends : (l₂ : Markdown) → l₂ .fenced ≡ l₁ .fenced → Leads whole (after (h .next)) (shown old k [] l₂)
-              → Leads whole (rest (h .next)) (shown new n [] (fenced false l₂))
+              → Leads whole (rest (h .next)) (shown new n [] (withFenced false l₂))
           unfolding bodyEnds
           ends l₂ f g =
-              leads-on whole (after (h .next)) (shown old k [] l₂) g (bodyEnds limit) (rest (h .next)) (shown new n [] (fenced false l₂)) (λ s. refl)
-              (shown-write (withLay (fenced false)) [] [] l₂ (fenced false l₂) (λ x. refl) limit old new k n (codeEnds l₂)
+              leads-on whole (after (h .next)) (shown old k [] l₂) g (bodyEnds limit) (rest (h .next)) (shown new n [] (withFenced false l₂)) (λ s. refl)
+              (shown-write (withLay (withFenced false)) [] [] l₂ (withFenced false l₂) (λ x. refl) limit old new k n (codeEnds l₂)
               (w (o .table) ∙ ap (λ (m : ℕ). seen old k >>= extended m (codeEnds l₁)) s
-              ∙ ap (λ (y : List ℕ). seen old k >>= extended limit y) (ap (λ (b : Bool). codeEnds (fenced b l₂)) (sym f)))
-              ∙ sym (shown-then old k [] l₂ (bodyEnds limit) (λ s. write limit (codeEnds l₂) (withLay (fenced false) s)) (λ x. refl)))
+              ∙ ap (λ (y : List ℕ). seen old k >>= extended limit y) (ap (λ (b : Bool). codeEnds (withFenced b l₂)) (sym f)))
+              ∙ sym (shown-then old k [] l₂ (bodyEnds limit) (λ s. write limit (codeEnds l₂) (withLay (withFenced false) s)) (λ x. refl)))
 
-          pub on-done : placedFrom y c ≡ [] → On new (h .next) n (fenced false l₁)
+          pub on-done : placedFrom y c ≡ [] → On new (h .next) n (withFenced false l₁)
           on-done f = record {
             table = o .table;
             opened = opened-next;
@@ -300,7 +301,7 @@ module _ (limit : ℕ) (full : Bool) (tags document : List ℕ) where
           }
 
           pub on-stopped : {p : Piece} {d : Cursor} → Took y c p d → last full (chunkOf y p) ≡ true
-              → (j : ℕ) → j ≡ skipParagraph (l₁ .skip) → On new (h .next) n (fenced false (skip j l₁))
+              → (j : ℕ) → j ≡ skipParagraph (l₁ .skip) → On new (h .next) n (withFenced false (withSkip j l₁))
           on-stopped {p} q f j g = record {
             table = o .table;
             opened = opened-next;
@@ -308,9 +309,9 @@ module _ (limit : ℕ) (full : Bool) (tags document : List ℕ) where
             few = omega (arith, further, g);
             open-few = i .open-few;
             short = o .short;
-            leads = ends (skip j l₁) refl
-                (chunks-stop full (chunk limit full) (after (h .next)) whole y c (shown old k [] l₁) (i .leads) q (shown old k [] (skip j l₁))
-                (shown-changed (withLay (skip 1)) [] [] l₁ (skip j l₁) (λ x. ap (λ (n : ℕ). page [] (skip n l₁) x) (sym g)) old k
+            leads = ends (withSkip j l₁) refl
+                (chunks-stop full (chunk limit full) (after (h .next)) whole y c (shown old k [] l₁) (i .leads) q (shown old k [] (withSkip j l₁))
+                (shown-changed (withLay (withSkip 1)) [] [] l₁ (withSkip j l₁) (λ x. ap (λ (n : ℕ). page [] (withSkip n l₁) x) (sym g)) old k
                 ∙ sym (bind-same (shown old k [] l₁) _ _ (λ s. chunk-last limit s full (chunkOf y p) f))) f);
           }
 

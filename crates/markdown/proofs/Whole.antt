@@ -14,7 +14,7 @@ module _ (limit : ℕ) (full : Bool) (document : List ℕ) where
   unfolding markdown _>>=_
   markdown-refused n p e = rw e
 
-  pub markdown-accepted : (told : Result (List ℕ)) → check document ≡ gives []
-      → told ≡ (walk (turn limit full) (tokens 0 0 document) initial >>= finish limit) → told ≡ markdown limit full document
+  pub markdown-accepted : (text : Result (List ℕ)) → check document ≡ gives []
+      → text ≡ (walk (turn limit full) (tokens 0 0 document) initial >>= finish limit) → text ≡ markdown limit full document
   unfolding markdown _>>=_
-  markdown-accepted told e w = rw e w
+  markdown-accepted text e w = rw e w

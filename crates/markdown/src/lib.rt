@@ -9,7 +9,7 @@ ghost use Rattle.document.specs.Document.{check};
 ghost use Rattle.renderer.specs.Walk.{walk as records};
 ghost use Rattle.renderer.specs.Rendered.{answered, standing, filled, Inside};
 ghost use Rattle.html_rules.specs.Markdown.{initial, turn, finish as finished, markdown};
-ghost use Rattle.markdown_marks.specs.Parts.{tags as allTags, closed};
+ghost use Rattle.markdown_marks.specs.InnerParts.{tags as allTags, closed};
 use document::Checked;
 use html_rules::Markdown;
 use records::Kind;

@@ -9,14 +9,14 @@ use Rattle.base.proofs.Choice.{if-true, if-false}
 use Rattle.base.proofs.Results.{bind-same}
 use Rattle.utf8.specs.Utf8.{bytes, encode}
 use Rattle.room.specs.Room.{extended, seen}
-use Rattle.splitter.specs.Answers.{chunkOf, textOf}
+use Rattle.splitter.specs.Answers.{chunkOf, pieceText}
 use Rattle.splitter.specs.declared.Piece.{Piece}
 use Rattle.splitter.specs.declared.Piece.the-variants.{Raw, Space, Paragraph, LineBreak}
 use Rattle.html_rules.specs.Marks.{separated}
 use Rattle.html_rules.specs.Markdown.{codeBegins, codeStops, lineText, wordText, paragraphText, bracketed}
 use Rattle.html_rules.specs.declared.Markdown.{Markdown}
 use Rattle.html_rules.proofs.Writes.{wrote-then, wrote-twice}
-use Rattle.markdown_chunks.specs.Parts.{rawRule, chunkRule, fenceAfter}
+use Rattle.markdown_chunks.specs.InnerParts.{rawRule, chunkRule, fenceAfter}
 use Prim.Native.Nat.{ℕ, _≤_, _<_}
 use mathlib.Core.Path.{_≡_, refl, sym, ap, _∙_}
 use mathlib.Core.Bool.{Bool, true, false}
@@ -73,7 +73,7 @@ module _ (l : Markdown) (x : List ℕ) where
 
 -- A chunk
 module _ (limit : ℕ) (l : Markdown) (body : List ℕ) (p : Piece) where
-  pub piece-raw : {from to w : ℕ} → p ≡ Raw from to w → (y : List ℕ) → y ≡ textOf body (Raw from to w) → rawRule limit l y w ≡ chunkRule limit l
+  pub piece-raw : {from to w : ℕ} → p ≡ Raw from to w → (y : List ℕ) → y ≡ pieceText body (Raw from to w) → rawRule limit l y w ≡ chunkRule limit l
       (chunkOf body p)
   piece-raw e y f = rw (f, e)
 

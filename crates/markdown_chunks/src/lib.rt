@@ -7,15 +7,17 @@ ghost use Rattle.base.specs.Result.{_>>=_ as bind};
 ghost use Rattle.room.specs.Room.{seen, extended};
 ghost use Rattle.splitter.specs.Answers.{chunkOf};
 ghost use Rattle.html_rules.specs.Markdown.{codeBegins, codeStops, codeEnds, lineText, wordText, paragraphText};
-ghost use Rattle.html_marks.specs.Parts.{spanned};
-ghost use Rattle.markdown_marks.specs.Parts.{tags as allTags};
-ghost use Rattle.markdown_chunks.specs.Parts.{rawRule, chunkRule, fenceAfter};
-ghost use Rattle.markdown_chunks.specs.Onward.{Onward, Ahead, Moves};
+ghost use Rattle.html_marks.specs.InnerParts.{spanned};
+ghost use Rattle.markdown_marks.specs.InnerParts.{tags as allTags};
+ghost use Rattle.markdown_chunks.specs.InnerParts.{rawRule, chunkRule, fenceAfter};
+ghost use Rattle.markdown_chunks.specs.InnerAdvance.{MarkdownAdvance, Ahead, Moves};
 use html_escape::Escape;
 use html_marks::Span;
 use html_rules::Markdown;
+use splitter::CODE;
 use splitter::Code;
 use splitter::Piece;
+use splitter::TICKED_CODE;
 
 // A line in ticks or a code line.
 fn put_line(room: &mut [u8], len: usize, text: &[u8]) -> usize
@@ -72,11 +74,11 @@ fn put_raw(
 ) -> usize
     ensures { λ r. ⌜ (now (tags .entry) ≡ allTags → seen (now (room .exit)) r ≡ bind (seen (now (room .entry)) len) (rawRule (length (now (room .entry))) l (now (text .entry)) width)) ⌝ }
 {
-    if width == 1_000_001 {
+    if width == TICKED_CODE {
         let n = html_marks::separate(room, len, b"\n");
         return put_line(room, n, text);
     }
-    if width == 1_000_000 {
+    if width == CODE {
         let n = html_marks::put_span(room, len, tags, begins_span(l));
         return put_line(room, n, text);
     }
@@ -118,10 +120,10 @@ pub fn fence_after(piece: Piece, fenced: bool) -> bool
 {
     match piece {
         Piece::Raw(_, _, width) => {
-            if width == 1_000_001 {
+            if width == TICKED_CODE {
                 return fenced;
             }
-            width == 1_000_000
+            width == CODE
         }
         Piece::Space(_) => false,
         Piece::Paragraph(_) => fenced,
@@ -137,7 +139,7 @@ pub struct Run {
 
 // Words and spaces from a place on, as they stand, up to a line end.
 fn put_words(room: &mut [u8], len: usize, body: &[u8], from: usize) -> Run
-    ensures { λ r. ⌜ Onward (now (body .entry)) (now (room .entry)) len from (now (room .exit)) (r .len) (r .at) ⌝ }
+    ensures { λ r. ⌜ MarkdownAdvance (now (body .entry)) (now (room .entry)) len from (now (room .exit)) (r .len) (r .at) ⌝ }
 {
     if body.len() <= from {
         return Run { len, at: from };

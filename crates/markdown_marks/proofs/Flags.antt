@@ -20,11 +20,11 @@ use Rattle.records.specs.declared.Kind.the-variants as kind
 use Rattle.records.specs.declared.Head.{Head}
 use Rattle.records.proofs.Tokens.{tokens-end}
 use Rattle.skip.specs.Counter.{skipStart, skipEnd}
-use Rattle.skip.specs.Answers.{held}
-use Rattle.skip.proofs.Counter.{held-fits, held-over, skip-start-most, skip-end-most}
-use Rattle.html_rules.specs.Markdown.{styled, skip, bare, mono, termEnds, started, ended}
+use Rattle.skip.specs.Answers.{newIfFits}
+use Rattle.skip.proofs.Counter.{new-fits, old-stays, skip-start-most, skip-end-most}
+use Rattle.html_rules.specs.Markdown.{withStyle, withSkip, withBare, withMono, termEnds, started, ended}
 use Rattle.html_rules.specs.declared.Markdown.{Markdown}
-use Rattle.markdown_marks.specs.Parts.{metTerm, startOf, endOf, Few}
+use Rattle.markdown_marks.specs.InnerParts.{metTerm, startOf, endOf, Few}
 
 module _ (document : List ℕ) (at : ℕ) where
   pub no-term : length document ≤ at → false ≡ termEnds (tokensFrom document at)
@@ -40,28 +40,28 @@ module _ (b : Block) (empty : Bool) (l : Markdown) (i : ℕ) (is : i ≡ index b
   unfolding metTerm if_then_else_
   no-item n m = rw (← is, ne-eqb i 3 n, ne-eqb i 4 m)
 
-  pub item : 3 ≤ i → i ≤ 4 → (r : Bool) → r ≡ empty → bare r l ≡ metTerm b empty l
+  pub item : 3 ≤ i → i ≤ 4 → (r : Bool) → r ≡ empty → withBare r l ≡ metTerm b empty l
   unfolding metTerm
-  item h k r e = ap (λ (x : Bool). bare x l) e ∙ sym (if-true _ _ (rw (← is) (either (omega arith))))
+  item h k r e = ap (λ (x : Bool). withBare x l) e ∙ sym (if-true _ _ (rw (← is) (either (omega arith))))
     where
       either : ((i ≡ 3 → ⊥) → i ≡ 4) → (eqb i 3 || eqb i 4) ≡ true
       either f = ⊎-elim (λ (e : i ≡ 3). rw e) (λ (n : i ≡ 3 → ⊥). rw (f n)) (eq-or-not i 3)
 
 module _ (b : Block) (l : Markdown) (few : Few l) (k : ℕ) where
-  pub inline-start : b ≡ block.InlineBlock → k ≡ held (l .skip) (skipStart b (l .skip)) → skip k l ≡ (startOf l b) .after
+  pub inline-start : b ≡ block.InlineBlock → k ≡ newIfFits (l .skip) (skipStart b (l .skip)) → withSkip k l ≡ (startOf l b) .after
   unfolding startOf started
   inline-start e f =
-      rw e (ap (λ (n : ℕ). skip n l)
-      (f ∙ held-fits (l .skip) (skipStart b (l .skip)) (omega (arith, few .skipped, skip-start-most b (l .skip))) ∙ ap (λ (c : Block). skipStart c (l .skip))
+      rw e (ap (λ (n : ℕ). withSkip n l)
+      (f ∙ new-fits (l .skip) (skipStart b (l .skip)) (omega (arith, few .skipped, skip-start-most b (l .skip))) ∙ ap (λ (c : Block). skipStart c (l .skip))
       e))
 
-  pub mono-start : b ≡ block.Mono → k ≡ held (l .mono) (l .mono + 1) → mono k l ≡ (startOf l b) .after
+  pub mono-start : b ≡ block.Mono → k ≡ newIfFits (l .mono) (l .mono + 1) → withMono k l ≡ (startOf l b) .after
   unfolding startOf started
-  mono-start e f = rw e (ap (λ (n : ℕ). mono n l) (f ∙ held-fits (l .mono) (l .mono + 1) (omega (arith, few .opened))))
+  mono-start e f = rw e (ap (λ (n : ℕ). withMono n l) (f ∙ new-fits (l .mono) (l .mono + 1) (omega (arith, few .opened))))
 
-pub inline-end : (b : Block) (l : Markdown) (k : ℕ) → b ≡ block.InlineBlock → k ≡ skipEnd b (l .skip) → skip k l ≡ (endOf l b) .after
+pub inline-end : (b : Block) (l : Markdown) (k : ℕ) → b ≡ block.InlineBlock → k ≡ skipEnd b (l .skip) → withSkip k l ≡ (endOf l b) .after
 unfolding endOf ended
-inline-end b l k e f = rw e (ap (λ (n : ℕ). skip n l) (f ∙ ap (λ (c : Block). skipEnd c (l .skip)) e))
+inline-end b l k e f = rw e (ap (λ (n : ℕ). withSkip n l) (f ∙ ap (λ (c : Block). skipEnd c (l .skip)) e))
 
 -- of a block's start and end the rules refuse Meta's
 pub start-told : (p : ℕ) (b : Block) (empty : Bool) (l : Markdown) → started p b empty l
@@ -128,11 +128,11 @@ end-few block.Mono l = (omega arith, omega arith)
 
 module _ (b : Block) (empty : Bool) (l : Markdown) where
   -- a term that is met changes neither of them, nor the style, and is met whichever style is open
-  met-flag : {A : Type 0} (f : Markdown → A) → f (bare empty l) ≡ f l → f (metTerm b empty l) ≡ f l
+  met-flag : {A : Type 0} (f : Markdown → A) → f (withBare empty l) ≡ f l → f (metTerm b empty l) ≡ f l
   unfolding metTerm if_then_else_
   met-flag f e = go (eqb (index b) 3 || eqb (index b) 4)
     where
-      go : (t : Bool) → f (if t then bare empty l else l) ≡ f l
+      go : (t : Bool) → f (if t then withBare empty l else l) ≡ f l
       go true = e
       go false = refl
 
@@ -148,17 +148,17 @@ module _ (b : Block) (empty : Bool) (l : Markdown) where
   pub met-style : (metTerm b empty l) .style ≡ l .style
   met-style = met-flag (λ m. m .style) refl
 
-  pub met-styled : (st : Style) → metTerm b empty (styled st l) ≡ styled st (metTerm b empty l)
+  pub met-styled : (st : Style) → metTerm b empty (withStyle st l) ≡ withStyle st (metTerm b empty l)
   unfolding metTerm if_then_else_
   met-styled st = go (eqb (index b) 3 || eqb (index b) 4)
     where
-      go : (t : Bool) → (if t then bare empty (styled st l) else styled st l) ≡ styled st (if t then bare empty l else l)
+      go : (t : Bool) → (if t then withBare empty (withStyle st l) else withStyle st l) ≡ withStyle st (if t then withBare empty l else l)
       go true = refl
       go false = refl
 
 -- one more, as the code holds it
-pub one-more : (n : ℕ) → n < 0xFFFF_FFFF_FFFF_FFFF → n + 1 ≡ held n (n + 1)
-one-more n h = sym (held-fits n (n + 1) (omega arith))
+pub one-more : (n : ℕ) → n < 0xFFFF_FFFF_FFFF_FFFF → n + 1 ≡ newIfFits n (n + 1)
+one-more n h = sym (new-fits n (n + 1) (omega arith))
 
-pub no-more : (n : ℕ) → 0xFFFF_FFFF_FFFF_FFFF ≤ n → n ≡ held n (n + 1)
-no-more n h = sym (held-over n (n + 1) (omega arith))
+pub no-more : (n : ℕ) → 0xFFFF_FFFF_FFFF_FFFF ≤ n → n ≡ newIfFits n (n + 1)
+no-more n h = sym (old-stays n (n + 1) (omega arith))

@@ -9,12 +9,12 @@ ghost use Rattle.base.specs.Result.{refused, _>>=_ as bind};
 ghost use Rattle.room.specs.Room.{seen, extended};
 ghost use Rattle.records.specs.Records.{tokensFrom};
 ghost use Rattle.records.specs.declared.Style.the-variants as style;
-ghost use Rattle.skip.specs.Answers.{held};
+ghost use Rattle.skip.specs.Answers.{newIfFits};
 ghost use Rattle.renderer.specs.Rendered.{standing, Inside};
-ghost use Rattle.html_rules.specs.Markdown.{styled as withStyle, opening, closing, termEnds};
+ghost use Rattle.html_rules.specs.Markdown.{withStyle, opening, closing, termEnds};
 ghost use Rattle.html_rules.specs.declared.Markdown.{Markdown as State};
-ghost use Rattle.html_marks.specs.Parts.{spanned};
-ghost use Rattle.markdown_marks.specs.Parts.{tags as allTags, metTerm, startOf, endOf, closed, startRule, startedText, endedText, Few};
+ghost use Rattle.html_marks.specs.InnerParts.{spanned};
+ghost use Rattle.markdown_marks.specs.InnerParts.{tags as allTags, metTerm, startOf, endOf, closed, startRule, startedText, endedText, Few};
 use html_marks::Span;
 use html_rules::Markdown;
 use records::Block;
@@ -226,7 +226,7 @@ pub fn met_term(document: &[u8], next: usize, b: Block, l: Markdown) -> Markdown
 
 // One more, where that fits.
 fn one_more(n: usize) -> usize
-    ensures { λ r. ⌜ r ≡ held n (n + 1) ⌝ }
+    ensures { λ r. ⌜ r ≡ newIfFits n (n + 1) ⌝ }
 {
     if n < 0xFFFF_FFFF_FFFF_FFFF {
         return n + 1;

@@ -18,7 +18,7 @@ use Rattle.merge_items.proofs.Items.{Holding}
 use Rattle.merge_items.specs.declared.Entry.{Entry}
 use Rattle.merge_items.proofs.Texts.{wrote-more, from-nothing}
 use Rattle.merge_sides.proofs.Sides.{Rest, rest-0, start-0, Taken, taken-keyed, keyed-text, no-more}
-use Rattle.merge.specs.Steps.{Written}
+use Rattle.merge.specs.InnerSteps.{Written}
 
 -- Both sides from two places on, the keys of their next items, and a room whose text, with what is left to merge, is the whole.
 pub record Going (s t : List ℕ) (limit : ℕ) (room text other : List ℕ) (len i j next n then m : ℕ) : Type 0 where

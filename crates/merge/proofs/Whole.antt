@@ -26,11 +26,11 @@ use Rattle.room.specs.Room.{extended, seen}
 use Rattle.room.proofs.Laws.{extended-in, extended-out}
 use Rattle.merge_rules.specs.Merge.{listOf, IsList, merged, inOrder, merging, Merges, first-no-list, second-no-list, both-lists, TheMerge}
 use Rattle.merge_rules.proofs.Laws.{two-lists, the-merge}
-use Rattle.merge_sides.specs.Steps.{SideIs}
+use Rattle.merge_sides.specs.InnerSteps.{SideIs}
 use Rattle.merge_sides.specs.declared.Side.{Side}
 use Rattle.merge_sides.proofs.Listing.{tells-yes, tells-no}
 use Rattle.merge_items.proofs.Texts.{seen-text}
-use Rattle.merge.specs.Steps.{Written, Accepted, Sound}
+use Rattle.merge.specs.InnerSteps.{Written, Accepted, Sound}
 use Rattle.merge.specs.Answers.{Answer}
 
 -- what the code found, by the case of its answer

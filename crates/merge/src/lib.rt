@@ -1,5 +1,6 @@
 // One option list from two products.
 use document::Checked;
+use document::MAX_BYTES;
 use merge_rules::Order;
 use refusal::Refusal;
 use renderer::Rendered;
@@ -8,7 +9,8 @@ ghost use lib.ListN.{length};
 ghost use Rattle.renderer.specs.Rendered.{standing, Inside};
 ghost use Rattle.merge_rules.specs.Merge.{TheMerge};
 ghost use Rattle.merge.specs.Answers.{Answer};
-ghost use Rattle.merge.specs.Steps.{Sides, Written, Sound};
+ghost use Rattle.merge.specs.InnerSteps.{Sides, Written, Sound};
+ghost use Rattle.document.specs.Document.{maxBytes};
 
 // The merged list of two lists, into a room: a length past the room says that it is longer than that. Each key has the term of its side's next
 // item; a step compares both and goes on in the side whose item it wrote, or in both sides where the terms are the same.
@@ -19,7 +21,7 @@ fn merge_lists(
     key: &mut [u8],
     other: &mut [u8],
 ) -> usize
-    requires { ⌜ Sides (now first) (now second) × (length (now key) ≡ 32768) × (length (now other) ≡ 32768) ⌝ }
+    requires { ⌜ Sides (now first) (now second) × (length (now key) ≡ maxBytes) × (length (now other) ≡ maxBytes) ⌝ }
     ensures { λ r. ⌜ Written (now (first .entry)) (now (second .entry)) (now (room .entry)) (now (room .exit)) r ⌝ }
 {
     let last = first.len() - 6;
@@ -111,10 +113,10 @@ fn merged(first: &[u8], second: &[u8], room: &mut [u8]) -> Rendered
     match verdict {
         Checked::Refused(r) => Rendered::Refused(r),
         Checked::Accepted => {
-            let mut key: [u8; 32768] = [0; 32768];
-            let mut other: [u8; 32768] = [0; 32768];
+            let mut key: [u8; MAX_BYTES] = [0; MAX_BYTES];
+            let mut other: [u8; MAX_BYTES] = [0; MAX_BYTES];
             let len = merge_lists(first, second, room, &mut key, &mut other);
-            if 32768 < len {
+            if MAX_BYTES < len {
                 return Rendered::Refused(Refusal::NoRoom);
             }
             renderer::answer(room, len)

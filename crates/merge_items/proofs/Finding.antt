@@ -17,9 +17,9 @@ use Rattle.records.specs.declared.Kind.the-variants as kind
 use Rattle.records.specs.declared.Head.{Head}
 use Rattle.records.proofs.Tokens.{tokens-end}
 use Rattle.records.proofs.Reading.{read-next}
-use Rattle.merge_rules.specs.Ends.{deeper, on, endOf}
+use Rattle.merge_rules.specs.InnerEnds.{deeper, on, endOf}
 use Rattle.merge_rules.proofs.Ends.{none-some, some-same}
-use Rattle.merge_items.specs.Steps.{deepAs}
+use Rattle.merge_items.specs.InnerSteps.{deepAs}
 use Rattle.merge_items.specs.declared.Deep.{Deep}
 use Rattle.merge_items.specs.declared.Deep.the-variants as deep
 

@@ -8,15 +8,15 @@ use native.Mathlib.Omega.{arith}
 use borrow.Author.Tests.{lt-ltb, le-ltb}
 use Rattle.base.specs.Result.{gives}
 use Rattle.base.proofs.Choice.{if-true, if-false}
-use Rattle.records.specs.Records.{Token, size, tokenAt, tokens, tokensFrom, joined, textOf}
+use Rattle.records.specs.Records.{Token, size, tokenAt, tokens, tokensFrom, joined, documentText}
 use Rattle.document.specs.Document.{openBlocks}
 use Rattle.records.specs.Stored.{start, end, around}
 use Rattle.records.specs.declared.Block.{Block}
 use Rattle.records.specs.declared.Block.the-variants as block
 use Rattle.buffer_doc.proofs.Adding.{length-start, length-around}
 use Rattle.merge_rules.specs.Merge.{Item, key, records, Proper}
-use Rattle.merge_items.specs.Steps.{textTo, Found, Keyed}
-use Rattle.merge_rules.specs.Ends.{endOf}
+use Rattle.merge_items.specs.InnerSteps.{textTo, Found, Keyed}
+use Rattle.merge_rules.specs.InnerEnds.{endOf}
 use Rattle.room.specs.Room.{seen, extended}
 use Rattle.room.proofs.Laws.{extended-in}
 use Rattle.merge_items.specs.declared.Place.{Place}
@@ -108,7 +108,7 @@ joined-anywhere (b ∷ s) p q zero = ap (λ (l : List ℕ). take (size (b ∷ s)
 
 module _ (s : List ℕ) (at : ℕ) (i : Item) (w : List ℕ) (p : Proper i) (e : drop at s ≡ records i ++ w) where
   pub key-at : textTo (at + 6 + length (i .term)) (tokensFrom s (at + 6)) ≡ key i
-  unfolding textOf openBlocks
+  unfolding documentText openBlocks
   key-at =
       let q = at + 6 in
       let x = i .term in
@@ -149,7 +149,7 @@ pub record Holding (s : List ℕ) (at : ℕ) (text : List ℕ) (r : Entry) : Typ
   pub item : (i : Item) (w : List ℕ) → Proper i → drop at s ≡ records i ++ w → (r .next ≡ at + length (records i)) × (seen text (r .len) ≡ gives (key i))
 
 pub holding : {s : List ℕ} {at : ℕ} {text : List ℕ} {r : Entry} → length s ≤ 32768 → length text ≡ 32768 → Keyed s at text r → Holding s at text r
-unfolding textOf
+unfolding documentText
 holding {s} {at} {text} h l k = record {
   item = λ i w q d.
       let g = k .item h i w q d in

@@ -23,7 +23,7 @@ use Rattle.merge_rules.specs.Merge.{compared}
 use Rattle.merge_rules.specs.declared.Order.{Order}
 use Rattle.merge_rules.specs.declared.Order.the-variants as order
 use Rattle.merge_rules.proofs.Before.{by-less, by-more, by-rest}
-use Rattle.merge_items.specs.Steps.{textTo}
+use Rattle.merge_items.specs.InnerSteps.{textTo}
 
 -- The text up to a place
 

@@ -1,4 +1,5 @@
 // The items of a side: where they end, their terms' texts, and two texts beside each other.
+use document::MAX_BYTES;
 use merge_rules::Order;
 use records::Kind;
 ghost use mathlib.Core.Path.{_≡_};
@@ -8,8 +9,9 @@ ghost use lib.ListN.{length};
 ghost use Rattle.records.specs.Records.{tokensFrom};
 ghost use Rattle.room.specs.Room.{seen, extended};
 ghost use Rattle.merge_rules.specs.Merge.{compared};
-ghost use Rattle.merge_rules.specs.Ends.{deeper, endOf};
-ghost use Rattle.merge_items.specs.Steps.{deepAs, textTo, Found, Keyed};
+ghost use Rattle.merge_rules.specs.InnerEnds.{deeper, endOf};
+ghost use Rattle.merge_items.specs.InnerSteps.{deepAs, textTo, Found, Keyed};
+ghost use Rattle.document.specs.Document.{maxBytes};
 
 // How many blocks are open in a block, or that it ends.
 enum Deep {
@@ -32,7 +34,7 @@ pub struct Entry {
 
 // The blocks open in a block after a record.
 fn open_after(kind: Kind, depth: usize) -> Deep
-    requires { ⌜ depth < 32768 ⌝ }
+    requires { ⌜ depth < maxBytes ⌝ }
     ensures { λ r. ⌜ deepAs r ≡ deeper kind depth ⌝ }
 {
     match kind {
@@ -50,7 +52,7 @@ fn open_after(kind: Kind, depth: usize) -> Deep
 
 // Where the block ends whose content stands from a place on.
 fn end_of(document: &[u8], from: usize) -> usize
-    requires { ⌜ length (now document) ≤ 32768 ⌝ }
+    requires { ⌜ length (now document) ≤ maxBytes ⌝ }
     ensures { λ r. ⌜ (r ≡ endOf (tokensFrom (now (document .entry)) from) 0) × (r ≤ length (now (document .entry))) ⌝ }
 {
     let mut at = from;
@@ -76,7 +78,7 @@ fn end_of(document: &[u8], from: usize) -> usize
 pub fn item_at(document: &[u8], at: usize) -> Place
     ensures { λ r. ⌜ Found (now (document .entry)) at r ⌝ }
 {
-    if 32768 < document.len() {
+    if MAX_BYTES < document.len() {
         return Place {
             from: 0,
             stop: 0,

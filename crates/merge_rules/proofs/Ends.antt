@@ -23,7 +23,7 @@ use Rattle.shape.specs.Shape.{Content, Holds, kinds}
 use Rattle.shape.specs.Shape as shape
 use Rattle.merge_rules.specs.Merge.{Item, records, allRecords, listOf, Filled, Proper, Each, Lists}
 use Rattle.merge_rules.specs.Merge as merge
-use Rattle.merge_rules.specs.Ends.{deeper, on, endOf}
+use Rattle.merge_rules.specs.InnerEnds.{deeper, on, endOf}
 use Rattle.merge_rules.proofs.Whole.{tokens-append, kinds-anywhere, reads-shift, around-then, around-alone}
 
 -- Levels

@@ -1,2 +1,2 @@
 pub mod Merge
-pub mod Ends
+pub mod InnerEnds

@@ -6,7 +6,7 @@ use mathlib.Core.List.{List, [], _∷_, _++_}
 use lib.Dec.{ltb}
 use Rattle.base.specs.Choice.{if_then_else_}
 use Rattle.base.specs.Result.{Result, gives, refused, _>>=_}
-use Rattle.records.specs.Records.{tokens, textOf, printingOrder}
+use Rattle.records.specs.Records.{tokens, documentText, printingOrder}
 use Rattle.records.specs.Stored.{around}
 use Rattle.records.specs.declared.Block.the-variants as block
 use Rattle.document.specs.Document.{openBlocks, check}
@@ -29,7 +29,7 @@ pub record Item : Type 0 where
 
 -- 'their joined text'
 abbrev pub key : Item → List ℕ
-key i = textOf (i .term)
+key i = documentText (i .term)
 
 -- 'each item's records'
 unfoldable pub records : Item → List ℕ

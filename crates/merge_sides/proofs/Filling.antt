@@ -27,7 +27,7 @@ use Rattle.shape.specs.Shape as content
 use Rattle.shape.specs.Answers.{Answers}
 use Rattle.shape.proofs.Laws.{shaped-placed}
 use Rattle.merge_rules.specs.Merge.{Filled}
-use Rattle.merge_sides.specs.Steps.{plain, allPlain, Tells}
+use Rattle.merge_sides.specs.InnerSteps.{plain, allPlain, Tells}
 use Rattle.merge_rules.proofs.Listed.{check-makes}
 
 -- Kinds

@@ -16,8 +16,8 @@ use Rattle.shape.specs.Shape.{parts, inlines}
 use Rattle.merge_rules.specs.Merge.{Item, records, allRecords, listOf, Filled, Lists, IsList}
 use Rattle.merge_rules.specs.Merge as merge
 use Rattle.merge_rules.proofs.Whole.{around-alone, around-then}
-use Rattle.merge_items.specs.Steps.{Found}
-use Rattle.merge_sides.specs.Steps.{Stands, Tells, Climbs, SideIs}
+use Rattle.merge_items.specs.InnerSteps.{Found}
+use Rattle.merge_sides.specs.InnerSteps.{Stands, Tells, Climbs, SideIs}
 use Rattle.merge_items.specs.declared.Place.{Place}
 use Rattle.merge_items.proofs.Items.{length-records}
 use Rattle.merge_sides.proofs.Sides.{Rest, rest-0, list-length, starts-list, Taken, taken, no-more}

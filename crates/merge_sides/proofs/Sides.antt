@@ -18,7 +18,7 @@ use Rattle.merge_rules.specs.declared.Order.{Order}
 use Rattle.merge_rules.proofs.Whole.{around-alone}
 use Rattle.merge_rules.proofs.Merged.{head-of, tail-of}
 use Rattle.merge_rules.proofs.Ends.{one-list}
-use Rattle.merge_sides.specs.Steps.{Climbs}
+use Rattle.merge_sides.specs.InnerSteps.{Climbs}
 use Rattle.merge_items.specs.declared.Entry.{Entry}
 use Rattle.merge_items.proofs.Texts.{seen-text, from-nothing}
 use Rattle.merge_items.proofs.Items.{length-records, Holding}

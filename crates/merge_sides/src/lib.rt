@@ -1,4 +1,5 @@
 // A side of the merge: whether it is a list, and whether its terms ascend.
+use document::MAX_BYTES;
 use merge_rules::Order;
 use records::Block;
 use records::Kind;
@@ -9,7 +10,8 @@ ghost use lib.ListN.{length};
 ghost use Rattle.records.specs.Records.{tokensFrom};
 ghost use Rattle.shape.specs.Shape.{parts, inlines, inline, kinds};
 ghost use Rattle.merge_rules.specs.Merge.{isLess, Filled, IsList};
-ghost use Rattle.merge_sides.specs.Steps.{Stands, Asked, Climbs, Tells, SideIs, plain, allPlain};
+ghost use Rattle.merge_sides.specs.InnerSteps.{Stands, Asked, Climbs, Tells, SideIs, plain, allPlain};
+ghost use Rattle.document.specs.Document.{maxBytes};
 
 // A document as a side: whether it is a list of items, whatever their order, and whether their terms ascend.
 pub struct Side {
@@ -29,7 +31,7 @@ fn is_less(o: Order) -> bool
 
 // Whether the terms of a list ascend. `key` has the term of the item at `at`, `other` that of the next one.
 fn in_order(document: &[u8], key: &mut [u8], other: &mut [u8]) -> bool
-    requires { ⌜ Asked (now document) × (length (now key) ≡ 32768) × (length (now other) ≡ 32768) ⌝ }
+    requires { ⌜ Asked (now document) × (length (now key) ≡ maxBytes) × (length (now other) ≡ maxBytes) ⌝ }
     ensures { λ r. ⌜ Climbs (now (document .entry)) r ⌝ }
 {
     let last = document.len() - 6;
@@ -96,7 +98,7 @@ fn all_plain(content: &[u8]) -> bool
 
 // Whether some bytes are what a body holds.
 fn fills_body(content: &[u8]) -> bool
-    requires { ⌜ length (now content) ≤ 32768 ⌝ }
+    requires { ⌜ length (now content) ≤ maxBytes ⌝ }
     ensures { λ r. ⌜ Tells (Filled parts (now (content .entry))) r ⌝ }
 {
     let shape = shape::house_shape(content);
@@ -109,7 +111,7 @@ fn fills_body(content: &[u8]) -> bool
 
 // Whether some bytes are what a term holds.
 fn fills_term(content: &[u8]) -> bool
-    requires { ⌜ length (now content) ≤ 32768 ⌝ }
+    requires { ⌜ length (now content) ≤ maxBytes ⌝ }
     ensures { λ r. ⌜ Tells (Filled inlines (now (content .entry))) r ⌝ }
 {
     if !all_plain(content) {
@@ -120,7 +122,7 @@ fn fills_term(content: &[u8]) -> bool
 
 // Whether an item stands at a place, with its term's end record at `stop` and its own end at `next`.
 fn stands(document: &[u8], at: usize, stop: usize, next: usize) -> bool
-    requires { ⌜ (length (now document) ≤ 32768) × (at ≤ length (now document)) × (stop ≤ length (now document)) × (next ≤ length (now document)) ⌝ }
+    requires { ⌜ (length (now document) ≤ maxBytes) × (at ≤ length (now document)) × (stop ≤ length (now document)) × (next ≤ length (now document)) ⌝ }
     ensures { λ r. ⌜ Tells (Stands (now (document .entry)) at stop next) r ⌝ }
 {
     if stop < at + 6 {
@@ -146,7 +148,7 @@ fn stands(document: &[u8], at: usize, stop: usize, next: usize) -> bool
 
 // Whether a document is one list of items, whatever their order.
 fn is_list(document: &[u8]) -> bool
-    requires { ⌜ length (now document) ≤ 32768 ⌝ }
+    requires { ⌜ length (now document) ≤ maxBytes ⌝ }
     ensures { λ r. ⌜ Tells (IsList (now (document .entry))) r ⌝ }
 {
     if document.len() < 12 {
@@ -172,9 +174,9 @@ fn is_list(document: &[u8]) -> bool
 
 // What a document is as a side. Nothing is said of more bytes than a document has.
 pub fn side_of(document: &[u8]) -> Side
-    ensures { λ r. ⌜ (length (now (document .entry)) ≤ 32768 → SideIs (now (document .entry)) r) ⌝ }
+    ensures { λ r. ⌜ (length (now (document .entry)) ≤ maxBytes → SideIs (now (document .entry)) r) ⌝ }
 {
-    if 32768 < document.len() {
+    if MAX_BYTES < document.len() {
         return Side {
             list: false,
             ordered: false,
@@ -186,8 +188,8 @@ pub fn side_of(document: &[u8]) -> Side
             ordered: false,
         };
     }
-    let mut key: [u8; 32768] = [0; 32768];
-    let mut other: [u8; 32768] = [0; 32768];
+    let mut key: [u8; MAX_BYTES] = [0; MAX_BYTES];
+    let mut other: [u8; MAX_BYTES] = [0; MAX_BYTES];
     let ordered = in_order(document, &mut key, &mut other);
     Side {
         list: true,

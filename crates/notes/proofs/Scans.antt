@@ -14,7 +14,7 @@ use Rattle.notes_rules.specs.Notes.{headerMark, itemMark}
 use Rattle.notes_rules.specs.Without.{marked, blankLine, ordinary, textLeft}
 use Rattle.notes_rules.proofs.Lines.{left-stop, left-feed, left-go}
 use Rattle.notes_text.proofs.Ticks.{part-more}
-use Rattle.notes.specs.Parts.{Ends}
+use Rattle.notes.specs.InnerParts.{Ends}
 
 -- Lines
 

@@ -25,7 +25,7 @@ use Rattle.buffer.proofs.Pasting.{stored-none}
 use Rattle.notes_rules.specs.Notes.{lines, headerMark, itemMark, joined, textRecords, parts, document, fit, takenIn}
 use Rattle.notes_rules.specs.Without.{blankLine, textLeft}
 use Rattle.notes_text.proofs.Writes.{puts-start, puts-more, puts-all}
-use Rattle.notes.specs.Parts.{Ends}
+use Rattle.notes.specs.InnerParts.{Ends}
 use Rattle.notes_rules.proofs.Lines.{unmarked-is, ordinary-is, line, next, next-mark, header-part, item-part, blank-part, other-part}
 
 -- behind a text and its line feed

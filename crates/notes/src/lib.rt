@@ -11,7 +11,8 @@ ghost use Rattle.records.specs.Stored.{around};
 ghost use Rattle.notes_rules.specs.Notes.{headerMark, itemMark, textRecords, document, takenIn};
 ghost use Rattle.notes_rules.specs.Without.{blankLine, ordinary};
 ghost use Rattle.notes_rules.specs.Laws.{Faithful};
-ghost use Rattle.notes.specs.Parts.{Ends};
+ghost use Rattle.notes.specs.InnerParts.{Ends};
+use document::MAX_BYTES;
 use records::Block;
 use refusal::Refusal;
 use renderer::Rendered;
@@ -121,14 +122,14 @@ fn fill(notes: &[u8], room: &mut [u8]) -> Rendered
     ensures text { λ r. ⌜ standing (now (room .exit)) r ≡ takenIn (length (now (room .exit))) (now (notes .entry)) ⌝ }
     ensures inside { λ r. ⌜ Inside (length (now (room .exit))) r ⌝ }
 {
-    if 32768 < notes.len() {
+    if MAX_BYTES < notes.len() {
         return Rendered::Refused(Refusal::TooLong);
     }
     if !utf8::valid(notes) {
         return Rendered::Refused(Refusal::NotesNotUtf8);
     }
     let n = put_notes(room, notes);
-    if 32768 < n {
+    if MAX_BYTES < n {
         return Rendered::Refused(Refusal::NoRoom);
     }
     renderer::answer(room, n)

@@ -21,7 +21,7 @@ unfoldable pub use Rattle.records.specs.Stored.{around, end, littleBytes, start
 pub use Rattle.records.specs.declared.Block.{Block}
 pub use Rattle.utf8.proofs.Laws.{due-1}
 pub use Rattle.utf8.proofs.Text.{Valid, follow, follows, follows-rest, row-follows}
-pub use Rattle.utf8.specs.Utf8.{Range, fits, within}
+pub use Rattle.utf8.specs.Utf8.{Range, wellFormed, within}
 unfoldable pub use Rattle.utf8.specs.Utf8.{rowOf, table}
 unfoldable pub use Rattle.white.specs.White.{printing}
 pub use borrow.Author.Tests.{eqb-true, ne-eqb, not-true}

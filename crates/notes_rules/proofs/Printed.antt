@@ -9,7 +9,7 @@ use Rattle.white.proofs.White.{printing-append}
 use Rattle.records.specs.declared.Block.the-variants as block
 use Rattle.records.specs.declared.Kind.the-variants as kind
 use Rattle.notes_rules.proofs.Thin.{thin-valid, thin-printing}
-use Rattle.notes_rules.proofs.Texts.{bytesOf, textOf, texts, notes-kept, without-thin}
+use Rattle.notes_rules.proofs.Texts.{bytesOf, textOfLine, texts, notes-kept, without-thin}
 use Rattle.notes_rules.proofs.Stretches.{bodies, bodies-of, Valids, no-more, one-more, stretches-valid}
 use Rattle.notes_rules.proofs.Accepted.{length-text, All-valid, none, head-line, item-line, other-lines, blank-line, notes-valid}
 use Rattle.notes_rules.proofs.Stored.{prints-stored}
@@ -80,7 +80,7 @@ prints-part b x ls e v h i =
     ∙ sym (printing-append (bytesOf (styled false x)) (texts ls) (subst Valid (bodies-of (styled false x)) (bodies-valid xs g)))
 
 prints-parts : (ls : List Line) → All-valid ls → length (parts ls) ≤ 32768 → printingOrder (parts ls) ≡ printing (texts ls)
-unfolding parts texts textOf
+unfolding parts texts textOfLine
 prints-parts [] none h = nothing-printed
 prints-parts (header x ∷ ls) (head-line v w) h = prints-part block.Header x ls refl v h (prints-parts ls w)
 prints-parts (item x ∷ ls) (item-line v w) h = prints-part block.ItemBody x ls refl v h (prints-parts ls w)

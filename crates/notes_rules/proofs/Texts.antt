@@ -16,15 +16,15 @@ unfoldable pub bytesOf : List Styled → List ℕ
 bytesOf [] = []
 bytesOf (m ∷ ms) = m .byte ∷ bytesOf ms
 
-unfoldable pub textOf : Line → List ℕ
-textOf (header x) = bytesOf (styled false x)
-textOf (item x) = bytesOf (styled false x)
-textOf (other x) = bytesOf (styled false x)
-textOf separator = []
+unfoldable pub textOfLine : Line → List ℕ
+textOfLine (header x) = bytesOf (styled false x)
+textOfLine (item x) = bytesOf (styled false x)
+textOfLine (other x) = bytesOf (styled false x)
+textOfLine separator = []
 
 unfoldable pub texts : List Line → List ℕ
 texts [] = []
-texts (l ∷ ls) = textOf l ++ texts ls
+texts (l ∷ ls) = textOfLine l ++ texts ls
 
 -- what follows a text: nothing, or a line feed and the notes from a line's start on
 abbrev onward : List ℕ → List ℕ
@@ -243,7 +243,7 @@ pub marked-item : (t : List ℕ) → startsWith headerMark t ≡ false → start
 unfolding marked
 marked-item t e f = rw (e, f)
 
-texts-of : (l : Line) (ls ms : List Line) → ms ≡ l ∷ ls → textOf l ++ texts ls ≡ texts ms
+texts-of : (l : Line) (ls ms : List Line) → ms ≡ l ∷ ls → textOfLine l ++ texts ls ≡ texts ms
 unfolding texts
 texts-of l ls ms e = ap texts (sym e)
 
@@ -277,7 +277,7 @@ unfolding without withoutFrom texts joined lines
 kept-none = none
 
 kept-more : (t : List ℕ) → Start t → ((k : ℕ) → Kept-at (drop (k + 1) t)) → Kept-at t
-unfolding textOf
+unfolding textOfLine
 kept-more t (over e) i = subst Kept-at (sym e) kept-none
 kept-more t (heads e) i =
     let x = line (drop 2 t) in

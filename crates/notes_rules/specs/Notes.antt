@@ -12,7 +12,7 @@ use Rattle.records.specs.Stored.{text, around}
 use Rattle.records.specs.declared.Style.{Style}
 use Rattle.records.specs.declared.Style.the-variants as style
 use Rattle.records.specs.declared.Block.the-variants as block
-use Rattle.document.specs.Document.{short}
+use Rattle.document.specs.Document.{short, maxBytes}
 
 -- Lines
 
@@ -145,7 +145,7 @@ document s = parts (joined (lines s))
 
 -- '13, also past 32,768 bytes'
 unfoldable pub fit : ℕ → List ℕ → Result (List ℕ)
-fit room x = if leb (length x) room && leb (length x) 32_768 then gives x else refused 13 0
+fit room x = if leb (length x) room && leb (length x) maxBytes then gives x else refused 13 0
 
 -- '1 when the notes are too long comes first, then 19 when they are not UTF-8, with place 0, then 13'
 unfoldable pub takenIn : ℕ → List ℕ → Result (List ℕ)

@@ -14,7 +14,7 @@ use Rattle.base.proofs.Choice.{if-true, if-false}
 use Rattle.records.specs.Stored.{stored, text}
 use Rattle.records.specs.Stored.{head}
 use Rattle.notes_rules.specs.Notes.{Styled, styledAs, ticked, styled, Stretch, stretch, grown, stretches, records}
-use Rattle.notes_text.specs.Parts.{Tick, lead, behind, Runs, kindNumber}
+use Rattle.notes_text.specs.InnerParts.{Tick, lead, behind, Runs, kindNumber}
 use Rattle.notes_text.specs.declared.Run.{Run}
 use Rattle.notes_rules.proofs.Lines.{either, or-false}
 use Rattle.notes_rules.proofs.Texts.{styled-pair, styled-byte}

@@ -14,7 +14,7 @@ use Rattle.base.specs.Bytes.{part}
 use Rattle.base.proofs.Choice.{le-or-lt}
 use Rattle.base.proofs.Parts.{part-none}
 use Rattle.notes_rules.specs.Notes.{ticked}
-use Rattle.notes_text.specs.Parts.{Last, Tick}
+use Rattle.notes_text.specs.InnerParts.{Last, Tick}
 use Rattle.notes_rules.proofs.Lines.{either, or-false}
 
 -- one byte more of a part

@@ -8,7 +8,7 @@ ghost use Rattle.base.specs.Bytes.{part};
 ghost use Rattle.base.specs.Result.{_>>=_ as bind};
 ghost use Rattle.room.specs.Room.{seen, extended};
 ghost use Rattle.notes_rules.specs.Notes.{ticked, styled, textRecords};
-ghost use Rattle.notes_text.specs.Parts.{Last, Tick, lead, Runs, kindNumber};
+ghost use Rattle.notes_text.specs.InnerParts.{Last, Tick, lead, Runs, kindNumber};
 
 // Bytes of one style: how many, where they end, and whether a pair of backticks is open there.
 struct Run {

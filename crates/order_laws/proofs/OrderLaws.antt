@@ -8,7 +8,7 @@ use Rattle.base.specs.Result.{gives}
 use Rattle.base.proofs.Choice.{and-left, and-right, if-false}
 use Rattle.white.specs.White.{printing}
 use Rattle.white.proofs.White.{printing-append}
-use Rattle.records.specs.Records.{Token, tokens, index, isStart, isEnd, adds, order, printingOrder, joined, textOf}
+use Rattle.records.specs.Records.{Token, tokens, index, isStart, isEnd, adds, order, printingOrder, joined, documentText}
 use Rattle.records.specs.declared.Kind.{Kind}
 use Rattle.records.specs.declared.Kind.the-variants as kind
 use Rattle.document.specs.Document.{check}
@@ -59,11 +59,11 @@ order-unticked (t ∷ ts) e =
     ap₂ _++_ (plain-adds (t .kind) (t .body) here) (order-unticked ts later)
 
 -- Of a document that 1 to 8 don't refuse: its printing order, backticks left out, is the printing characters of its text ..
-pub document-unticked : (s x : List ℕ) → check s ≡ gives x → untickedOrder s ≡ printing (textOf s)
-unfolding untickedOrder textOf
+pub document-unticked : (s x : List ℕ) → check s ≡ gives x → untickedOrder s ≡ printing (documentText s)
+unfolding untickedOrder documentText
 document-unticked s x e = unticked-text (tokens 0 0 s) (open-sane s [] (check-gives s x e .1))
 
 -- .. and without TermRefs it is these themselves.
-pub document-order : (s x : List ℕ) → check s ≡ gives x → withoutTermRefs (tokens 0 0 s) ≡ true → printingOrder s ≡ printing (textOf s)
+pub document-order : (s x : List ℕ) → check s ≡ gives x → withoutTermRefs (tokens 0 0 s) ≡ true → printingOrder s ≡ printing (documentText s)
 unfolding printingOrder untickedOrder
 document-order s x e n = order-unticked (tokens 0 0 s) n ∙ document-unticked s x e

@@ -9,7 +9,7 @@ unfoldable pub use Rattle.base.specs.Result.{_>>=_}
 unfoldable pub use Rattle.pages.specs.Order.{inOrder, pagesFrom}
 pub use Rattle.pages.specs.Pages.{shown}
 unfoldable pub use Rattle.pages.specs.Pages.{allowed, joined, leads, pageCount, pageOf, pageStart, pagesIn, rows, rowsBefore}
-unfoldable pub use Rattle.pages.specs.Parts.{bytesOf}
+unfoldable pub use Rattle.pages.specs.InnerParts.{bytesOf}
 unfoldable pub use Rattle.pages.specs.RowList.{feed, feeds}
 pub use borrow.Author.Needs.{needs}
 pub use borrow.Author.Tests.{ne-eqb}

@@ -1,7 +1,7 @@
 -- No page of a UTF-8 text cuts a character, and the pages in order print what the text prints. Assumes nothing.
 use Rattle.pages.proofs.Names.{ℕ, zero, suc, _+_, _-_, _*_, _≤_, _≡_, refl, sym, ap, _∙_, true, ⊎-elim, List, [], _∷_, _++_, take, drop, arith, Result}
 use Rattle.pages.proofs.Names.{gives, and-left, and-right, and-both, eq-or-not, joined, pagesIn, pageOf, shown, pagesFrom, inOrder, feed, bytesOf}
-use Rattle.utf8.specs.Utf8.{Range, within, rowOf, fits, utf8}
+use Rattle.utf8.specs.Utf8.{Range, within, rowOf, wellFormed, utf8}
 use Rattle.utf8.proofs.Laws.{due-1}
 use Rattle.utf8.proofs.Text.{Valid, follows, row-follows, follow, follows-rest}
 use Rattle.white.specs.White.{printing}
@@ -17,23 +17,23 @@ use Rattle.pages.proofs.Laws.{page-given, page-is, pages-joined}
 -- Rows of UTF-8 are UTF-8, before and after some of them: bytes of a character are due only inside a row
 
 abbrev Parted : List Range → List ℕ → ℕ → Type 0
-Parted due s k = (fits due (take (bytesOf k s) s) ≡ true) × (fits [] (drop (bytesOf k s) s) ≡ true)
+Parted due s k = (wellFormed due (take (bytesOf k s) s) ≡ true) × (wellFormed [] (drop (bytesOf k s) s) ≡ true)
 
 ends-row : (b : ℕ) (k : ℕ) → suc k - feed b ≡ 0 → rowOf b .after ≡ []
 ends-row b k e =
     ⊎-elim (λ (f : b ≡ 0x0A). due-1 b (omega arith)) (λ (f : b ≡ 0x0A → ⊥). let z : ⊥ = omega (arith, feed-no b f) in absurd z)
     (eq-or-not b 0x0A)
 
-rows-valid : (s : List ℕ) (due : List Range) (k : ℕ) → follows due ≡ true → (k ≡ 0 → due ≡ []) → fits due s ≡ true → Parted due s k
+rows-valid : (s : List ℕ) (due : List Range) (k : ℕ) → follows due ≡ true → (k ≡ 0 → due ≡ []) → wellFormed due s ≡ true → Parted due s k
 rows-valid [] due k f g e = rw (bytes-past k) (e, refl)
 rows-valid (b ∷ s) due zero f g e = rw (bytes-none, g refl) (refl, (rw (g refl) at e))
 rows-valid (b ∷ s) [] (suc k) f g e =
     rw (bytes-next k b s) (rows-valid s (rowOf b .after) (suc k - feed b) (row-follows b) (ends-row b k) e)
 rows-valid (b ∷ s) (r ∷ due) (suc k) f g e =
-    let w = and-left (within b r) (fits due s) e in
+    let w = and-left (within b r) (wellFormed due s) e in
     let o = follow r due b f w in
     let n : feed b ≡ 0 = feed-no b (λ z. omega arith) in
-    let i = rows-valid s due (suc k - feed b) (follows-rest r due f) (λ z. absurd (omega arith)) (and-right (within b r) (fits due s) e) in
+    let i = rows-valid s due (suc k - feed b) (follows-rest r due f) (λ z. absurd (omega arith)) (and-right (within b r) (wellFormed due s) e) in
     rw (bytes-next k b s) (and-both w (i .0), i .1)
 
 -- a page of a UTF-8 text is UTF-8

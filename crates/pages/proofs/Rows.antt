@@ -9,7 +9,7 @@ use lib.Seq.{drop-cons, take-nil, drop-nil, take-all, take-at}
 use native.Mathlib.Nat.{sub-zero}
 use native.Mathlib.Numerals.{add-one, sub-one}
 use borrow.Author.Tests.{eq-eqb}
-use Rattle.pages.specs.Parts.{Fed}
+use Rattle.pages.specs.InnerParts.{Fed}
 
 -- Line feeds
 

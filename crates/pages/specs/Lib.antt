@@ -2,4 +2,4 @@ pub mod Pages
 pub mod Order
 pub mod RowList
 pub mod Answers
-pub mod Parts
+pub mod InnerParts

@@ -6,7 +6,7 @@ ghost use Rattle.base.specs.Result.{measured};
 ghost use Rattle.pages.specs.Pages.{rows, pageOf, pageStart, pageCount, shown};
 ghost use Rattle.pages.specs.RowList.{feeds};
 ghost use Rattle.pages.specs.Answers.{startOf, sizeOf, countOf};
-ghost use Rattle.pages.specs.Parts.{Fed, bytesOf};
+ghost use Rattle.pages.specs.InnerParts.{Fed, bytesOf};
 use refusal::Refusal;
 
 // Where a page stands in its text, its start and its size; or why there is none.

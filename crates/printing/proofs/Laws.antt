@@ -12,12 +12,12 @@ use Rattle.base.specs.Choice.{if_then_else_}
 use Rattle.base.proofs.Bytes.{byte}
 use Rattle.base.proofs.Choice.{pick, if-true, if-false}
 use Rattle.utf8.specs.Utf8.{utf8}
-use Rattle.utf8.specs.Parts.{AtMost}
+use Rattle.utf8.specs.InnerParts.{AtMost}
 use Rattle.utf8.proofs.Laws.{one-at, block-run}
 use Rattle.utf8.proofs.Characters.{Read, read-character, ascii-at}
 use Rattle.white.specs.White.{whites, white, printing}
 use Rattle.white.proofs.Counting.{printing-not, printing-one}
-use Rattle.printing.specs.Parts.{asciiWhite, asciiPrints, asciiCount, Went, Ran}
+use Rattle.printing.specs.InnerParts.{asciiWhite, asciiPrints, asciiCount, Went, Ran}
 
 -- Bytes
 

@@ -2,9 +2,9 @@
 ghost use mathlib.Core.Path.{_≡_};
 ghost use Prim.Native.Nat.{_<_, _≤_, _+_};
 ghost use lib.ListN.{length};
-ghost use Rattle.utf8.specs.Parts.{AtMost};
+ghost use Rattle.utf8.specs.InnerParts.{AtMost};
 ghost use Rattle.white.specs.White.{printingCount};
-ghost use Rattle.printing.specs.Parts.{asciiPrints, asciiCount, Ran};
+ghost use Rattle.printing.specs.InnerParts.{asciiPrints, asciiCount, Ran};
 use utf8::Decoded;
 
 // 64 bytes: the largest of them, and how many print where all are ASCII.

@@ -12,7 +12,7 @@ use Rattle.base.specs.Bytes.{part}
 use Rattle.base.proofs.Choice.{if-true, if-false, and-both}
 use Rattle.records.specs.Records.{little}
 use Rattle.compared.proofs.Comparing.{and-no}
-use Rattle.recorded.specs.Cases.{numberIn, numberSize, past, flagsOf, sizedOf, callOf, documentOf, answerOf, pattern, counted}
+use Rattle.recorded.specs.InnerCases.{numberIn, numberSize, past, flagsOf, sizedOf, callOf, documentOf, answerOf, pattern, counted}
 use Rattle.recorded.specs.declared.Call.{Call}
 
 -- Numbers

@@ -3,7 +3,7 @@
 ghost use mathlib.Core.Path.{_≡_};
 ghost use Prim.Native.Nat.{_<_, _≤_};
 ghost use lib.ListN.{length};
-ghost use Rattle.recorded.specs.Cases.{numberIn, numberSize, past as pastNumber, sizedOf, callOf, documentOf, answerOf, pattern, filled, keeps, counted};
+ghost use Rattle.recorded.specs.InnerCases.{numberIn, numberSize, past as pastNumber, sizedOf, callOf, documentOf, answerOf, pattern, filled, keeps, counted};
 use compared::byte_or;
 
 pub mod input;

@@ -12,7 +12,7 @@ use borrow.Author.Tests.{lt-ltb, le-ltb, le-leb, lt-leb, leb-true}
 use Rattle.base.specs.Bytes.{part}
 use Rattle.base.specs.Choice.{if_then_else_}
 use Rattle.base.proofs.Choice.{and-left, and-right, if-true, if-false}
-use Rattle.records.specs.Records.{Token, little, styles, blocks, kindOf, size, tokenAt, tokensFrom, fits}
+use Rattle.records.specs.Records.{Token, little, styles, blocks, kindOf, size, tokenAt, tokensFrom, recordFits}
 use Rattle.records.specs.Answers.{tokenOf, Read}
 use Rattle.records.specs.declared.Kind.{Kind}
 use Rattle.records.specs.declared.Kind.the-variants as kind
@@ -111,8 +111,8 @@ part-none : (s : List ℕ) (a : ℕ) → part s a a ≡ []
 part-none s a = let e : a - a ≡ 0 = omega arith in rw e
 
 -- a record that lies whole in some bytes
-pub fits-room : (s : List ℕ) → fits s ≡ true → 6 + size s ≤ length s
-unfolding fits
+pub fits-room : (s : List ℕ) → recordFits s ≡ true → 6 + size s ≤ length s
+unfolding recordFits
 fits-room s e =
     let a = leb-true 6 (length s) (and-left (leb 6 (length s)) _ e) in
     let b = leb-true (size s) (length s - 6) (and-right (leb 6 (length s)) _ e) in omega arith
@@ -191,7 +191,7 @@ module _ (s : List ℕ) (at : ℕ) where
             whole = λ _ _. (refl, f);
           }
 
-      pub read-fits : fits (drop at s) ≡ true → Read s at (record { kind = k; start = at + 6; stop = at + 6 + n; next = at + 6 + n })
+      pub read-fits : recordFits (drop at s) ≡ true → Read s at (record { kind = k; start = at + 6; stop = at + 6 + n; next = at + 6 + n })
       read-fits f = read-whole (omega (arith, fits-room (drop at s) f, length-drop at s, en))
 
 -- What was read is the record at that place.
@@ -211,10 +211,10 @@ module _ {s : List ℕ} {at : ℕ} {h : Head} (r : Read s at h) (l : at < length
 -- Whether a record lies whole in the document
 
 module _ (s : List ℕ) (at : ℕ) where
-  pub fits-short : length s < at + 6 → false ≡ fits (drop at s)
-  unfolding fits
+  pub fits-short : length s < at + 6 → false ≡ recordFits (drop at s)
+  unfolding recordFits
   fits-short h = rw (lt-leb 6 (length (drop at s)) (omega (arith, length-drop at s)))
 
-  pub fits-by : (n : ℕ) → at + 6 ≤ length s → n ≡ little (take 4 (drop at s)) → leb n (length s - at - 6) ≡ fits (drop at s)
-  unfolding fits size
+  pub fits-by : (n : ℕ) → at + 6 ≤ length s → n ≡ little (take 4 (drop at s)) → leb n (length s - at - 6) ≡ recordFits (drop at s)
+  unfolding recordFits size
   fits-by n h e = rw (length-drop at s, le-leb 6 (length s - at) (omega arith), ← e)

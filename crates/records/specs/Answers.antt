@@ -7,7 +7,7 @@ use lib.Dec.{ltb}
 use lib.ListN.{length, drop}
 use Rattle.base.specs.Choice.{if_then_else_}
 use Rattle.base.specs.Bytes.{part}
-use Rattle.records.specs.Records.{Token, kindOf, tokensFrom, fits, size}
+use Rattle.records.specs.Records.{Token, kindOf, tokensFrom, recordFits, size}
 use Rattle.records.specs.declared.Kind.the-variants as kind
 use Rattle.records.specs.declared.Head.{Head}
 use Rattle.records.specs.declared.Raw.{Raw}
@@ -29,4 +29,4 @@ pub record Read (s : List ℕ) (at : ℕ) (h : Head) : Type 0 where
   pub ends : h .stop ≡ h .next
   pub high : h .next ≤ length s
   pub past : length s ≤ at → h ≡ record { kind = kind.Unknown; start = length s; stop = length s; next = length s }
-  pub whole : at < length s → fits (drop at s) ≡ true → (h .start ≡ at + 6) × (h .next ≡ at + (6 + size (drop at s)))
+  pub whole : at < length s → recordFits (drop at s) ≡ true → (h .start ≡ at + 6) × (h .next ≡ at + (6 + size (drop at s)))

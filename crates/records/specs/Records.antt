@@ -83,8 +83,8 @@ abbrev pub tokensFrom : List ℕ → ℕ → List Token
 tokensFrom document at = tokens at 0 (drop at document)
 
 -- not refusal 2: 'under 6 bytes left, or body longer than what is left'
-unfoldable pub fits : List ℕ → Bool
-fits s = leb 6 (length s) && leb (size s) (length s - 6)
+unfoldable pub recordFits : List ℕ → Bool
+recordFits s = leb 6 (length s) && leb (size s) (length s - 6)
 
 -- a record is text
 abbrev pub isText : Kind → Bool
@@ -111,8 +111,8 @@ unfoldable pub joined : List Token → List ℕ
 joined [] = []
 joined (t ∷ ts) = t .body ++ joined ts
 
-unfoldable pub textOf : List ℕ → List ℕ
-textOf s = joined (tokens 0 0 s)
+unfoldable pub documentText : List ℕ → List ℕ
+documentText s = joined (tokens 0 0 s)
 
 -- 'a text record adds its body's printing characters as they stand, a TermRef start or end adds one backtick, any other record
 -- adds nothing'

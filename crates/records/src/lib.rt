@@ -3,7 +3,7 @@ ghost use mathlib.Core.Path.{_≡_};
 ghost use mathlib.Core.Bool.{true};
 ghost use Prim.Native.Nat.{_+_, _<_, _≤_, _^_};
 ghost use lib.ListN.{length, take, drop, getD};
-ghost use Rattle.records.specs.Records.{little, styles, blocks, number, index, kindOf, fits, isStart, isEnd};
+ghost use Rattle.records.specs.Records.{little, styles, blocks, number, index, kindOf, recordFits, isStart, isEnd};
 ghost use Rattle.records.specs.Answers.{headOf, Read};
 ghost use Rattle.records.specs.declared.Style.the-variants as style;
 ghost use Rattle.records.specs.declared.Block.the-variants as block;
@@ -272,7 +272,7 @@ fn nothing_at(at: usize) -> Raw {
 
 // The record at `at`, its kind as a number, where one lies whole: no place is compared with the document's end. Elsewhere the answer is free.
 pub fn whole_raw_at(document: &[u8], at: usize) -> Raw
-    ensures { λ r. ⌜ (fits (drop at (now (document .entry))) ≡ true → Read (now (document .entry)) at (headOf r)) ⌝ }
+    ensures { λ r. ⌜ (recordFits (drop at (now (document .entry))) ≡ true → Read (now (document .entry)) at (headOf r)) ⌝ }
 {
     if document.len() <= at {
         return nothing_at(at);
@@ -292,7 +292,7 @@ pub fn whole_raw_at(document: &[u8], at: usize) -> Raw
 
 // The same with the kind that its number says, in one piece: made of the two functions, it is slower.
 pub fn whole_at(document: &[u8], at: usize) -> Head
-    ensures { λ r. ⌜ (fits (drop at (now (document .entry))) ≡ true → Read (now (document .entry)) at r) ⌝ }
+    ensures { λ r. ⌜ (recordFits (drop at (now (document .entry))) ≡ true → Read (now (document .entry)) at r) ⌝ }
 {
     if document.len() <= at {
         return head_of(nothing_at(at));
@@ -313,7 +313,7 @@ pub fn whole_at(document: &[u8], at: usize) -> Head
 
 // Refusal 2 otherwise: whether the record at `at` lies whole in the document.
 pub fn fits_at(document: &[u8], at: usize) -> bool
-    ensures { λ r. ⌜ r ≡ fits (drop at (now (document .entry))) ⌝ }
+    ensures { λ r. ⌜ r ≡ recordFits (drop at (now (document .entry))) ⌝ }
 {
     if document.len() <= at {
         return false;

@@ -12,13 +12,13 @@ use Rattle.utf8.specs.Utf8.{encode, bytes}
 use Rattle.room.specs.Room.{seen, extended}
 use Rattle.room.proofs.Laws.{seen-in}
 use Rattle.roff_escape.specs.declared.escape.Escape.{Escape}
-use Rattle.roff_escape.specs.declared.roff.Mark.{Mark}
+use Rattle.roff_escape.specs.declared.roff.Roff.{Roff}
 use Rattle.roff_escape.specs.declared.roff.Font.{Font}
 use Rattle.roff_escape.specs.declared.roff.Font.the-variants as font
 use Rattle.roff_escape.specs.Escape.{special, specialNoNewline, escape, lineStart, atNewline}
 use Rattle.roff_escape.specs.Monoid.{Piece, piece, lineEnd, lineHere, escapeAll, lineAfter}
 use Rattle.roff_escape.specs.Composer.{fontEscape}
-use Rattle.roff_escape.specs.Parts.{Followed, Pushed}
+use Rattle.roff_escape.specs.InnerParts.{Followed, Pushed}
 use Rattle.roff_escape.proofs.Escaping.{puts, puts-nothing, puts-two}
 use Rattle.roff_escape.proofs.Buffer.{all-append, after-append, all-one, after-one}
 
@@ -84,11 +84,11 @@ text-unasked strip = pick (λ m. atNewline m ≡ false) strip (λ _. refl) (λ _
 
 -- Some pieces
 
-pub pushed-none : (room : List ℕ) (m : Mark) → Pushed [] room m room m
+pub pushed-none : (room : List ℕ) (m : Roff) → Pushed [] room m room m
 unfolding escapeAll lineAfter
 pushed-none room m = record { text = puts-nothing room (m .len); line = refl; strip = refl }
 
-module _ {ps qs : List Piece} {old mid new : List ℕ} {m n r : Mark} where
+module _ {ps qs : List Piece} {old mid new : List ℕ} {m n r : Roff} where
   pub followed-then : {s t : Bool} → length mid ≡ length old → Followed ps s old m mid n → Followed qs t mid n new r → Followed (ps ++ qs) t old m new r
   followed-then k a b = record {
     text = puts old new (m .len) (r .len) _ _ (all-append (m .fresh) ps qs ∙ ap (λ (f : Bool). escapeAll (m .fresh) ps ++ escapeAll f qs) (sym (a .line)))
@@ -103,7 +103,7 @@ module _ {ps qs : List Piece} {old mid new : List ℕ} {m n r : Mark} where
       record { text = f .text; line = f .line; strip = b .strip ∙ a .strip }
 
 -- the same pieces
-pub pushed-same : {ps qs : List Piece} {old new : List ℕ} {m r : Mark} → qs ≡ ps → Pushed ps old m new r → Pushed qs old m new r
+pub pushed-same : {ps qs : List Piece} {old new : List ℕ} {m r : Roff} → qs ≡ ps → Pushed ps old m new r → Pushed qs old m new r
 pushed-same e a = rw e a
 
 module _ (f : Font) where

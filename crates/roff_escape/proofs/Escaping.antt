@@ -20,7 +20,7 @@ use Rattle.room.proofs.Laws.{seen-in, seen-out, extended-in, extended-twice}
 use Rattle.roff_escape.specs.declared.escape.Escape.{Escape}
 use Rattle.roff_escape.specs.Escape.{unescapedAtNewline, spaces, special, specialNoNewline, unescaped, guard, backslash, replaced, spacesByte}
 use Rattle.roff_escape.specs.Escape.{escapeByte, startsLine, escape, lineStart}
-use Rattle.roff_escape.specs.Parts.{asItIs}
+use Rattle.roff_escape.specs.InnerParts.{asItIs}
 
 -- Writes
 

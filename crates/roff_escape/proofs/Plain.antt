@@ -21,11 +21,11 @@ use Rattle.utf8.specs.Utf8.{encode, bytes}
 use Rattle.room.specs.Room.{seen, extended}
 use Rattle.room.proofs.Laws.{seen-out, wrote, copied-more}
 use Rattle.splitter.specs.Split.{before}
-use Rattle.runs.specs.Runs.{among}
+use Rattle.runs.specs.InnerRuns.{among}
 use Rattle.roff_escape.specs.declared.escape.Escape.{Escape}
 use Rattle.roff_escape.specs.Escape.{unescapedAtNewline, spaces, special, specialNoNewline, unescaped, specialByte, escapeByte, startsLine}
 use Rattle.roff_escape.specs.Escape.{guard, backslash, replaced, escape, lineStart}
-use Rattle.roff_escape.specs.Parts.{textMode, plain, allPlain, Copies}
+use Rattle.roff_escape.specs.InnerParts.{textMode, plain, allPlain, Copies}
 use Rattle.roff_escape.proofs.Escaping.{puts, guard-none, backslash-none, replaced-other, Escaped, escaped-part}
 
 -- One byte

@@ -1,4 +1,4 @@
 pub mod Escape
 pub mod Monoid
 pub mod Composer
-pub mod Parts
+pub mod InnerParts

@@ -8,9 +8,9 @@ ghost use Rattle.base.specs.Choice.{if_then_else_ as choose};
 ghost use Rattle.base.specs.Result.{_>>=_ as bind};
 ghost use Rattle.room.specs.Room.{seen, extended};
 ghost use Rattle.splitter.specs.Split.{before};
-ghost use Rattle.runs.specs.Runs.{among};
+ghost use Rattle.runs.specs.InnerRuns.{among};
 ghost use Rattle.roff_escape.specs.Escape.{guard, backslash, replaced, specialByte, spacesByte, escapeByte, startsLine, escape, lineStart};
-ghost use Rattle.roff_escape.specs.Parts.{textMode, plain, Copies};
+ghost use Rattle.roff_escape.specs.InnerParts.{textMode, plain, Copies};
 
 // Escaping rules.
 pub enum Escape {
@@ -27,7 +27,7 @@ pub enum Escape {
 }
 
 // The length of the text so far, and whether a line starts there.
-pub struct Line {
+pub struct Payload {
     pub len: usize,
     pub fresh: bool,
 }
@@ -111,7 +111,7 @@ pub fn starts_line(mode: Escape, c: u8) -> bool
 }
 
 // 'for &c in payload.as_bytes()': some bytes in a mode.
-pub fn escape_bytes(room: &mut [u8], len: usize, mode: Escape, start: bool, bytes: &[u8]) -> Line
+pub fn escape_bytes(room: &mut [u8], len: usize, mode: Escape, start: bool, bytes: &[u8]) -> Payload
     ensures text { λ r. ⌜ seen (now (room .exit)) (r .len) ≡ bind (seen (now (room .entry)) len) (extended (length (now (room .entry))) (escape mode start (now (bytes .entry)))) ⌝ }
     ensures line { λ r. ⌜ r .fresh ≡ lineStart mode start (now (bytes .entry)) ⌝ }
 {
@@ -124,7 +124,7 @@ pub fn escape_bytes(room: &mut [u8], len: usize, mode: Escape, start: bool, byte
         fresh = starts_line(mode, c);
         i += 1;
     }
-    Line { len: n, fresh }
+    Payload { len: n, fresh }
 }
 
 // A byte that text leaves as it is, save at the start of a line.
@@ -255,7 +255,7 @@ pub fn escape_text(
     bytes: &[u8],
     from: usize,
     to: usize,
-) -> Line
+) -> Payload
     ensures text { λ r. ⌜ seen (now (room .exit)) (r .len) ≡ bind (seen (now (room .entry)) len) (extended (length (now (room .entry))) (escape (textMode strip) start (part (now (bytes .entry)) from to))) ⌝ }
     ensures line { λ r. ⌜ r .fresh ≡ lineStart (textMode strip) start (part (now (bytes .entry)) from to) ⌝ }
 {
@@ -269,7 +269,7 @@ pub fn escape_text(
             n += k - i;
             i = k;
             if stop <= i {
-                return Line { len: n, fresh };
+                return Payload { len: n, fresh };
             }
         }
         let c = bytes[i];
@@ -277,5 +277,5 @@ pub fn escape_text(
         fresh = starts_text_line(strip, c);
         i += 1;
     }
-    Line { len: n, fresh }
+    Payload { len: n, fresh }
 }

@@ -8,12 +8,12 @@ ghost use Rattle.room.specs.Room.{seen, extended};
 ghost use Rattle.roff_escape.specs.Escape.{unescaped, preamble};
 ghost use Rattle.roff_escape.specs.Monoid.{piece};
 ghost use Rattle.roff_escape.specs.Composer.{fontEscape, linebreak, control0, plaintext, text};
-ghost use Rattle.roff_escape.specs.Parts.{Pushed, controlName};
+ghost use Rattle.roff_escape.specs.InnerParts.{Pushed, controlName};
 use crate::escape::Escape;
-use crate::escape::Line;
+use crate::escape::Payload;
 
 // `Roff`: the length of the text so far and whether a line starts there, which stand for its payload, and `strip_newlines`.
-pub struct Mark {
+pub struct Roff {
     pub len: usize,
     pub fresh: bool,
     pub strip: bool,
@@ -27,12 +27,12 @@ pub enum Font {
 }
 
 // `Roff::new`, and the preamble, which `Roff::render` puts first; no part of it goes through `escape`, so that a line starts after it.
-pub fn put_preamble(room: &mut [u8]) -> Mark
+pub fn put_preamble(room: &mut [u8]) -> Roff
     ensures text { λ r. ⌜ seen (now (room .exit)) (r .len) ≡ extended (length (now (room .entry))) preamble [] ⌝ }
     ensures flags { λ r. ⌜ (r .fresh ≡ true) × (r .strip ≡ false) ⌝ }
 {
     let len = room::put_all(room, 0, b".ie \\n(.g .ds Aq \\(aq\n.el .ds Aq '\n");
-    Mark {
+    Roff {
         len,
         fresh: true,
         strip: false,
@@ -40,10 +40,10 @@ pub fn put_preamble(room: &mut [u8]) -> Mark
 }
 
 // Chainable setter for `strip`.
-pub fn strip_newlines(m: Mark, state: bool) -> Mark
+pub fn strip_newlines(m: Roff, state: bool) -> Roff
     ensures { λ r. ⌜ (r .len ≡ m .len) × (r .fresh ≡ m .fresh) × (r .strip ≡ state) ⌝ }
 {
-    Mark {
+    Roff {
         len: m.len,
         fresh: m.fresh,
         strip: state,
@@ -51,15 +51,15 @@ pub fn strip_newlines(m: Mark, state: bool) -> Mark
 }
 
 // `self.payload.push_str`
-pub fn push(room: &mut [u8], m: Mark, mode: Escape, bytes: &[u8]) -> Mark
+pub fn push(room: &mut [u8], m: Roff, mode: Escape, bytes: &[u8]) -> Roff
     ensures { λ r. ⌜ Pushed (piece mode (now (bytes .entry)) ∷ []) (now (room .entry)) m (now (room .exit)) r ⌝ }
 {
-    let at = Line {
+    let at = Payload {
         len: m.len,
         fresh: m.fresh,
     };
     let line = crate::monoid::push_str(room, at, mode, bytes);
-    Mark {
+    Roff {
         len: line.len,
         fresh: line.fresh,
         strip: m.strip,
@@ -67,7 +67,7 @@ pub fn push(room: &mut [u8], m: Mark, mode: Escape, bytes: &[u8]) -> Mark
 }
 
 // What a control line begins with.
-pub fn control_name(room: &mut [u8], m: Mark, name: &[u8]) -> Mark
+pub fn control_name(room: &mut [u8], m: Roff, name: &[u8]) -> Roff
     ensures { λ r. ⌜ Pushed (controlName (now (name .entry))) (now (room .entry)) m (now (room .exit)) r ⌝ }
 {
     let a = push(room, m, Escape::UnescapedAtNewline, b".");
@@ -75,14 +75,14 @@ pub fn control_name(room: &mut [u8], m: Mark, name: &[u8]) -> Mark
 }
 
 // A line break in the source of the page.
-pub fn roff_linebreak(room: &mut [u8], m: Mark) -> Mark
+pub fn roff_linebreak(room: &mut [u8], m: Roff) -> Roff
     ensures { λ r. ⌜ Pushed linebreak (now (room .entry)) m (now (room .exit)) r ⌝ }
 {
     push(room, m, Escape::UnescapedAtNewline, b"")
 }
 
 // A control line without arguments.
-pub fn control0(room: &mut [u8], m: Mark, name: &[u8]) -> Mark
+pub fn control0(room: &mut [u8], m: Roff, name: &[u8]) -> Roff
     ensures { λ r. ⌜ Pushed (control0 (now (name .entry))) (now (room .entry)) m (now (room .exit)) r ⌝ }
 {
     let a = control_name(room, m, name);
@@ -101,7 +101,7 @@ fn letter(font: Font) -> u8
 }
 
 // `Font::escape`, pushed.
-fn put_font(room: &mut [u8], m: Mark, font: Font) -> Mark
+fn put_font(room: &mut [u8], m: Roff, font: Font) -> Roff
     ensures { λ r. ⌜ Pushed (piece unescaped (fontEscape font) ∷ []) (now (room .entry)) m (now (room .exit)) r ⌝ }
 {
     let mark: [u8; 3] = [b'\\', b'f', letter(font)];
@@ -109,11 +109,11 @@ fn put_font(room: &mut [u8], m: Mark, font: Font) -> Mark
 }
 
 // The bytes of a text from a place up to another, with special bytes escaped.
-fn plaintext(room: &mut [u8], m: Mark, bytes: &[u8], from: usize, to: usize) -> Mark
+fn plaintext(room: &mut [u8], m: Roff, bytes: &[u8], from: usize, to: usize) -> Roff
     ensures { λ r. ⌜ Pushed (plaintext (m .strip) (part (now (bytes .entry)) from to) ∷ []) (now (room .entry)) m (now (room .exit)) r ⌝ }
 {
     let line = crate::escape::escape_text(room, m.len, m.strip, m.fresh, bytes, from, to);
-    Mark {
+    Roff {
         len: line.len,
         fresh: line.fresh,
         strip: m.strip,
@@ -121,7 +121,7 @@ fn plaintext(room: &mut [u8], m: Mark, bytes: &[u8], from: usize, to: usize) -> 
 }
 
 // The bytes of a text from a place up to another, in a font. More of the text is read than goes out, in blocks: so it comes whole.
-pub fn text(room: &mut [u8], m: Mark, font: Font, bytes: &[u8], from: usize, to: usize) -> Mark
+pub fn text(room: &mut [u8], m: Roff, font: Font, bytes: &[u8], from: usize, to: usize) -> Roff
     ensures { λ r. ⌜ Pushed (text (m .strip) font (part (now (bytes .entry)) from to)) (now (room .entry)) m (now (room .exit)) r ⌝ }
 {
     let a = put_font(room, m, font);

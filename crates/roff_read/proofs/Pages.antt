@@ -31,8 +31,8 @@ use Rattle.manpage.proofs.Whole.{roff-law, roff-given}
 use Rattle.reader.specs.Reader as reader
 use Rattle.reader.proofs.Laws.{both, tells-append}
 use Rattle.roff_read.specs.Read.{between, says, next, readBack}
-use Rattle.roff_read.specs.Record.{told}
-use Rattle.roff_read.specs.Page.{textOf, textFrom, pageText}
+use Rattle.roff_read.specs.Record.{spacedIf}
+use Rattle.roff_read.specs.Page.{addedText, textFrom, pageText}
 use Rattle.roff_read.specs.Claims.{textRecord, Stands, Pages}
 use Rattle.roff_read.proofs.Reading.{Tells}
 use Rattle.roff_read.proofs.Flags.{turned, passed-append, collected-append}
@@ -112,15 +112,15 @@ ended-tell p block.Mono l = given (λ start. both refl refl)
 
 -- text, captured or not
 text-tell : (p : ℕ) (st : Style) (x : List ℕ) (l : Locals) (on : Bool) → l .capture ≡ on
-    → All (Pushes (textOf (l .strip) (l .capture) (kind.Text st) x)) (token p (kind.Text st) x l)
-unfolding textOf token captured escapeAll reader.read reader.after if_then_else_
+    → All (Pushes (addedText (l .strip) (l .capture) (kind.Text st) x)) (token p (kind.Text st) x l)
+unfolding addedText token captured escapeAll reader.read reader.after if_then_else_
 text-tell p st x l true e = rw e (given (λ start. both refl refl))
 text-tell p st x l false e =
-    rw e (given (λ start. subst (λ (y : List ℕ). Tells between y (told (l .strip) x) between) (sym (written-all st start (l .strip) x))
+    rw e (given (λ start. subst (λ (y : List ℕ). Tells between y (spacedIf (l .strip) x) between) (sym (written-all st start (l .strip) x))
     (written-tells st start (l .strip) x)))
 
-token-tell : (p : ℕ) (k : Kind) (x : List ℕ) (l : Locals) → All (Pushes (textOf (l .strip) (l .capture) k x)) (token p k x l)
-unfolding textOf token escapeAll reader.read reader.after
+token-tell : (p : ℕ) (k : Kind) (x : List ℕ) (l : Locals) → All (Pushes (addedText (l .strip) (l .capture) k x)) (token p k x l)
+unfolding addedText token escapeAll reader.read reader.after
 token-tell p (kind.Text st) x l = text-tell p st x l (l .capture) refl
 token-tell p (kind.Start b) x l = started-tell p b l
 token-tell p (kind.End b) x l = ended-tell p b l
@@ -134,7 +134,7 @@ collected-tell [] l m e start = both refl refl
 collected-tell (t ∷ ts) l m e start =
     let f = bind-gives (token (t .place) (t .kind) (t .body) l) (λ o. passed ts (o .after)) m e in
     let o = f .0 in
-    let u = textOf (l .strip) (l .capture) (t .kind) (t .body) in
+    let u = addedText (l .strip) (l .capture) (t .kind) (t .body) in
     let g = turned (t .place) (t .kind) (t .body) l o (f .1) in
     let first : Pushes u o = is-given (rw (f .1) at (token-tell (t .place) (t .kind) (t .body) l)) in
     let all = tells-append (first start) (collected-tell ts (o .after) m (f .2) (lineAfter start (o .pushed))) in

@@ -15,7 +15,7 @@ use Rattle.reader.specs.Reader as reader
 use Rattle.reader.proofs.Laws as laws
 use Rattle.reader.proofs.Laws.{both, tells-append}
 use Rattle.roff_read.specs.Read.{At, inText, controls, says, next, bodyBack, asSpace, spaced}
-use Rattle.roff_read.specs.Record.{modeOf, told}
+use Rattle.roff_read.specs.Record.{modeOf, spacedIf}
 use Rattle.roff_read.specs.Claims.{Bodies}
 
 -- from one place some bytes tell a text, and the reading then stands at another
@@ -80,8 +80,8 @@ stripped-body start [] = both refl refl
 stripped-body start (c ∷ x) = tells-append (stripped-tells start c) (stripped-body false x)
 
 pub body-tells : (strip start : Bool) (x : List ℕ)
-    → Tells (inText start) (escape (modeOf strip) start x) (told strip x) (inText (lineStart (modeOf strip) start x))
-unfolding told if_then_else_
+    → Tells (inText start) (escape (modeOf strip) start x) (spacedIf strip x) (inText (lineStart (modeOf strip) start x))
+unfolding spacedIf if_then_else_
 body-tells true start x = stripped-body start x
 body-tells false start x = special-body start x
 

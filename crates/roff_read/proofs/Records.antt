@@ -26,7 +26,7 @@ use Rattle.manpage.proofs.Whole.{roff-law, roff-given}
 use Rattle.reader.specs.Reader as reader
 use Rattle.reader.proofs.Laws.{both, tells-append}
 use Rattle.roff_read.specs.Read.{between, inText, sets, says, next}
-use Rattle.roff_read.specs.Record.{lead, modeOf, written, told}
+use Rattle.roff_read.specs.Record.{lead, modeOf, written, spacedIf}
 use Rattle.roff_read.specs.Places.{Uncaptured, isInside}
 use Rattle.roff_read.specs.Claims.{textRecord, Gives}
 use Rattle.roff_read.proofs.Reading.{Tells, body-tells}
@@ -114,12 +114,12 @@ unfolding reader.read reader.after says next bytes encode if_then_else_
 restore-tells start = both refl refl
 
 -- what a record gives tells its text, and the reading then stands between texts again
-pub written-tells : (st : Style) (start strip : Bool) (x : List ℕ) → Tells between (written st start strip x) (told strip x) between
+pub written-tells : (st : Style) (start strip : Bool) (x : List ℕ) → Tells between (written st start strip x) (spacedIf strip x) between
 unfolding written
 written-tells st start strip x =
     let e = tells-append (tells-append (tells-append (lead-tells st start) (font-tells (fontOf st))) (body-tells strip false x))
     (restore-tells (lineStart (modeOf strip) false x)) in
-    both (e .tells ∙ append-nil (told strip x)) (e .stands)
+    both (e .tells ∙ append-nil (spacedIf strip x)) (e .stands)
 
 -- A record after others
 

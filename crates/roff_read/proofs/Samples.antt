@@ -12,7 +12,7 @@ use Rattle.base.specs.Stack.{top, pushed, popped}
 use Rattle.utf8.specs.Utf8.{table, rowOf, encode, bytes}
 use Rattle.upper.specs.Table.{table as mappings}
 use Rattle.upper.specs.Upper.{mapsTo, upper}
-use Rattle.records.specs.Records.{little, styles, blocks, kindOf, size, tokenAt, tokens, fits}
+use Rattle.records.specs.Records.{little, styles, blocks, kindOf, size, tokenAt, tokens, recordFits}
 use Rattle.document.specs.Document.{opens, closes, bodiless, accept, first, reads, openBlocks, short, closed, check}
 use Rattle.records.specs.Stored.{littleBytes, stored, text, start, end, around}
 use Rattle.records.specs.declared.Style.the-variants as style
@@ -71,7 +71,7 @@ shared =
 
 pub shared-hold : map (λ (s : Shared). roff 60 (s .one) ∷ roff 60 (s .other) ∷ []) shared
     ≡ map (λ (s : Shared). gives (preamble ++ bytes (s .page)) ∷ gives (preamble ++ bytes (s .page)) ∷ []) shared
-unfolding shared if_then_else_ _>>=_ top pushed popped table rowOf encode bytes little styles blocks kindOf size tokenAt tokens fits opens closes
+unfolding shared if_then_else_ _>>=_ top pushed popped table rowOf encode bytes little styles blocks kindOf size tokenAt tokens recordFits opens closes
     bodiless accept first reads openBlocks short closed check littleBytes stored text start end around extended walk guard backslash replaced specialByte
     spacesByte escapeByte escape lineStart preamble writes begun newLine put push pushes fontEscape argument linebreak control0 control plaintext roffText
     mappings mapsTo upper captures heading subsection started ended token turn roff

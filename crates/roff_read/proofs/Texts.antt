@@ -17,7 +17,7 @@ use Rattle.manpage.specs.Roff.{Locals, initial, Outcome, fontOf, subsection, to
 use Rattle.manpage.specs.Pieces.{pushedBy, collected, passed, pieces}
 use Rattle.manpage.proofs.Whole.{roff-law}
 use Rattle.roff_read.specs.Read.{readBack, spaced}
-use Rattle.roff_read.specs.Record.{lead, written, told}
+use Rattle.roff_read.specs.Record.{lead, written, spacedIf}
 use Rattle.roff_read.specs.Places.{since, captures, strips, Uncaptured, Inside, isInside}
 use Rattle.roff_read.specs.Claims.{textRecord, Gives, Texts}
 use Rattle.roff_read.proofs.Reading.{same-stripped}
@@ -28,16 +28,16 @@ use Rattle.roff_read.proofs.Records.{written-all, written-after, writte
 -- What is told
 
 module _ (before : List Token) (st : Style) (x b : List ℕ) (free : Uncaptured before) (g : Gives before st x b) where
-  tells : readBack b ≡ told (isInside before) x
+  tells : readBack b ≡ spacedIf (isInside before) x
   tells = ap readBack (gives-written before st x b free g) ∙ written-tells st (lineAfter true (pieces before)) (isInside before) x .tells
 
   tells-text : (Inside before → ⊥) → readBack b ≡ x
-  unfolding told if_then_else_
-  tells-text n = tells ∙ ap (λ (s : Bool). told s x) (not-inside before n)
+  unfolding spacedIf if_then_else_
+  tells-text n = tells ∙ ap (λ (s : Bool). spacedIf s x) (not-inside before n)
 
   tells-spaced : Inside before → readBack b ≡ spaced x
-  unfolding told if_then_else_
-  tells-spaced i = tells ∙ ap (λ (s : Bool). told s x) (places .passes before i)
+  unfolding spacedIf if_then_else_
+  tells-spaced i = tells ∙ ap (λ (s : Bool). spacedIf s x) (places .passes before i)
 
 -- Texts that agree
 

@@ -7,19 +7,19 @@ use Rattle.base.specs.Choice.{if_then_else_}
 use Rattle.records.specs.Records.{Token}
 use Rattle.records.specs.declared.Kind.{Kind}
 use Rattle.records.specs.declared.Kind.the-variants as kind
-use Rattle.roff_read.specs.Record.{told}
+use Rattle.roff_read.specs.Record.{spacedIf}
 use Rattle.roff_read.specs.Places.{captures, strips}
 
 -- what a record adds, where line ends are stripped or not, and text is captured or not
-unfoldable pub textOf : (strip capture : Bool) → Kind → List ℕ → List ℕ
-textOf strip capture (kind.Text st) x = if capture then [] else told strip x
-textOf strip capture (kind.Start b) x = []
-textOf strip capture (kind.End b) x = []
-textOf strip capture kind.Unknown x = []
+unfoldable pub addedText : (strip capture : Bool) → Kind → List ℕ → List ℕ
+addedText strip capture (kind.Text st) x = if capture then [] else spacedIf strip x
+addedText strip capture (kind.Start b) x = []
+addedText strip capture (kind.End b) x = []
+addedText strip capture kind.Unknown x = []
 
 unfoldable pub textFrom : (strip capture : Bool) → List Token → List ℕ
 textFrom strip capture [] = []
-textFrom strip capture (t ∷ ts) = textOf strip capture (t .kind) (t .body) ++ textFrom (strips (t .kind) strip) (captures (t .kind) capture) ts
+textFrom strip capture (t ∷ ts) = addedText strip capture (t .kind) (t .body) ++ textFrom (strips (t .kind) strip) (captures (t .kind) capture) ts
 
 abbrev pub pageText : List Token → List ℕ
 pageText ts = textFrom false false ts

@@ -30,5 +30,5 @@ unfoldable pub written : Style → (start strip : Bool) → List ℕ → List �
 written st start strip x = lead st start ++ fontEscape (fontOf st) ++ escape (modeOf strip) false x ++ bytes "\\fP"
 
 -- what it tells: the text, or 'each line end is taken as a space'
-unfoldable pub told : Bool → List ℕ → List ℕ
-told strip x = if strip then spaced x else x
+unfoldable pub spacedIf : Bool → List ℕ → List ℕ
+spacedIf strip x = if strip then spaced x else x

@@ -14,7 +14,7 @@ use Rattle.base.specs.Choice.{if_then_else_}
 use Rattle.base.proofs.Choice.{pick, if-true, if-false, le-or-lt}
 use Rattle.splitter.specs.Split.{before}
 use Rattle.splitter.proofs.Before.{before-stop, before-go, before-none, before-short}
-use Rattle.runs.specs.Runs.{among, any, Reached}
+use Rattle.runs.specs.InnerRuns.{among, any, Reached}
 
 -- A mark
 

@@ -6,7 +6,7 @@ ghost use lib.Dec.{eqb, leb};
 ghost use lib.ListN.{length, take, drop};
 ghost use Rattle.base.specs.Choice.{if_then_else_ as choose};
 ghost use Rattle.splitter.specs.Split.{before};
-ghost use Rattle.runs.specs.Runs.{among, any, Reached};
+ghost use Rattle.runs.specs.InnerRuns.{among, any, Reached};
 
 // A mark, which is set where a byte is another.
 fn mark(m: u8, x: u8, a: u8) -> u8

@@ -23,11 +23,11 @@ use Rattle.console_rules.specs.declared.Measure.the-variants as measure
 use Rattle.html_rules.specs.Html.{html}
 use Rattle.html_rules.specs.Markdown.{markdown}
 use Rattle.manpage.specs.Roff.{roff}
-use Rattle.compared.specs.Compared.{isRendered, isAnswer}
+use Rattle.compared.specs.InnerCompared.{isRendered, isAnswer}
 use Rattle.compared.proofs.Answers.{rendered-by}
 use Rattle.compared.proofs.Comparing.{and-no}
 use Rattle.sample_lines.proofs.Writing.{wrote-then}
-use Rattle.sample_calls.specs.Calls.{byLetter, isCall, wantedText, isWanted, agrees}
+use Rattle.sample_calls.specs.InnerCalls.{byLetter, isCall, wantedText, isWanted, agrees}
 use Rattle.sample_calls.specs.declared.Wanted.{Wanted}
 
 -- what a call answers and leaves in its room is what a rule does

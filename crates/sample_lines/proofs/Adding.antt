@@ -11,9 +11,9 @@ use Rattle.base.specs.Choice.{if_then_else_}
 use Rattle.base.specs.Result.{Result, _>>=_}
 use Rattle.base.proofs.Choice.{if-true, if-false}
 use Rattle.room.specs.Room.{extended}
-use Rattle.sample_lines.specs.Lines.{textFrom, numberAt, nextNumber}
+use Rattle.sample_lines.specs.InnerLines.{textFrom, numberAt, nextNumber}
 use Rattle.sample_lines.specs.declared.Number.{Number}
-use Rattle.sample_lines.specs.Adding.{repeated, head, textRecord, blockRecords, styleOf, addedBy}
+use Rattle.sample_lines.specs.InnerAdding.{repeated, head, textRecord, blockRecords, styleOf, addedBy}
 use Rattle.sample_lines.proofs.Writing.{wrote-then}
 
 -- once more, and so many times

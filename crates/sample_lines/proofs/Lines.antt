@@ -16,9 +16,9 @@ use Rattle.splitter.specs.Split.{raw}
 use Rattle.splitter.specs.Answers.{chunkOf}
 use Rattle.splitter.specs.declared.Piece.{Piece}
 use Rattle.splitter.specs.declared.Piece.the-variants as piece
-use Rattle.compared.specs.Compared.{same}
+use Rattle.compared.specs.InnerCompared.{same}
 use Rattle.compared.proofs.Comparing.{and-no}
-use Rattle.sample_lines.specs.Lines.{numberFrom, numberAt, hexDigit, written, textFrom, isChunk, tallyOf}
+use Rattle.sample_lines.specs.InnerLines.{numberFrom, numberAt, hexDigit, written, textFrom, isChunk, tallyOf}
 use Rattle.sample_lines.specs.declared.Number.{Number}
 use Rattle.sample_lines.specs.declared.Tally.{Tally}
 

@@ -1,2 +1,2 @@
-pub mod Lines
-pub mod Adding
+pub mod InnerLines
+pub mod InnerAdding

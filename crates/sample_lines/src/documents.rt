@@ -4,8 +4,8 @@ ghost use Prim.Native.Nat.{_%_, _≤_};
 ghost use lib.ListN.{length};
 ghost use Rattle.base.specs.Result.{_>>=_ as bind};
 ghost use Rattle.room.specs.Room.{seen, extended};
-ghost use Rattle.sample_lines.specs.Lines.{textFrom};
-ghost use Rattle.sample_lines.specs.Adding.{repeated, head, textRecord, blockRecords, styleOf, addedBy};
+ghost use Rattle.sample_lines.specs.InnerLines.{textFrom};
+ghost use Rattle.sample_lines.specs.InnerAdding.{repeated, head, textRecord, blockRecords, styleOf, addedBy};
 
 fn low(n: usize) -> u8
     ensures { λ r. ⌜ r ≡ n % 256 ⌝ }

@@ -8,8 +8,8 @@ ghost use Rattle.base.specs.Result.{_>>=_ as bind};
 ghost use Rattle.room.specs.Room.{seen, extended};
 ghost use Rattle.splitter.specs.Answers.{chunkOf};
 ghost use Rattle.splitter.specs.Split.{raw};
-ghost use Rattle.compared.specs.Compared.{same};
-ghost use Rattle.sample_lines.specs.Lines.{numberAt, nextNumber, hexDigit, textFrom, isChunk, tallyOf};
+ghost use Rattle.compared.specs.InnerCompared.{same};
+ghost use Rattle.sample_lines.specs.InnerLines.{numberAt, nextNumber, hexDigit, textFrom, isChunk, tallyOf};
 use compared::byte_or;
 use splitter::Piece;
 

@@ -32,7 +32,7 @@ use Rattle.console_tabstop.specs.Answers.{tabstopOf, settledOf}
 use Rattle.console_tabstop.specs.declared.Tabstop.{Tabstop}
 use Rattle.console_tabstop.specs.declared.Searched.{Searched}
 use Rattle.console_tabstop.specs.declared.Searched.the-variants as searched
-use Rattle.sefgrunn.specs.Numbers.{numberOf, placeOf, lengthOrPlace, orZero, lengthAfter, told, inStyle, inBlock}
+use Rattle.sefgrunn.specs.Numbers.{numberOf, placeOf, lengthOrPlace, orZero, lengthAfter, callerReads, inStyle, inBlock}
 
 module _ (c : Checked) (x : Result (List ℕ)) (e : verdictOf c [] ≡ x) where
   pub checked-accepted : (n p : ℕ) → c ≡ checked.Accepted → n ≡ 0 → p ≡ 0 → (n ≡ numberOf x) × (p ≡ placeOf x)
@@ -42,12 +42,12 @@ module _ (c : Checked) (x : Result (List ℕ)) (e : verdictOf c [] ≡ x) where
   checked-refused a n p f h k = let g : refused (refusalNumber a) (refusalPlace a) ≡ x = rw f at e in (h ∙ ap numberOf g, k ∙ ap placeOf g)
 
 module _ (r : Rendered) where
-  pub told-text : (n : ℕ) → r ≡ rendered.Text n → (0 ≡ numberOf (answered r)) × (n ≡ lengthOrPlace (answered r))
-  told-text n e = rw e (refl, refl)
+  pub numbers-text : (n : ℕ) → r ≡ rendered.Text n → (0 ≡ numberOf (answered r)) × (n ≡ lengthOrPlace (answered r))
+  numbers-text n e = rw e (refl, refl)
 
-  pub told-refused : (a : Refusal) (k p : ℕ) → r ≡ rendered.Refused a → k ≡ refusalNumber a → p ≡ refusalPlace a
+  pub numbers-refused : (a : Refusal) (k p : ℕ) → r ≡ rendered.Refused a → k ≡ refusalNumber a → p ≡ refusalPlace a
       → (k ≡ numberOf (answered r)) × (p ≡ lengthOrPlace (answered r))
-  told-refused a k p e f g = rw e (f, g)
+  numbers-refused a k p e f g = rw e (f, g)
 
 -- what the search for the tabstop answered
 module _ (r : Searched) (x y : Result ℕ) (e : tabstopOf r ≡ x) (f : settledOf r ≡ y) where
@@ -92,10 +92,10 @@ module _ (b : Built) (n : ℕ) where
   stored-refused a k p e f g = rw e (f, (refl, g))
 
 -- a caller reads a text's length off an accepted call
-pub told-gives : (x : Result (List ℕ)) (k p : ℕ) (text : List ℕ) → k ≡ numberOf x → p ≡ lengthOrPlace (measured x) → x ≡ gives text
-    → told k p ≡ gives (length text)
+pub caller-reads-gives : (x : Result (List ℕ)) (k p : ℕ) (text : List ℕ) → k ≡ numberOf x → p ≡ lengthOrPlace (measured x) → x ≡ gives text
+    → callerReads k p ≡ gives (length text)
 unfolding if_then_else_
-told-gives x k p text f g e = rw (f, g, e)
+caller-reads-gives x k p text f g e = rw (f, g, e)
 
 -- a call of the builder, by the rule that its number stands for
 abbrev pub Says : Result (List ℕ) → ℕ → ℕ → ℕ → ℕ → List ℕ → List ℕ → Type 0

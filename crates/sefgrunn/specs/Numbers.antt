@@ -42,8 +42,8 @@ lengthAfter m (gives n) = n
 lengthAfter m (refused k p) = m
 
 -- what a caller reads off the number that is returned and the number that is stored
-abbrev pub told : ℕ → ℕ → Result ℕ
-told number at = if eqb number 0 then gives at else refused number at
+abbrev pub callerReads : ℕ → ℕ → Result ℕ
+callerReads number at = if eqb number 0 then gives at else refused number at
 
 -- '`characters` off is the crate's measure'
 abbrev pub measureAsked : Bool → Measure

@@ -27,7 +27,7 @@ ghost use Rattle.draft.specs.Draft.{draftIn, Sound};
 ghost use Rattle.sefgrunn.specs.Drafts.{WordsAfter, Drafts, resumes, DraftTold};
 ghost use Rattle.sefgrunn.specs.HouseShape.{ShapeTold};
 ghost use Rattle.sefgrunn.specs.Merge.{MergeTold};
-ghost use Rattle.sefgrunn.specs.Numbers.{numberOf, placeOf, lengthOrPlace, orZero, lengthAfter, told, measureAsked, settings, writesIn, opensIn, closesIn};
+ghost use Rattle.sefgrunn.specs.Numbers.{numberOf, placeOf, lengthOrPlace, orZero, lengthAfter, callerReads, measureAsked, settings, writesIn, opensIn, closesIn};
 use buffer::Built;
 use console_bound::Lend;
 use console_rules::Measure;
@@ -83,7 +83,7 @@ pub extern "C" fn sefgrunn_check(document: &[u8], place: &mut usize) -> u32
 }
 
 // The number of an answer, and its length or place.
-fn told(answer: Rendered, at: &mut usize) -> u32
+fn numbers_of(answer: Rendered, at: &mut usize) -> u32
     ensures number { λ r. ⌜ r ≡ numberOf (answered answer) ⌝ }
     ensures at { λ _. ⌜ now (at .exit) ≡ lengthOrPlace (answered answer) ⌝ }
 {
@@ -118,7 +118,7 @@ pub extern "C" fn sefgrunn_console(
     ensures number { λ r. ⌜ r ≡ numberOf (console (settings width full characters) (length (now (room .entry))) (now (document .entry))) ⌝ }
     ensures at { λ _. ⌜ now (at .exit) ≡ lengthOrPlace (measured (console (settings width full characters) (length (now (room .entry))) (now (document .entry)))) ⌝ }
     ensures room { λ _. ⌜ now (room .exit) ≡ filled (length (now (room .entry))) (console (settings width full characters) (length (now (room .entry))) (now (document .entry))) ⌝ }
-    ensures demand3 { λ r. ⌜ Demand3 (settings width full characters) (now (document .entry)) (now (room .entry)) (now (room .exit)) (told r (now (at .exit))) ⌝ }
+    ensures demand3 { λ r. ⌜ Demand3 (settings width full characters) (now (document .entry)) (now (room .entry)) (now (room .exit)) (callerReads r (now (at .exit))) ⌝ }
     ensures enough { λ r. ⌜ (bound (now (document .entry)) ≤ length (now (room .entry)) → r ≡ 13 → ⊥) ⌝ }
 {
     let measure = measure_asked(characters);
@@ -131,7 +131,7 @@ pub extern "C" fn sefgrunn_console(
         },
         room,
     );
-    told(answer, at)
+    numbers_of(answer, at)
 }
 
 // How much room to lend to `sefgrunn_console`, so that it never answers 13: `at` is so many bytes, or the refusal's place.
@@ -228,7 +228,7 @@ pub extern "C" fn sefgrunn_join(document: &[u8], room: &mut [u8], at: &mut usize
     ensures room { λ _. ⌜ now (room .exit) ≡ filled (length (now (room .entry))) (joinsInto (length (now (room .entry))) (now (document .entry))) ⌝ }
 {
     let moved = joined::join(document, room);
-    told(moved, at)
+    numbers_of(moved, at)
 }
 
 // A joined form back into a document, or 1, 17, 2 to 8 and 18, or 13.
@@ -239,7 +239,7 @@ pub extern "C" fn sefgrunn_unjoin(joined: &[u8], room: &mut [u8], at: &mut usize
     ensures room { λ _. ⌜ now (room .exit) ≡ filled (length (now (room .entry))) (unjoinsInto (length (now (room .entry))) (now (joined .entry))) ⌝ }
 {
     let moved = joined::unjoin(joined, room);
-    told(moved, at)
+    numbers_of(moved, at)
 }
 
 // Refusals 1, 17, 2 to 8 and 18 of a joined form; `place` is the refusal's, and 0 where it is accepted.
@@ -305,7 +305,7 @@ pub extern "C" fn sefgrunn_html(
     ensures room { λ _. ⌜ now (room .exit) ≡ filled (length (now (room .entry))) (html (length (now (room .entry))) false full css (now (document .entry))) ⌝ }
 {
     let answer = html::render_html(document, full, css, room);
-    told(answer, at)
+    numbers_of(answer, at)
 }
 
 // Strict HTML, which 01 adds.
@@ -322,7 +322,7 @@ pub extern "C" fn sefgrunn_html_strict(
     ensures room { λ _. ⌜ now (room .exit) ≡ filled (length (now (room .entry))) (html (length (now (room .entry))) true full css (now (document .entry))) ⌝ }
 {
     let answer = html::render_html_strict(document, full, css, room);
-    told(answer, at)
+    numbers_of(answer, at)
 }
 
 // `Doc::render_markdown`.
@@ -338,7 +338,7 @@ pub extern "C" fn sefgrunn_markdown(
     ensures room { λ _. ⌜ now (room .exit) ≡ filled (length (now (room .entry))) (markdown (length (now (room .entry))) full (now (document .entry))) ⌝ }
 {
     let answer = markdown::render_markdown(document, full, room);
-    told(answer, at)
+    numbers_of(answer, at)
 }
 
 // `Doc::render_roff` given `Roff::new()`.
@@ -349,7 +349,7 @@ pub extern "C" fn sefgrunn_roff(document: &[u8], room: &mut [u8], at: &mut usize
     ensures room { λ _. ⌜ now (room .exit) ≡ filled (length (now (room .entry))) (roff (length (now (room .entry))) (now (document .entry))) ⌝ }
 {
     let page = manpage::render_roff(document, room);
-    told(page, at)
+    numbers_of(page, at)
 }
 
 // The document that Markdown notes stand for.
@@ -361,7 +361,7 @@ pub extern "C" fn sefgrunn_notes(notes: &[u8], room: &mut [u8], at: &mut usize) 
     ensures law { λ _. ⌜ Faithful (now (notes .entry)) (takenIn (length (now (room .entry))) (now (notes .entry))) ⌝ }
 {
     let answer = notes::take_in(notes, room);
-    told(answer, at)
+    numbers_of(answer, at)
 }
 
 // The console text of a joined form, with places there.
@@ -385,7 +385,7 @@ pub extern "C" fn sefgrunn_joined_console(
         measure,
     };
     let answer = joined_render::joined_console(joined, set, room);
-    told(answer, at)
+    numbers_of(answer, at)
 }
 
 // The HTML of a joined form.
@@ -402,7 +402,7 @@ pub extern "C" fn sefgrunn_joined_html(
     ensures room { λ _. ⌜ now (room .exit) ≡ filled (length (now (room .entry))) (joinedHtml (length (now (room .entry))) false full css (now (joined .entry))) ⌝ }
 {
     let answer = joined_render::joined_html(joined, full, css, room);
-    told(answer, at)
+    numbers_of(answer, at)
 }
 
 // The strict HTML of a joined form.
@@ -419,7 +419,7 @@ pub extern "C" fn sefgrunn_joined_html_strict(
     ensures room { λ _. ⌜ now (room .exit) ≡ filled (length (now (room .entry))) (joinedHtml (length (now (room .entry))) true full css (now (joined .entry))) ⌝ }
 {
     let answer = joined_render::joined_html_strict(joined, full, css, room);
-    told(answer, at)
+    numbers_of(answer, at)
 }
 
 // The Markdown of a joined form.
@@ -435,7 +435,7 @@ pub extern "C" fn sefgrunn_joined_markdown(
     ensures room { λ _. ⌜ now (room .exit) ≡ filled (length (now (room .entry))) (joinedMarkdown (length (now (room .entry))) full (now (joined .entry))) ⌝ }
 {
     let answer = joined_render::joined_markdown(joined, full, room);
-    told(answer, at)
+    numbers_of(answer, at)
 }
 
 // The roff of a joined form.
@@ -446,7 +446,7 @@ pub extern "C" fn sefgrunn_joined_roff(joined: &[u8], room: &mut [u8], at: &mut 
     ensures room { λ _. ⌜ now (room .exit) ≡ filled (length (now (room .entry))) (joinedRoff (length (now (room .entry))) (now (joined .entry))) ⌝ }
 {
     let page = joined_render::joined_roff(joined, room);
-    told(page, at)
+    numbers_of(page, at)
 }
 
 // How many pages a text has at a height; 0 after a refusal.
@@ -633,7 +633,7 @@ pub extern "C" fn sefgrunn_merge(
     ensures { λ r. ⌜ MergeTold (now (room .entry)) (now (first .entry)) (now (second .entry)) r (now (at .exit)) (now (room .exit)) ⌝ }
 {
     let answer = merge::merge(first, second, room);
-    told(answer, at)
+    numbers_of(answer, at)
 }
 
 // The number of what a call by a draft answers, and the new draft's words, which change only where it accepts.

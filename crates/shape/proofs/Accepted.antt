@@ -21,8 +21,8 @@ use Rattle.records.specs.declared.Kind.{Kind}
 use Rattle.records.specs.declared.Kind.the-variants as kind
 use Rattle.document.proofs.Walks.{Allowed, openAfter, accept-gives, first-gives, check-gives}
 use Rattle.shape.specs.Shape.{kinds, Shaped, OutOfPlace}
-use Rattle.shape.specs.Steps.{Want, parts, Inside, opens, refuses, inside, texts, closes, go, stray, Walked}
-use Rattle.shape.specs.Steps as loose
+use Rattle.shape.specs.InnerSteps.{Want, parts, Inside, opens, refuses, inside, texts, closes, go, stray, Walked}
+use Rattle.shape.specs.InnerSteps as loose
 use Rattle.shape.specs.Answers.{Answers}
 use Rattle.shape.specs.declared.Way.{Way}
 use Rattle.shape.specs.declared.Way.the-variants as way

@@ -11,7 +11,7 @@ use Rattle.records.specs.Records.{blocks, index}
 use Rattle.records.specs.declared.Block.{Block}
 use Rattle.records.specs.declared.Block.the-variants as block
 use Rattle.shape.specs.Shape.{same, other, inline}
-use Rattle.shape.specs.Steps.{Want, parts, pairs, inlines, body, opens, refuses, inside, texts, closes}
+use Rattle.shape.specs.InnerSteps.{Want, parts, pairs, inlines, body, opens, refuses, inside, texts, closes}
 
 named : (b : Block) → getD blocks (index b) block.Header ≡ b
 unfolding blocks

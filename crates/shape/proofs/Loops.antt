@@ -12,7 +12,7 @@ use Rattle.records.specs.declared.Style.{Style}
 use Rattle.records.specs.declared.Block.{Block}
 use Rattle.records.specs.declared.Kind.the-variants as kind
 use Rattle.records.specs.declared.Head.{Head}
-use Rattle.shape.specs.Steps.{Want, opens, refuses, inside, texts, closes, ahead, stray, OpenAt, Stopped}
+use Rattle.shape.specs.InnerSteps.{Want, opens, refuses, inside, texts, closes, ahead, stray, OpenAt, Stopped}
 use Rattle.shape.specs.declared.Way.{Way}
 use Rattle.shape.specs.declared.Way.the-variants as way
 use Rattle.shape.proofs.Opened.{open-end, open-text, start-bare, end-bare, open-start, open-closes, open-closed}

@@ -12,7 +12,7 @@ use Rattle.records.specs.declared.Block.the-variants as block
 use Rattle.records.specs.declared.Kind.{Kind}
 use Rattle.records.specs.declared.Kind.the-variants as kind
 use Rattle.shape.specs.Shape.{same, around, Shaped, Viable}
-use Rattle.shape.specs.Steps.{Want, parts, pairs, inlines, body, Inside, opens, refuses, inside, texts, closes}
+use Rattle.shape.specs.InnerSteps.{Want, parts, pairs, inlines, body, Inside, opens, refuses, inside, texts, closes}
 use Rattle.shape.proofs.Blocks.{same-is, same-self, Fits, fits-inside, inside-fits}
 use Rattle.shape.proofs.Runs.{Run, done, text, wrapped, holds-run, run-held}
 

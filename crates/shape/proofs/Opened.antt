@@ -16,7 +16,7 @@ use Rattle.records.specs.declared.Kind.the-variants as kind
 use Rattle.records.specs.declared.Head.{Head}
 use Rattle.document.specs.Document.{check}
 use Rattle.document.proofs.Walks.{Accepted-at, accepted-at-0, open-done, text-next, start-empty, start-room, start-next, end-empty, end-top, end-next}
-use Rattle.shape.specs.Steps.{OpenAt}
+use Rattle.shape.specs.InnerSteps.{OpenAt}
 
 -- at the start of an accepted document
 pub open-0 : (s x : List ℕ) → check s ≡ gives x → OpenAt s 0 0

@@ -17,7 +17,7 @@ use Rattle.records.specs.declared.Kind.{Kind}
 use Rattle.records.specs.declared.Kind.the-variants as kind
 use Rattle.records.specs.declared.Head.{Head}
 use Rattle.records.proofs.Tokens.{tokens-end}
-use Rattle.shape.specs.Steps.{Want, opens, refuses, inside, texts, closes, entered, left, step, go, stray, ahead, Leads, OpenAt, Walked}
+use Rattle.shape.specs.InnerSteps.{Want, opens, refuses, inside, texts, closes, entered, left, step, go, stray, ahead, Leads, OpenAt, Walked}
 use Rattle.shape.specs.declared.Way.{Way}
 use Rattle.shape.specs.declared.Way.the-variants as way
 

@@ -9,7 +9,7 @@ use Rattle.records.specs.declared.Kind.{Kind}
 use Rattle.records.specs.declared.Kind.the-variants as kind
 use Rattle.shape.specs.Shape.{around, Content, Holds}
 use Rattle.shape.specs.Shape as shape
-use Rattle.shape.specs.Steps.{Want, parts, pairs, inlines, body, texts, closes}
+use Rattle.shape.specs.InnerSteps.{Want, parts, pairs, inlines, body, texts, closes}
 use Rattle.shape.proofs.Blocks.{Fits, part, list, term, its-body, wrap}
 
 pub data Run : Want → List Kind → Want → Type 0 where
@@ -38,10 +38,10 @@ holds-run (shape.block-inline e h k) = wrapped (wrap e) (holds-run h) refl (hold
 
 -- a body that is due, and the pairs after it
 pub record Due (x : List Kind) : Type 0 where
-  pub held : List Kind
+  pub content : List Kind
   pub later : List Kind
-  pub listed : x ≡ around block.ItemBody held later
-  pub first : Holds shape.parts held
+  pub listed : x ≡ around block.ItemBody content later
+  pub first : Holds shape.parts content
   pub others : Holds shape.pairs later
 
 abbrev pub Held : Want → List Kind → Type 0
@@ -66,7 +66,7 @@ held-block : {w v u : Want} {b : Block} (x r : List Kind) → Fits w b v u → H
 held-block x r (part e) h k = shape.block-part e h k
 held-block x r list h k = shape.list-part h k
 held-block x r term h k = subst (λ (y : List Kind). Holds shape.pairs (around block.ItemTerm x y)) (sym (k .listed)) (shape.pair h (k .first) (k .others))
-held-block x r its-body h k = record { held = x; later = r; listed = refl; first = h; others = k }
+held-block x r its-body h k = record { content = x; later = r; listed = refl; first = h; others = k }
 held-block x r (wrap e) h k = shape.block-inline e h k
 
 pub run-held : {w w′ : Want} {x : List Kind} → Run w x w′ → closes w′ ≡ true → Held w x

@@ -1,4 +1,4 @@
 pub mod Shape
 pub mod Answers
-pub mod Steps
+pub mod InnerSteps
 pub mod Samples

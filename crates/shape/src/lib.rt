@@ -10,8 +10,9 @@ ghost use mathlib.Core.Path.{_≡_};
 ghost use Prim.Native.Nat.{_≤_};
 ghost use Rattle.shape.specs.Shape.{same, other, inline};
 ghost use Rattle.shape.specs.Answers.{TheAnswer, shapeOf};
-ghost use Rattle.shape.specs.Steps.{OpenAt, Walked};
-ghost use Rattle.shape.specs.Steps as want;
+ghost use Rattle.shape.specs.InnerSteps.{OpenAt, Walked};
+ghost use Rattle.shape.specs.InnerSteps as want;
+ghost use Rattle.document.specs.Document.{maxOpen};
 
 // Whether a document has the house shape, with the place of the first record that is out of place, or its refusal.
 pub enum Shape {
@@ -68,7 +69,7 @@ fn is_inline(b: Block) -> bool
 
 // What a term holds, from a place on.
 fn inlines(document: &[u8], from: usize, depth: usize) -> Way
-    requires { ⌜ (depth ≤ 32) × OpenAt (now document) from depth ⌝ }
+    requires { ⌜ (depth ≤ maxOpen) × OpenAt (now document) from depth ⌝ }
     ensures { λ r. ⌜ Walked (now (document .entry)) want.inlines depth from r ⌝ }
 {
     let mut at = from;
@@ -105,7 +106,7 @@ fn inlines(document: &[u8], from: usize, depth: usize) -> Way
 
 // Parts, from a place on: a list among them is checked by `pairs`.
 fn parts(document: &[u8], from: usize, depth: usize) -> Way
-    requires { ⌜ (depth ≤ 32) × OpenAt (now document) from depth ⌝ }
+    requires { ⌜ (depth ≤ maxOpen) × OpenAt (now document) from depth ⌝ }
     ensures { λ r. ⌜ Walked (now (document .entry)) want.parts depth from r ⌝ }
 {
     let mut at = from;
@@ -154,7 +155,7 @@ fn parts(document: &[u8], from: usize, depth: usize) -> Way
 
 // Pairs of a term and a body, from a place on: a body's parts are checked by `parts`.
 fn pairs(document: &[u8], from: usize, depth: usize) -> Way
-    requires { ⌜ (depth ≤ 32) × OpenAt (now document) from depth ⌝ }
+    requires { ⌜ (depth ≤ maxOpen) × OpenAt (now document) from depth ⌝ }
     ensures { λ r. ⌜ Walked (now (document .entry)) want.pairs depth from r ⌝ }
 {
     let mut at = from;

@@ -9,18 +9,18 @@ use Rattle.records.specs.Records.{index}
 use Rattle.records.specs.declared.Block.{Block}
 use Rattle.records.specs.declared.Block.the-variants as block
 use Rattle.skip.specs.Counter.{skipStart, skipEnd}
-use Rattle.skip.specs.Answers.{held}
+use Rattle.skip.specs.Answers.{newIfFits}
 
-held-same : (n : ℕ) → n ≡ held n n
-unfolding held
-held-same n = pick (λ (x : ℕ). n ≡ x) _ (λ _. refl) (λ _. refl)
+new-or-old-same : (n : ℕ) → n ≡ newIfFits n n
+unfolding newIfFits
+new-or-old-same n = pick (λ (x : ℕ). n ≡ x) _ (λ _. refl) (λ _. refl)
 
 module _ (b : Block) (n : ℕ) where
-  pub start-other : eqb (index b) 8 ≡ false → n ≡ held n (skipStart b n)
+  pub start-other : eqb (index b) 8 ≡ false → n ≡ newIfFits n (skipStart b n)
   unfolding skipStart if_then_else_
-  start-other h = rw h (held-same n)
+  start-other h = rw h (new-or-old-same n)
 
-  pub start-inline : (r : ℕ) → eqb (index b) 8 ≡ true → r ≡ held n (skipStart block.InlineBlock n) → r ≡ held n (skipStart b n)
+  pub start-inline : (r : ℕ) → eqb (index b) 8 ≡ true → r ≡ newIfFits n (skipStart block.InlineBlock n) → r ≡ newIfFits n (skipStart b n)
   unfolding skipStart
   start-inline r h k = rw h k
 

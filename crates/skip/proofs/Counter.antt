@@ -7,16 +7,16 @@ use Rattle.base.proofs.Choice.{pick, if-true, if-false}
 use Rattle.records.specs.declared.Block.{Block}
 use Rattle.records.specs.declared.Block.the-variants as block
 use Rattle.skip.specs.Counter.{skipStart, skipEnd}
-use Rattle.skip.specs.Answers.{held}
+use Rattle.skip.specs.Answers.{newIfFits}
 
 -- a number that fits is held
-pub held-fits : (old new : ℕ) → new < 2 ^ 64 → held old new ≡ new
-unfolding held
-held-fits old new h = if-true _ _ (lt-ltb new (2 ^ 64) h)
+pub new-fits : (old new : ℕ) → new < 2 ^ 64 → newIfFits old new ≡ new
+unfolding newIfFits
+new-fits old new h = if-true _ _ (lt-ltb new (2 ^ 64) h)
 
-pub held-over : (old new : ℕ) → 2 ^ 64 ≤ new → held old new ≡ old
-unfolding held
-held-over old new h = if-false _ _ (le-ltb new (2 ^ 64) h)
+pub old-stays : (old new : ℕ) → 2 ^ 64 ≤ new → newIfFits old new ≡ old
+unfolding newIfFits
+old-stays old new h = if-false _ _ (le-ltb new (2 ^ 64) h)
 
 -- one is added at most, and none taken but by an end
 pub skip-start-most : (b : Block) (n : ℕ) → skipStart b n ≤ n + 1
@@ -43,11 +43,11 @@ pop-one n = if-true _ _ refl
 
 -- and as the code holds them
 module _ (n : ℕ) where
-  pub pushes : 0 < n → n < 0xFFFF_FFFF_FFFF_FFFF → n + 1 ≡ held n (skipStart block.InlineBlock n)
-  pushes h k = sym (rw (push-over n h) (held-fits n (n + 1) (omega arith)))
+  pub pushes : 0 < n → n < 0xFFFF_FFFF_FFFF_FFFF → n + 1 ≡ newIfFits n (skipStart block.InlineBlock n)
+  pushes h k = sym (rw (push-over n h) (new-fits n (n + 1) (omega arith)))
 
-  pub pushes-no-further : 0 < n → 0xFFFF_FFFF_FFFF_FFFF ≤ n → n ≡ held n (skipStart block.InlineBlock n)
-  pushes-no-further h k = sym (rw (push-over n h) (held-over n (n + 1) (omega arith)))
+  pub pushes-no-further : 0 < n → 0xFFFF_FFFF_FFFF_FFFF ≤ n → n ≡ newIfFits n (skipStart block.InlineBlock n)
+  pushes-no-further h k = sym (rw (push-over n h) (old-stays n (n + 1) (omega arith)))
 
-  pub pushes-none : n ≤ 0 → n ≡ held n (skipStart block.InlineBlock n)
-  pushes-none h = sym (rw (push-none n h) (held-fits n n (omega arith)))
+  pub pushes-none : n ≤ 0 → n ≡ newIfFits n (skipStart block.InlineBlock n)
+  pushes-none h = sym (rw (push-none n h) (new-fits n n (omega arith)))

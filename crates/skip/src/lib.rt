@@ -2,7 +2,7 @@
 ghost use mathlib.Core.Path.{_≡_};
 ghost use Rattle.records.specs.declared.Block.the-variants as block;
 ghost use Rattle.skip.specs.Counter.{hides, skipParagraph, skipStart, skipEnd};
-ghost use Rattle.skip.specs.Answers.{held};
+ghost use Rattle.skip.specs.Answers.{newIfFits};
 ghost use Prim.Native.Nat.{_+_, _<_};
 ghost use lib.Dec.{eqb};
 ghost use Rattle.records.specs.Records.{index};
@@ -26,7 +26,7 @@ impl Skip {
 
     // The start of an InlineBlock.
     pub fn pushed(self) -> Skip
-        ensures { λ r. ⌜ r .0 ≡ held (self .0) (skipStart block.InlineBlock (self .0)) ⌝ }
+        ensures { λ r. ⌜ r .0 ≡ newIfFits (self .0) (skipStart block.InlineBlock (self .0)) ⌝ }
     {
         let n = self.0;
         if n > 0 {
@@ -53,7 +53,7 @@ impl Skip {
     }
 
     pub fn push(&mut self)
-        ensures { λ _. ⌜ now (self .exit) .0 ≡ held (now (self .entry) .0) (skipStart block.InlineBlock (now (self .entry) .0)) ⌝ }
+        ensures { λ _. ⌜ now (self .exit) .0 ≡ newIfFits (now (self .entry) .0) (skipStart block.InlineBlock (now (self .entry) .0)) ⌝ }
     {
         *self = self.pushed();
     }
@@ -75,7 +75,7 @@ pub fn enable_number(n: usize) -> usize
 }
 
 pub fn push_number(n: usize) -> usize
-    ensures { λ r. ⌜ r ≡ held n (skipStart block.InlineBlock n) ⌝ }
+    ensures { λ r. ⌜ r ≡ newIfFits n (skipStart block.InlineBlock n) ⌝ }
 {
     let mut skip = Skip(n);
     skip.push();
@@ -99,7 +99,7 @@ fn is_inline(b: Block) -> bool
 
 // The skip counter after the start of a block.
 pub fn skip_start(b: Block, n: usize) -> usize
-    ensures { λ r. ⌜ r ≡ held n (skipStart b n) ⌝ }
+    ensures { λ r. ⌜ r ≡ newIfFits n (skipStart b n) ⌝ }
 {
     if !is_inline(b) {
         return n;

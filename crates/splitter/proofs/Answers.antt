@@ -12,8 +12,8 @@ use Rattle.base.specs.Choice.{if_then_else_}
 use Rattle.base.specs.Bytes.{part, startsWith}
 use Rattle.splitter.specs.Split.{Chunk, raw, paragraph, lineBreak, line, word, ticks, four, isLineEnd}
 use Rattle.splitter.specs.Split.{Step, afterLineEnd, ticked, step, stripped}
-use Rattle.splitter.specs.Answers.{pieceAt, answer, firstChunk, placedOf, cursor, placedFrom, textOf, PieceWithin, Within}
-use Rattle.splitter.specs.Parts.{Follows, wordFrom}
+use Rattle.splitter.specs.Answers.{pieceAt, answer, firstChunk, placedOf, cursor, placedFrom, pieceText, PieceWithin, Within}
+use Rattle.splitter.specs.InnerParts.{Follows, wordFrom}
 use Rattle.splitter.specs.declared.Code.{Code}
 use Rattle.splitter.specs.declared.Code.the-variants as code
 use Rattle.splitter.specs.declared.Cursor.{Cursor}
@@ -238,5 +238,5 @@ module _ (body : List ℕ) (c : Cursor) (r : Answer) where
   ended e a = let b : Answered body c Done = rw e at a in placed-done body c (b .0)
 
 -- The text of a piece
-pub text-raw : (body : List ℕ) (from to width : ℕ) (p : Piece) → p ≡ Raw from to width → part body from to ≡ textOf body p
+pub text-raw : (body : List ℕ) (from to width : ℕ) (p : Piece) → p ≡ Raw from to width → part body from to ≡ pieceText body p
 text-raw body from to width p e = rw e

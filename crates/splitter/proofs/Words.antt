@@ -8,7 +8,7 @@ use native.Mathlib.Omega.{arith}
 use Rattle.utf8.specs.Utf8.{characters}
 use Rattle.utf8.proofs.Laws.{adds, adds-by, adds-not}
 use Rattle.splitter.specs.Split.{word, isLineEndOrSpace}
-use Rattle.splitter.specs.Parts.{wordFrom}
+use Rattle.splitter.specs.InnerParts.{wordFrom}
 use Rattle.splitter.proofs.Before.{before-stop, before-go, before-none}
 
 -- the word from `at` on is read up to `to`, with so many characters

@@ -6,7 +6,7 @@ use lib.Dec.{eqb, leb}
 use lib.ListN.{length, drop}
 use Rattle.base.specs.Bytes.{part}
 use Rattle.base.specs.Choice.{if_then_else_}
-use Rattle.splitter.specs.Split.{Chunk, raw, paragraph, lineBreak, isSpace, step, Placed, placed}
+use Rattle.splitter.specs.Split.{Chunk, raw, paragraph, lineBreak, isSpace, step, Placed, placed, chunkTickedCode}
 use Rattle.splitter.specs.Split as rules
 use Rattle.splitter.specs.declared.Code.{Code}
 use Rattle.splitter.specs.declared.Code.the-variants as code
@@ -56,11 +56,11 @@ abbrev pub placedOf : List ℕ → Piece → Placed
 placedOf body p = record { place = placeOf p; chunk = chunkOf body p }
 
 -- the bytes of a piece: 'A word or line is handed back as a part of that body'; the other pieces have none there
-abbrev pub textOf : List ℕ → Piece → List ℕ
-textOf body (Raw from to width) = part body from to
-textOf body (Space at) = []
-textOf body (Paragraph at) = []
-textOf body (LineBreak at) = []
+abbrev pub pieceText : List ℕ → Piece → List ℕ
+pieceText body (Raw from to width) = part body from to
+pieceText body (Space at) = []
+pieceText body (Paragraph at) = []
+pieceText body (LineBreak at) = []
 
 -- the chunks of a body from a cursor on
 abbrev pub placedFrom : List ℕ → Cursor → List Placed
@@ -69,7 +69,7 @@ placedFrom body c = placed (c .at) (c .code) 0 (drop (c .at) body)
 -- Bounds that follow from the rules, for callers to do sums with: a piece lies within the body, and its width is at most the body's length past
 -- 1,000,001
 abbrev pub PieceWithin : ℕ → Piece → Type 0
-PieceWithin n (Raw from to width) = (from ≤ to) × (to ≤ n) × (width ≤ n + 1_000_001)
+PieceWithin n (Raw from to width) = (from ≤ to) × (to ≤ n) × (width ≤ n + chunkTickedCode)
 PieceWithin n (Space at) = at < n
 PieceWithin n (Paragraph at) = at < n
 PieceWithin n (LineBreak at) = at < n

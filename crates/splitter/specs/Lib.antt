@@ -1,3 +1,3 @@
 pub mod Split
 pub mod Answers
-pub mod Parts
+pub mod InnerParts

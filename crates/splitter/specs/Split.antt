@@ -17,6 +17,14 @@ pub data Chunk : Type 0 where
   paragraph : Chunk
   lineBreak : Chunk
 
+-- the source's `Chunk::CODE`: 'a code line, width 1,000,000'
+abbrev pub chunkCode : ℕ
+chunkCode = 1_000_000
+
+-- the source's `Chunk::TICKED_CODE`: 'In ticks each line is a chunk of width 1,000,001'
+abbrev pub chunkTickedCode : ℕ
+chunkTickedCode = 1_000_001
+
 -- the bytes before the first that passes a test
 unfoldable pub before : (ℕ → Bool) → List ℕ → List ℕ
 before stop [] = []
@@ -65,7 +73,7 @@ pub record Step : Type 0 where
 -- A code line begins after the `\n` and the four spaces; 'a paragraph, a break or a line end's space begins at its first line end'.
 unfoldable pub afterLineEnd : List ℕ → Step
 afterLineEnd s =
-    if startsWith four s then record { chunk = raw (line (drop 4 s)) 1_000_000; begins = 5; used = 5 + length (line (drop 4 s)); code = code.No } else
+    if startsWith four s then record { chunk = raw (line (drop 4 s)) chunkCode; begins = 5; used = 5 + length (line (drop 4 s)); code = code.No } else
     if startsWith (0x0A ∷ ticks) s then record { chunk = paragraph; begins = 0; used = 2; code = code.First } else
     if startsWith (0x0A ∷ four) s then record { chunk = paragraph; begins = 0; used = 1; code = code.No } else
     if startsWith (0x0A ∷ []) s then record { chunk = paragraph; begins = 0; used = 2; code = code.No } else
@@ -75,7 +83,7 @@ afterLineEnd s =
 -- 'In ticks each line is a chunk of width 1,000,001, empty lines included; .. the last, and its `\n` is kept if two follow.'
 unfoldable pub ticked : Bool → List ℕ → Step
 ticked last s = record {
-  chunk = raw (line s) 1_000_001;
+  chunk = raw (line s) chunkTickedCode;
   begins = 0;
   used = if last && startsWith (0x0A ∷ 0x0A ∷ []) (drop (length (line s)) s) then length (line s) else length (line s) + 1;
   code = if last then code.No else code.Rest;

@@ -4,10 +4,16 @@ ghost use mathlib.Core.Bool.{false};
 ghost use Prim.Native.Nat.{_+_, _<_};
 ghost use lib.ListN.{length, drop};
 ghost use Rattle.splitter.specs.Split.{line, step, stripped, ticked as tickedLine, afterLineEnd};
-ghost use Rattle.splitter.specs.Answers.{cursor, answer, firstChunk, placeOf, textOf, Within};
-ghost use Rattle.splitter.specs.Parts.{Follows, wordFrom};
+ghost use Rattle.splitter.specs.Answers.{cursor, answer, firstChunk, placeOf, pieceText, Within};
+ghost use Rattle.splitter.specs.InnerParts.{Follows, wordFrom};
 ghost use Rattle.splitter.specs.declared.Code.the-variants as code;
 ghost use Rattle.splitter.specs.declared.Step.the-variants.{Take};
+
+// The width of a code line: the source's `Chunk::CODE`.
+pub const CODE: usize = 1_000_000;
+
+// The width of a line in ticks: the source's `Chunk::TICKED_CODE`.
+pub const TICKED_CODE: usize = 1_000_001;
 
 // Whether a place in a body is in ticks: outside them, at their first line, at a later one.
 pub enum Code {
@@ -104,11 +110,11 @@ fn ticked(body: &[u8], at: usize, last: bool) -> Step
     let next = to + 1;
     if last {
         if base::starts_with(body, to, b"\n\n") {
-            return found(Piece::Raw(at, to, 1_000_001), to, Code::No);
+            return found(Piece::Raw(at, to, TICKED_CODE), to, Code::No);
         }
-        return found(Piece::Raw(at, to, 1_000_001), next, Code::No);
+        return found(Piece::Raw(at, to, TICKED_CODE), next, Code::No);
     }
-    found(Piece::Raw(at, to, 1_000_001), next, Code::Rest)
+    found(Piece::Raw(at, to, TICKED_CODE), next, Code::Rest)
 }
 
 // The text after a prefix, all of it if the prefix isn't there. A prefix of some bytes was there if the part is shorter than the text, as the
@@ -132,7 +138,7 @@ fn after_line_end(body: &[u8], start: usize, tail: &[u8]) -> Step
     if code.len() < tail.len() {
         let from = body.len() - code.len();
         let to = line_end(body, from);
-        return found(Piece::Raw(from, to, 1_000_000), to, Code::No);
+        return found(Piece::Raw(from, to, CODE), to, Code::No);
     }
     if base::starts_with(tail, 0, b"\n```") {
         return found(Piece::Paragraph(start), at + 1, Code::First);
@@ -198,7 +204,7 @@ pub fn step_at(body: &[u8], c: Cursor) -> Step
 
 // The part of a body that a word or a line is; nothing for the other pieces.
 pub fn text_of<'a>(body: &'a [u8], p: Piece) -> &'a [u8]
-    ensures { λ r. ⌜ now r ≡ textOf (now (body .entry)) p ⌝ }
+    ensures { λ r. ⌜ now r ≡ pieceText (now (body .entry)) p ⌝ }
 {
     match p {
         Piece::Raw(from, to, _) => base::get(body, from, to),

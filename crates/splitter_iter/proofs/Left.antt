@@ -11,7 +11,7 @@ use Rattle.splitter.specs.declared.Code.{Code}
 use Rattle.splitter.specs.declared.Step.{Step}
 use Rattle.splitter.specs.declared.Step.the-variants.{Take, Done}
 use Rattle.splitter.proofs.Steps.{placed-take, placed-done}
-use Rattle.splitter_iter.specs.Held.{bodyOf, standing, left, hasChunk}
+use Rattle.splitter_iter.specs.InnerStruct.{bodyOf, cursorOf, left, hasChunk}
 use Rattle.splitter_iter.specs.declared.Splitter.{Splitter}
 use Rattle.splitter_iter.proofs.Lent.{Said}
 
@@ -27,10 +27,10 @@ split-few body = placed-few 0 _ 0 body
 
 -- after a chunk there is one less
 pub one-less : (h : Splitter) (r : Step) (z : Splitter) → Said h r z → T (hasChunk r) → length (left h) ≡ length (left z) + 1
-one-less h (Take p d) z e t = omega (arith, ap length (placed-take (bodyOf h) (standing h) p d (e .0)), ap (λ (y : Splitter). length (left y)) (e .1))
+one-less h (Take p d) z e t = omega (arith, ap length (placed-take (bodyOf h) (cursorOf h) p d (e .0)), ap (λ (y : Splitter). length (left y)) (e .1))
 one-less h Done z e t = absurd t
 
 -- where a step gives none, none is left
 pub none-left : (h : Splitter) (r : Step) (z : Splitter) → Said h r z → T (not (hasChunk r)) → length (left h) ≡ 0
 none-left h (Take p d) z e t = absurd t
-none-left h Done z e t = ap length (placed-done (bodyOf h) (standing h) (e .0))
+none-left h Done z e t = ap length (placed-done (bodyOf h) (cursorOf h) (e .0))

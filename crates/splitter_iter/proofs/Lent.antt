@@ -8,7 +8,7 @@ use Rattle.proof_kit.proofs.Kit.{fsplit, fjoin, frame, await, done, Opds, Body,
 use Rattle.proof_kit.proofs.Kit.{MutRef, NamedLft, now, peeks, heard, nothing, Contract, Triple, calls-at, ensured, lasts, tripleOf}
 use mir.Syntax.{named, erased, Place, Opd as Operand, Body as Code, seq, call}
 use Rattle.splitter.specs.Answers.{firstChunk}
-use Rattle.splitter_iter.specs.Held.{splitter, bodyOf, standing, afterStep}
+use Rattle.splitter_iter.specs.InnerStruct.{splitter, bodyOf, cursorOf, afterStep}
 use Rattle.splitter_iter.specs.declared.Splitter.{Splitter}
 use Rattle.splitter.specs.declared.Step.{Step}
 use Rattle.splitter_iter.proofs.Parts as P
@@ -30,7 +30,7 @@ Next 𝓤 H A mem run = tripleOf 𝓤 H A next.signature (next.spec 𝓤 H A mem
 
 -- what `next` says, of the struct before and after it and of its answer
 abbrev pub Said : Splitter → Step → Splitter → Type 0
-Said h r z = (r ≡ firstChunk (bodyOf h) (standing h)) × (z ≡ splitter (h .input) (afterStep r (standing h)))
+Said h r z = (r ≡ firstChunk (bodyOf h) (cursorOf h)) × (z ≡ splitter (h .input) (afterStep r (cursorOf h)))
 
 module _ {M : Type 1} (𝓤 : URA M) (H : Heap 𝓤) (A : Atoms 𝓤) (W : Given 𝓤 H A) (at-mem : Memory → SProp 𝓤) (run : Routine → Fun 𝓤) (κ : Lft)
     (q : Share) (h : Splitter) (l ν : ℕ) (γ : GName) where

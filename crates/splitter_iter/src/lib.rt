@@ -4,7 +4,7 @@ ghost use mathlib.Core.Path.{_≡_};
 ghost use lib.ListN.{length};
 ghost use Rattle.splitter.specs.Split.{split as splitOf};
 ghost use Rattle.splitter.specs.Answers.{start, firstChunk};
-ghost use Rattle.splitter_iter.specs.Held.{splitter as held, bodyOf, standing, left, afterStep, hasChunk};
+ghost use Rattle.splitter_iter.specs.InnerStruct.{splitter as splitterAt, bodyOf, cursorOf, left, afterStep, hasChunk};
 use splitter::Code;
 use splitter::Cursor;
 use splitter::Step;
@@ -28,7 +28,7 @@ fn after(t: Step, c: Cursor) -> Cursor
 
 // The splitter before a body's first chunk: all of the body's chunks are left.
 pub fn split<'a>(input: &'a [u8]) -> Splitter<'a>
-    ensures { λ r. ⌜ (r ≡ held (input .entry) start) × (left r ≡ splitOf (now (input .entry))) ⌝ }
+    ensures { λ r. ⌜ (r ≡ splitterAt (input .entry) start) × (left r ≡ splitOf (now (input .entry))) ⌝ }
 {
     Splitter {
         input,
@@ -40,8 +40,8 @@ pub fn split<'a>(input: &'a [u8]) -> Splitter<'a>
 impl<'a> Splitter<'a> {
     // The first chunk that is left, with its place in the body; it is then no longer left.
     pub fn next(&mut self) -> Step
-        ensures { λ r. ⌜ (r ≡ firstChunk (bodyOf (now (self .entry))) (standing (now (self .entry))))
-            × (now (self .exit) ≡ held (now (self .entry) .input) (afterStep r (standing (now (self .entry))))) ⌝ }
+        ensures { λ r. ⌜ (r ≡ firstChunk (bodyOf (now (self .entry))) (cursorOf (now (self .entry))))
+            × (now (self .exit) ≡ splitterAt (now (self .entry) .input) (afterStep r (cursorOf (now (self .entry))))) ⌝ }
     {
         let c = Cursor {
             at: self.at,

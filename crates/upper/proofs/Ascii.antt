@@ -7,7 +7,7 @@ use Rattle.base.specs.Choice.{if_then_else_}
 use Rattle.base.proofs.Bytes.{all, all-at}
 use Rattle.upper.specs.Table.{Entry, table}
 use Rattle.upper.specs.Upper.{entryOf, mapsTo, asciiUpper}
-use Rattle.upper.specs.Parts.{below}
+use Rattle.upper.specs.InnerParts.{below}
 use Rattle.upper.proofs.Tables.{entry-below}
 use Rattle.upper.proofs.Whole.{whole}
 use Rattle.upper.proofs.Columns.{same, same-eq}

@@ -13,8 +13,8 @@ use Rattle.base.specs.Choice.{if_then_else_, among}
 use Rattle.base.proofs.Choice.{if-true, if-false, and-left, and-right, and-both}
 use Rattle.upper.specs.Table.{Entry, table}
 use Rattle.upper.specs.Upper.{from, to, entryOf, mapsTo, ascending, inOrder}
-use Rattle.upper.specs.Parts.{single, codes, near, far, nearFromColumn, nearToColumn, longerColumn, farFromColumn, farToColumn, fromColumn}
-use Rattle.upper.specs.Parts.{toColumn, Columns, NearColumns, FarColumns, Found, threeAt}
+use Rattle.upper.specs.InnerParts.{single, codes, near, far, nearFromColumn, nearToColumn, longerColumn, farFromColumn, farToColumn, fromColumn}
+use Rattle.upper.specs.InnerParts.{toColumn, Columns, NearColumns, FarColumns, Found, threeAt}
 use Rattle.upper.proofs.Tables.{none, is-before, rest-in-order, in-order, each-entry, no-entry, below-order, beyond-order, entry-below, entry-beyond}
 use Rattle.upper.proofs.Whole.{whole}
 

@@ -11,7 +11,7 @@ use Rattle.utf8.specs.Utf8.{utf8, encodeAll, characterAt}
 use Rattle.utf8.specs.declared.Decoded.the-variants.{Char, Nothing}
 use Rattle.utf8.proofs.Characters.{read-character, no-character}
 use Rattle.upper.specs.Upper.{mapsTo, upper}
-use Rattle.upper.specs.Parts.{Wrote, UppercasedAt}
+use Rattle.upper.specs.InnerParts.{Wrote, UppercasedAt}
 use Rattle.upper.specs.declared.Uppercased.{Uppercased}
 use Rattle.upper.proofs.Text.{upper-step}
 

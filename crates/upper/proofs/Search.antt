@@ -11,7 +11,7 @@ use lib.ListN.{length, getD}
 use borrow.Author.Tests.{ltb-true}
 use Rattle.base.proofs.Choice.{and-left, and-right, le-or-lt}
 use Rattle.upper.specs.Upper.{under, ascending}
-use Rattle.upper.specs.Parts.{Found}
+use Rattle.upper.specs.InnerParts.{Found}
 
 first-least : (x : ℕ) (xs : List ℕ) → ascending (x ∷ xs) ≡ true → (j : ℕ) → j < length xs → x < getD xs j 0
 first-least x [] e j h = absurd (not-suc-le-zero h)

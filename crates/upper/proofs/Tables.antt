@@ -13,7 +13,7 @@ use Rattle.base.proofs.Choice.{if-true, if-false, pick, and-left, and-right, an
 use Rattle.utf8.specs.Utf8.{scalar}
 use Rattle.upper.specs.Table.{Entry, _becomes_}
 use Rattle.upper.specs.Upper.{from, to, entryOf, under, ascending, scalars, proper, inOrder}
-use Rattle.upper.specs.Parts.{below, beyond}
+use Rattle.upper.specs.InnerParts.{below, beyond}
 use Rattle.upper.proofs.Search.{ascends}
 
 -- stands for the entry past the end of a table

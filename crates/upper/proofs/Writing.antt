@@ -11,7 +11,7 @@ use borrow.Author.Tests.{lt-ltb, le-ltb, ltb-true, leb-true, eq-eqb, ne-eqb}
 use Rattle.base.specs.Choice.{if_then_else_, among}
 use Rattle.base.proofs.Choice.{and-right}
 use Rattle.utf8.specs.Utf8.{encode, encodeAll, scalar}
-use Rattle.upper.specs.Parts.{charactersOf, Wrote}
+use Rattle.upper.specs.InnerParts.{charactersOf, Wrote}
 use Rattle.upper.specs.declared.Mapped.{Mapped}
 
 -- bytes, and then some more

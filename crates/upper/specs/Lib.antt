@@ -1,3 +1,3 @@
 pub mod Table
 pub mod Upper
-pub mod Parts
+pub mod InnerParts

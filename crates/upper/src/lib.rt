@@ -5,7 +5,7 @@ ghost use Prim.Native.Nat.{_<_, _≤_, _+_, _%_};
 ghost use lib.ListN.{length};
 ghost use Rattle.utf8.specs.Utf8.{encodeAll};
 ghost use Rattle.upper.specs.Upper.{mapsTo, asciiUpper};
-ghost use Rattle.upper.specs.Parts.{fromColumn, toColumn, longerColumn, farToColumn, NearColumns, FarColumns, Columns, Found, Points, charactersOf, threeAt, bytesOf, EncodedAs, Wrote, UppercasedAt};
+ghost use Rattle.upper.specs.InnerParts.{fromColumn, toColumn, longerColumn, farToColumn, NearColumns, FarColumns, Columns, Found, Points, charactersOf, threeAt, bytesOf, EncodedAs, Wrote, UppercasedAt};
 
 mod table;
 

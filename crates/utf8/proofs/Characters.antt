@@ -13,7 +13,7 @@ use lib.ListN.{length, getD, drop, take, take-append-drop, length-drop, drop-of-
 use lib.Seq.{drop-cons, drop-drop, getD-drop}
 use Rattle.base.specs.Choice.{if_then_else_}
 use Rattle.base.proofs.Choice.{eq-or-not, and-left, and-right, if-true, if-false}
-use Rattle.utf8.specs.Utf8.{Range, within, rowOf, begins, sizeOf, fits, utf8, emit, decodeFrom, decode, encode, scalar, firstOf, characterAt}
+use Rattle.utf8.specs.Utf8.{Range, within, rowOf, begins, sizeOf, wellFormed, utf8, emit, decodeFrom, decode, encode, scalar, firstOf, characterAt}
 use Rattle.utf8.specs.declared.Decoded.the-variants.{Char, Nothing}
 use Rattle.utf8.proofs.Laws.{size-next, size-stop, size-yes, due-1}
 use Rattle.utf8.proofs.Text.{Valid, decode-append, row-follows, follows, follow, follows-rest}
@@ -26,7 +26,7 @@ joined c (x ∷ xs) = joined (c * 64 + (x - 0x80)) xs
 
 -- bytes that are due are read to one code point
 due-one : (due : List Range) (c : ℕ) (t : List ℕ) → begins due t ≡ true
-    → (fits due (take (length due) t) ≡ true) × (emit due c (decodeFrom due c (take (length due) t)) ≡ joined c (take (length due) t) ∷ [])
+    → (wellFormed due (take (length due) t) ≡ true) × (emit due c (decodeFrom due c (take (length due) t)) ≡ joined c (take (length due) t) ∷ [])
 due-one [] c t e = (refl, refl)
 due-one (r ∷ due) c [] e = absurd (false≢true e)
 due-one (r ∷ due) c (x ∷ t) e =

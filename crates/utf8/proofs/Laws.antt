@@ -15,8 +15,8 @@ use borrow.Author.Tests.{le-leb, lt-leb}
 use lib.Seq.{drop-cons, drop-drop}
 use Rattle.base.specs.Choice.{if_then_else_}
 use Rattle.base.proofs.Choice.{le-or-lt, and-right}
-use Rattle.utf8.specs.Utf8.{Range, _to_, within, continues, table, rowOf, fits, characters, never, begins, sizeOf}
-use Rattle.utf8.specs.Parts.{AtMost}
+use Rattle.utf8.specs.Utf8.{Range, _to_, within, continues, table, rowOf, wellFormed, characters, never, begins, sizeOf}
+use Rattle.utf8.specs.InnerParts.{AtMost}
 
 pub count-step : (s : List ℕ) (i : ℕ) → i < length s
     → characters (drop i s) ≡ (if continues (getD s i 0) then 0 else 1) + characters (drop (i + 1) s)
@@ -63,7 +63,7 @@ pub split-false : (r : Range) (rs : List Range) (s : List ℕ) (at : ℕ) {x : B
 split-false r rs s at p e = cc (begins-split r rs s at)
 
 -- what is due, and then whole characters
-pub fits-begins : (rs : List Range) (t : List ℕ) → fits rs t ≡ (begins rs t && fits [] (drop (length rs) t))
+pub fits-begins : (rs : List Range) (t : List ℕ) → wellFormed rs t ≡ (begins rs t && wellFormed [] (drop (length rs) t))
 fits-begins [] t = refl
 fits-begins (r ∷ rs) [] = refl
 fits-begins (r ∷ rs) (b ∷ t) = ap (λ (x : Bool). within b r && x) (fits-begins rs t) ∙ sym (and-assoc (within b r) (begins rs t) _)
@@ -102,14 +102,14 @@ ranged e f g = rw (f, g, e)
 -- a text goes on after its first character, or is none
 pub record Next (t : List ℕ) (k : ℕ) : Type 0 where
   pub room : k ≤ length t
-  pub rest : fits [] t ≡ fits [] (drop k t)
+  pub rest : wellFormed [] t ≡ wellFormed [] (drop k t)
 
-pub size-stop : (t : List ℕ) → 0 < length t → sizeOf t ≡ 0 → fits [] t ≡ false
+pub size-stop : (t : List ℕ) → 0 < length t → sizeOf t ≡ 0 → wellFormed [] t ≡ false
 unfolding if_then_else_ sizeOf
 size-stop [] h e = absurd (not-suc-le-zero h)
 size-stop (b ∷ t) h e = fits-begins (rowOf b .after) t ∙ go (begins (rowOf b .after) t) e
   where
-    go : (x : Bool) → if x then suc (length (rowOf b .after)) else 0 ≡ 0 → (x && fits [] (drop (length (rowOf b .after)) t)) ≡ false
+    go : (x : Bool) → if x then suc (length (rowOf b .after)) else 0 ≡ 0 → (x && wellFormed [] (drop (length (rowOf b .after)) t)) ≡ false
     go true q = let z : ⊥ = omega arith in absurd z
     go false q = refl
 
@@ -228,7 +228,7 @@ module _ (a : ℕ) where
 
 pub record Went (s : List ℕ) (i k : ℕ) : Type 0 where
   pub within-s : i + k ≤ length s
-  pub same : fits [] (drop i s) ≡ fits [] (drop (i + k) s)
+  pub same : wellFormed [] (drop i s) ≡ wellFormed [] (drop (i + k) s)
 
 pub next-at : (s : List ℕ) (i : ℕ) {k : ℕ} → i < length s → k ≡ sizeOf (drop i s) → (k ≡ 0 → ⊥)
     → Went s i k
@@ -237,10 +237,10 @@ next-at s i {k} h e n =
     let l : k ≤ length (drop i s) = rw e (r .room) in
     record { within-s = omega (arith, l, length-drop i s); same = r .rest ∙ rw (← e, drop-drop) }
 
-pub stop-at : (s : List ℕ) (i : ℕ) {k : ℕ} → i < length s → k ≡ sizeOf (drop i s) → k ≡ 0 → false ≡ fits [] (drop i s)
+pub stop-at : (s : List ℕ) (i : ℕ) {k : ℕ} → i < length s → k ≡ sizeOf (drop i s) → k ≡ 0 → false ≡ wellFormed [] (drop i s)
 stop-at s i h e z = sym (size-stop (drop i s) (omega (arith, length-drop i s)) (sym e ∙ z))
 
-pub one-at : (s : List ℕ) (i : ℕ) → i < length s → getD s i 0 < 0x80 → fits [] (drop i s) ≡ fits [] (drop (i + 1) s)
+pub one-at : (s : List ℕ) (i : ℕ) → i < length s → getD s i 0 < 0x80 → wellFormed [] (drop i s) ≡ wellFormed [] (drop (i + 1) s)
 one-at s i h l = next-at s i h (size-yes s i [] h (due-1 _ l) refl refl) (λ z. omega arith) .same
 
 -- the blocks
@@ -250,13 +250,13 @@ most-more s a i m n h l g = below-more (λ k. getD s (a + k) 0 ≤ n) i (λ k q.
 
 -- a run of ASCII
 pub ascii-run : (s : List ℕ) (i n : ℕ) → i + n ≤ length s → ((k : ℕ) → k < n → getD s (i + k) 0 < 0x80)
-    → fits [] (drop i s) ≡ fits [] (drop (i + n) s)
+    → wellFormed [] (drop i s) ≡ wellFormed [] (drop (i + n) s)
 ascii-run s i zero h l = rw add-zero
 ascii-run s i (suc n) h l =
     let q : i + n + 1 ≡ i + suc n = omega arith in
-    ascii-run s i n (omega arith) (λ k g. l k (omega arith)) ∙ one-at s (i + n) (omega arith) (l n (omega arith)) ∙ ap (λ (k : ℕ). fits [] (drop k s)) q
+    ascii-run s i n (omega arith) (λ k g. l k (omega arith)) ∙ one-at s (i + n) (omega arith) (l n (omega arith)) ∙ ap (λ (k : ℕ). wellFormed [] (drop k s)) q
 
-pub block-run : (s : List ℕ) (i m : ℕ) → i + 64 ≤ length s → AtMost s i 64 m → m < 0x80 → fits [] (drop i s) ≡ fits [] (drop (i + 64) s)
+pub block-run : (s : List ℕ) (i m : ℕ) → i + 64 ≤ length s → AtMost s i 64 m → m < 0x80 → wellFormed [] (drop i s) ≡ wellFormed [] (drop (i + 64) s)
 block-run s i m h t l = ascii-run s i 64 h (λ k g. let w = t .each k g in omega arith)
 
 -- a byte shifted by 6 tells whether it starts a character

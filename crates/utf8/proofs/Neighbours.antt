@@ -15,9 +15,9 @@ use lib.Seq.{drop-cons, drop-length}
 use borrow.Author.Tests.{le-leb, lt-leb, lt-ltb, le-ltb, ne-eqb, leb-true, leb-false}
 use Rattle.base.specs.Choice.{if_then_else_, among}
 use Rattle.base.proofs.Choice.{pick, le-or-lt, eq-or-not, and-left, and-right, and-both, if-true, if-false, same-test, not-passed}
-use Rattle.utf8.specs.Utf8.{Range, _to_, within, rowOf, never, fits, utf8}
-use Rattle.utf8.specs.Neighbours.{asks, low, high, starts, beside, sound}
-use Rattle.utf8.specs.Parts.{AtMost, Ascii, soundAt, Sure, Passed, Begun}
+use Rattle.utf8.specs.Utf8.{Range, _to_, within, rowOf, never, wellFormed, utf8}
+use Rattle.utf8.specs.InnerNeighbours.{asks, low, high, starts, beside, sound}
+use Rattle.utf8.specs.InnerParts.{AtMost, Ascii, soundAt, Sure, Passed, Begun}
 use Rattle.utf8.proofs.Laws.{tail, begins-never, fits-begins, ascii-run, block-run}
 use Rattle.utf8.proofs.Laws.{due-1, due-none, due-over, due-2, due-E0, due-ED, due-3, due-F0, due-F4, due-4}
 
@@ -95,7 +95,7 @@ beside-start : (r q p b : ℕ) → asks r q p ≡ false → beside r q p b ≡ s
 unfolding beside
 beside-start r q p b e = if-false (among (low p) (high p) b) (starts b) e
 
-never-fits : (s : List ℕ) → fits (never .after) s ≡ false
+never-fits : (s : List ℕ) → wellFormed (never .after) s ≡ false
 never-fits s = fits-begins (never .after) s ∙ rw (← begins-never s)
 
 starts-ascii : (b : ℕ) → b < 0x80 → starts b ≡ true
@@ -111,19 +111,19 @@ starts-over : (b : ℕ) → 0xF5 ≤ b → starts b ≡ false
 starts-over b h = rw (le-ltb b 0x80 (omega arith), le-leb 0xC2 b (omega arith), lt-leb b 0xF4 h)
 
 -- the first byte of a character, and what is due after it
-module _ (r q p b : ℕ) (s : List ℕ) (n : Due r q p []) (rest : (due : List Range) → Due q p b due → fits due s ≡ sound q p b s) where
-  begins-with : (due : List Range) → rowOf b .after ≡ due → starts b ≡ true → Due q p b due → fits (rowOf b .after) s ≡ (beside r q p b && sound q p b s)
+module _ (r q p b : ℕ) (s : List ℕ) (n : Due r q p []) (rest : (due : List Range) → Due q p b due → wellFormed due s ≡ sound q p b s) where
+  begins-with : (due : List Range) → rowOf b .after ≡ due → starts b ≡ true → Due q p b due → wellFormed (rowOf b .after) s ≡ (beside r q p b && sound q p b s)
   begins-with due e f d = rw (e, beside-start r q p b (asks-none r q p (n .0) (n .1) (n .2)), f) (rest due d)
 
-  begins-not : rowOf b .after ≡ never .after → starts b ≡ false → fits (rowOf b .after) s ≡ (beside r q p b && sound q p b s)
+  begins-not : rowOf b .after ≡ never .after → starts b ≡ false → wellFormed (rowOf b .after) s ≡ (beside r q p b && sound q p b s)
   begins-not e f = rw (e, beside-start r q p b (asks-none r q p (n .0) (n .1) (n .2)), f) (never-fits s)
 
   -- a first byte of three: after 0xE0 and 0xED the range is narrowed
-  pair : (x : Range) → rowOf b .after ≡ x ∷ tail → x ≡ low b to high b → 0xE0 ≤ b → b < 0xF0 → fits (rowOf b .after) s ≡ (beside r q p b && sound q p b s)
+  pair : (x : Range) → rowOf b .after ≡ x ∷ tail → x ≡ low b to high b → 0xE0 ≤ b → b < 0xF0 → wellFormed (rowOf b .after) s ≡ (beside r q p b && sound q p b s)
   pair x e f g h =
       begins-with (x ∷ tail) e (starts-more b (omega arith) (omega arith)) (two-due q p b x (asks-p q p b (omega arith)) (λ c. asks-q p b c g) h f)
 
-  starts-three : 0xE0 ≤ b → b < 0xF0 → fits (rowOf b .after) s ≡ (beside r q p b && sound q p b s)
+  starts-three : 0xE0 ≤ b → b < 0xF0 → wellFormed (rowOf b .after) s ≡ (beside r q p b && sound q p b s)
   unfolding if_then_else_ low high
   starts-three g h =
       ⊎-elim (λ (e : b ≡ 0xE0). pair _ (due-E0 b e) (after-is b 0xE0 e) g h)
@@ -134,10 +134,10 @@ module _ (r q p b : ℕ) (s : List ℕ) (n : Due r q p []) (rest : (due : List R
 
   -- one of four: after 0xF0 and 0xF4
   triple : (x : Range) → rowOf b .after ≡ x ∷ 0x80 to 0xBF ∷ tail → x ≡ low b to high b → 0xF0 ≤ b → b < 0xF5
-      → fits (rowOf b .after) s ≡ (beside r q p b && sound q p b s)
+      → wellFormed (rowOf b .after) s ≡ (beside r q p b && sound q p b s)
   triple x e f g h = begins-with (x ∷ 0x80 to 0xBF ∷ tail) e (starts-more b (omega arith) h) (three-due q p b x g f)
 
-  starts-four : 0xF0 ≤ b → b < 0xF5 → fits (rowOf b .after) s ≡ (beside r q p b && sound q p b s)
+  starts-four : 0xF0 ≤ b → b < 0xF5 → wellFormed (rowOf b .after) s ≡ (beside r q p b && sound q p b s)
   unfolding if_then_else_ low high
   starts-four g h =
       ⊎-elim (λ (e : b ≡ 0xF0). triple _ (due-F0 b e) (after-is b 0xF0 e) g h)
@@ -147,7 +147,7 @@ module _ (r q p b : ℕ) (s : List ℕ) (n : Due r q p []) (rest : (due : List R
       (eq-or-not b 0xF0)
 
   -- by the lines of table 3-7
-  first-byte : fits (rowOf b .after) s ≡ (beside r q p b && sound q p b s)
+  first-byte : wellFormed (rowOf b .after) s ≡ (beside r q p b && sound q p b s)
   first-byte =
       below 0x80 (λ h. begins-with [] (due-1 b h) (starts-ascii b h) (omega (arith, n)))
       (λ i. below 0xC2 (λ h. begins-not (due-none b i h) (starts-none b i h))
@@ -160,11 +160,11 @@ module _ (r q p b : ℕ) (s : List ℕ) (n : Due r q p []) (rest : (due : List R
       below m f g = ⊎-elim g f (le-or-lt m b)
 
 -- a byte that is due
-next-byte : (r q p b : ℕ) (x : Range) (due : List Range) (s : List ℕ) → Due r q p (x ∷ due) → (Due q p b due → fits due s ≡ sound q p b s)
-    → (within b x && fits due s) ≡ (beside r q p b && sound q p b s)
+next-byte : (r q p b : ℕ) (x : Range) (due : List Range) (s : List ℕ) → Due r q p (x ∷ due) → (Due q p b due → wellFormed due s ≡ sound q p b s)
+    → (within b x && wellFormed due s) ≡ (beside r q p b && sound q p b s)
 next-byte r q p b x due s d rest = rw (beside-due r q p b (d .0), d .1) (go (within b (low p to high p)) refl)
   where
-    go : (y : Bool) → within b (low p to high p) ≡ y → (y && fits due s) ≡ (y && sound q p b s)
+    go : (y : Bool) → within b (low p to high p) ≡ y → (y && wellFormed due s) ≡ (y && sound q p b s)
     go true e =
         let l = leb-true (low p) b (and-left (leb (low p) b) (leb b (high p)) e) in
         let u = leb-true b (high p) (and-right (leb (low p) b) (leb b (high p)) e) in
@@ -172,7 +172,7 @@ next-byte r q p b x due s d rest = rw (beside-due r q p b (d .0), d .1) (go (wit
     go false e = refl
 
 -- a text with ranges due, by the three bytes before it
-fits-sound : (due : List Range) (r q p : ℕ) (s : List ℕ) → Due r q p due → fits due s ≡ sound r q p s
+fits-sound : (due : List Range) (r q p : ℕ) (s : List ℕ) → Due r q p due → wellFormed due s ≡ sound r q p s
 fits-sound [] r q p [] d = sym (ap not (asks-none r q p (d .0) (d .1) (d .2)))
 fits-sound (x ∷ due) r q p [] d = sym (ap not (d .0))
 fits-sound [] r q p (b ∷ s) d = first-byte r q p b s d (λ due e. fits-sound due q p b s e)

@@ -12,7 +12,7 @@ use lib.ListN.{length}
 use borrow.Author.Tests.{le-leb, leb-true, lt-ltb, le-ltb, ltb-true}
 use Rattle.base.specs.Choice.{if_then_else_}
 use Rattle.base.proofs.Choice.{le-or-lt, eq-or-not, and-left, and-right}
-use Rattle.utf8.specs.Utf8.{Range, _to_, within, Row, table, find, rowOf, never, fits, emit, decodeFrom, begins, decode, encode, encodeAll, scalar}
+use Rattle.utf8.specs.Utf8.{Range, _to_, within, Row, table, find, rowOf, never, wellFormed, emit, decodeFrom, begins, decode, encode, encodeAll, scalar}
 use Rattle.utf8.proofs.Laws.{begins-never, fits-begins, due-1, due-2, due-E0, due-ED, due-3, due-F0, due-F4, due-4}
 use Rattle.utf8.proofs.Text.{Valid, decode-any, decode-append, valid-both}
 
@@ -172,7 +172,7 @@ by-row P (r ∷ rows) b h = go (by-row P rows b (h .1)) (within b (r .first)) re
 
 -- what a text whose first byte is on a line of the table starts with
 abbrev Starts : ℕ → List ℕ → Row → Type 0
-Starts b t r = fits (r .after) t ≡ true → Step b t (emit (r .after) (b - r .lead) (decodeFrom (r .after) (b - r .lead) t))
+Starts b t r = wellFormed (r .after) t ≡ true → Step b t (emit (r .after) (b - r .lead) (decodeFrom (r .after) (b - r .lead) t))
 
 abbrev line : ℕ → List Range → Row
 line l a = record { first = 0 to 0; lead = l; after = a }
@@ -182,7 +182,7 @@ tail = 0x80 to 0xBF
 
 line-2 : (b : ℕ) (t : List ℕ) → (0xC2 ≤ b) × (b ≤ 0xDF) → Starts b t (line 0xC0 (tail ∷ []))
 line-2 b [] g e = absurd (false≢true e)
-line-2 b (x ∷ t) g e = step-2 b x t g (between x 0x80 0xBF (and-left (within x tail) (fits [] t) e)) (and-right (within x tail) (fits [] t) e)
+line-2 b (x ∷ t) g e = step-2 b x t g (between x 0x80 0xBF (and-left (within x tail) (wellFormed [] t) e)) (and-right (within x tail) (wellFormed [] t) e)
 
 record Good3 (b x y : ℕ) : Type 0 where
   in-x : (0x80 ≤ x) × (x ≤ 0xBF)
@@ -195,10 +195,10 @@ line-3 : (b lo hi : ℕ) (t : List ℕ) → (0xE0 ≤ b) × (b ≤ 0xEF)
 line-3 b lo hi [] g k e = absurd (false≢true e)
 line-3 b lo hi (x ∷ []) g k e = absurd (false≢true (sym (and-false (within x (lo to hi))) ∙ e))
 line-3 b lo hi (x ∷ y ∷ t) g k e =
-    let f = and-right (within x (lo to hi)) (within y tail && fits [] t) e in
-    let m = between y 0x80 0xBF (and-left (within y tail) (fits [] t) f) in
-    let n = k x y (between x lo hi (and-left (within x (lo to hi)) (within y tail && fits [] t) e)) m in
-    step-3 b x y t g (n .in-x) m (and-right (within y tail) (fits [] t) f) (n .least) (n .is-scalar)
+    let f = and-right (within x (lo to hi)) (within y tail && wellFormed [] t) e in
+    let m = between y 0x80 0xBF (and-left (within y tail) (wellFormed [] t) f) in
+    let n = k x y (between x lo hi (and-left (within x (lo to hi)) (within y tail && wellFormed [] t) e)) m in
+    step-3 b x y t g (n .in-x) m (and-right (within y tail) (wellFormed [] t) f) (n .least) (n .is-scalar)
 
 record Good4 (b x y z : ℕ) : Type 0 where
   in-x : (0x80 ≤ x) × (x ≤ 0xBF)
@@ -213,12 +213,12 @@ line-4 b lo hi (x ∷ []) g k e = absurd (false≢true (sym (and-false (within x
 line-4 b lo hi (x ∷ y ∷ []) g k e =
     absurd (false≢true (sym (and-false (within y tail)) ∙ and-right (within x (lo to hi)) (within y tail && false) e))
 line-4 b lo hi (x ∷ y ∷ z ∷ t) g k e =
-    let f = and-right (within x (lo to hi)) (within y tail && (within z tail && fits [] t)) e in
-    let h = and-right (within y tail) (within z tail && fits [] t) f in
-    let m = between y 0x80 0xBF (and-left (within y tail) (within z tail && fits [] t) f) in
-    let o = between z 0x80 0xBF (and-left (within z tail) (fits [] t) h) in
-    let n = k x y z (between x lo hi (and-left (within x (lo to hi)) (within y tail && (within z tail && fits [] t)) e)) m o in
-    step-4 b x y z t g (n .in-x) m o (and-right (within z tail) (fits [] t) h) (n .least) (n .most)
+    let f = and-right (within x (lo to hi)) (within y tail && (within z tail && wellFormed [] t)) e in
+    let h = and-right (within y tail) (within z tail && wellFormed [] t) f in
+    let m = between y 0x80 0xBF (and-left (within y tail) (within z tail && wellFormed [] t) f) in
+    let o = between z 0x80 0xBF (and-left (within z tail) (wellFormed [] t) h) in
+    let n = k x y z (between x lo hi (and-left (within x (lo to hi)) (within y tail && (within z tail && wellFormed [] t)) e)) m o in
+    step-4 b x y z t g (n .in-x) m o (and-right (within z tail) (wellFormed [] t) h) (n .least) (n .most)
 
 starts : (b : ℕ) (t : List ℕ) → Starts b t (rowOf b)
 unfolding if_then_else_ rowOf table Each
@@ -357,8 +357,8 @@ inside : (x lo hi : ℕ) → lo ≤ x → x ≤ hi → within x (lo to hi) ≡ t
 inside x lo hi g h = rw (le-leb lo x g, le-leb x hi h)
 
 -- with the row of the first byte known
-first-fits : (b : ℕ) (t : List ℕ) (due : List Range) → rowOf b .after ≡ due → fits [] (b ∷ t) ≡ fits due t
-first-fits b t due d = ap (λ (l : List Range). fits l t) d
+first-fits : (b : ℕ) (t : List ℕ) (due : List Range) → rowOf b .after ≡ due → wellFormed [] (b ∷ t) ≡ wellFormed due t
+first-fits b t due d = ap (λ (l : List Range). wellFormed l t) d
 
 first-chars : (b : ℕ) (t : List ℕ) (due : List Range) (l : ℕ) → rowOf b .after ≡ due → begins due t ≡ true → leadOf b ≡ l
     → decode (b ∷ t) ≡ emit due (b - l) (decodeFrom due (b - l) t)

@@ -12,19 +12,19 @@ use lib.Seq.{drop-cons}
 use borrow.Author.Tests.{leb-true}
 use Rattle.base.specs.Choice.{if_then_else_}
 use Rattle.base.proofs.Choice.{le-or-lt, and-left, and-right}
-use Rattle.utf8.specs.Utf8.{Range, _to_, within, Row, table, find, rowOf, never, fits, utf8, emit, decodeFrom, begins, decode, characters}
+use Rattle.utf8.specs.Utf8.{Range, _to_, within, Row, table, find, rowOf, never, wellFormed, utf8, emit, decodeFrom, begins, decode, characters}
 use Rattle.utf8.proofs.Laws.{adds, adds-low, adds-high, adds-none, due-none, begins-never, fits-begins}
 
 abbrev pub Valid : List ℕ → Type 0
 Valid s = utf8 s ≡ true
 
 -- what is due is read, and the rest is text
-fits-append : (due : List Range) (a b : List ℕ) → fits due a ≡ true → fits due (a ++ b) ≡ fits [] b
+fits-append : (due : List Range) (a b : List ℕ) → wellFormed due a ≡ true → wellFormed due (a ++ b) ≡ wellFormed [] b
 fits-append [] [] b e = refl
 fits-append (r ∷ due) [] b e = absurd (false≢true e)
 fits-append [] (x ∷ a) b e = fits-append (rowOf x .after) a b e
 fits-append (r ∷ due) (x ∷ a) b e =
-    rw (and-left (within x r) (fits due a) e) (fits-append due a b (and-right (within x r) (fits due a) e))
+    rw (and-left (within x r) (wellFormed due a) e) (fits-append due a b (and-right (within x r) (wellFormed due a) e))
 
 pub valid-append : (a b : List ℕ) → Valid a → utf8 (a ++ b) ≡ utf8 b
 valid-append a b e = fits-append [] a b e
@@ -41,14 +41,14 @@ emit-append : (due : List Range) (c : ℕ) (xs ys : List ℕ) → emit due c (xs
 emit-append [] c xs ys = refl
 emit-append (r ∷ due) c xs ys = refl
 
-from-append : (due : List Range) (c : ℕ) (a b : List ℕ) → fits due a ≡ true → decodeFrom due c (a ++ b) ≡ decodeFrom due c a ++ decode b
+from-append : (due : List Range) (c : ℕ) (a b : List ℕ) → wellFormed due a ≡ true → decodeFrom due c (a ++ b) ≡ decodeFrom due c a ++ decode b
 from-append [] c [] b e = decode-any c 0 b
 from-append (r ∷ due) c [] b e = absurd (false≢true e)
 from-append [] c (x ∷ a) b e =
     ap (emit (rowOf x .after) (x - rowOf x .lead)) (from-append (rowOf x .after) (x - rowOf x .lead) a b e)
     ∙ emit-append (rowOf x .after) _ _ _
 from-append (r ∷ due) c (x ∷ a) b e =
-    ap (emit due (c * 64 + (x - 0x80))) (from-append due (c * 64 + (x - 0x80)) a b (and-right (within x r) (fits due a) e))
+    ap (emit due (c * 64 + (x - 0x80))) (from-append due (c * 64 + (x - 0x80)) a b (and-right (within x r) (wellFormed due a) e))
     ∙ emit-append due _ _ _
 
 pub decode-append : (a b : List ℕ) → Valid a → decode (a ++ b) ≡ decode a ++ decode b
@@ -90,7 +90,7 @@ pub follows-rest : (r : Range) (rs : List Range) → follows (r ∷ rs) ≡ true
 follows-rest (lo to hi) rs p = and-right (leb 0x80 lo && leb hi 0xBF) (follows rs) p
 
 -- a byte that starts a character in a text adds one to the count
-pub start-adds : (x : ℕ) (s : List ℕ) → fits (rowOf x .after) s ≡ true → adds x ≡ 1
+pub start-adds : (x : ℕ) (s : List ℕ) → wellFormed (rowOf x .after) s ≡ true → adds x ≡ 1
 start-adds x s e =
     ⊎-elim (λ (l : 0x80 ≤ x). ⊎-elim (λ (m : x ≤ 0xBF). absurd (no l m)) (λ (m : 0xBF < x). adds-high x m) (le-or-lt x 0xBF))
     (λ (l : x < 0x80). adds-low x l) (le-or-lt 0x80 x)
@@ -109,7 +109,7 @@ emit-length : (due : List Range) (c : ℕ) (cs : List ℕ) (n : ℕ) → length 
 emit-length [] c cs n e = omega arith
 emit-length (r ∷ due) c cs n e = e
 
-count-from : (due : List Range) (c : ℕ) (s : List ℕ) → follows due ≡ true → fits due s ≡ true → length (decodeFrom due c s) ≡ pending due + characters s
+count-from : (due : List Range) (c : ℕ) (s : List ℕ) → follows due ≡ true → wellFormed due s ≡ true → length (decodeFrom due c s) ≡ pending due + characters s
 count-from [] c [] p e = refl
 count-from (r ∷ due) c [] p e = absurd (false≢true e)
 count-from [] c (x ∷ s) p e =
@@ -118,9 +118,9 @@ count-from [] c (x ∷ s) p e =
     let f = emit-length due d (decodeFrom due d s) (characters s) (count-from due d s (row-follows x) e) in
     omega (arith, f, start-adds x s e)
 count-from (r ∷ due) c (x ∷ s) p e =
-    let w = follow r due x p (and-left (within x r) (fits due s) e) in
+    let w = follow r due x p (and-left (within x r) (wellFormed due s) e) in
     let d = c * 64 + (x - 0x80) in
-    let i = count-from due d s (follows-rest r due p) (and-right (within x r) (fits due s) e) in
+    let i = count-from due d s (follows-rest r due p) (and-right (within x r) (wellFormed due s) e) in
     let f = emit-length due d (decodeFrom due d s) (characters s) i in
     omega (arith, f, adds-none x (w .0) (w .1))
 
@@ -132,17 +132,17 @@ pub record Cut (a b : List ℕ) : Type 0 where
   pub left : Valid a
   pub right : Valid b
 
-cut-from : (due : List Range) (a b : List ℕ) (x : ℕ) → follows due ≡ true → adds x ≡ 1 → fits due (a ++ x ∷ b) ≡ true
-    → (fits due a ≡ true) × (fits [] (x ∷ b) ≡ true)
+cut-from : (due : List Range) (a b : List ℕ) (x : ℕ) → follows due ≡ true → adds x ≡ 1 → wellFormed due (a ++ x ∷ b) ≡ true
+    → (wellFormed due a ≡ true) × (wellFormed [] (x ∷ b) ≡ true)
 cut-from [] [] b x p n e = (refl, e)
 cut-from (r ∷ due) [] b x p n e =
-    let w = follow r due x p (and-left (within x r) (fits due b) e) in
+    let w = follow r due x p (and-left (within x r) (wellFormed due b) e) in
     let z : ⊥ = omega (arith, n, adds-none x (w .0) (w .1)) in
     absurd z
 cut-from [] (y ∷ a) b x p n e = cut-from (rowOf y .after) a b x (row-follows y) n e
 cut-from (r ∷ due) (y ∷ a) b x p n e =
-    let i = cut-from due a b x (follows-rest r due p) n (and-right (within y r) (fits due (a ++ x ∷ b)) e) in
-    (rw (and-left (within y r) (fits due (a ++ x ∷ b)) e) (i .0), i .1)
+    let i = cut-from due a b x (follows-rest r due p) n (and-right (within y r) (wellFormed due (a ++ x ∷ b)) e) in
+    (rw (and-left (within y r) (wellFormed due (a ++ x ∷ b)) e) (i .0), i .1)
 
 pub cut : (a b : List ℕ) (x : ℕ) → adds x ≡ 1 → Valid (a ++ x ∷ b) → Cut a (x ∷ b)
 cut a b x n e = let c = cut-from [] a b x refl n e in record { left = c .0; right = c .1 }

@@ -1,3 +1,3 @@
 pub mod Utf8
-pub mod Neighbours
-pub mod Parts
+pub mod InnerNeighbours
+pub mod InnerParts

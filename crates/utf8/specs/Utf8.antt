@@ -54,15 +54,15 @@ unfoldable pub rowOf : ℕ → Row
 rowOf b = find table b
 
 -- s is the bytes of the ranges `due`, and then whole characters
-abbrev pub fits : List Range → List ℕ → Bool
-fits [] [] = true
-fits (r ∷ due) [] = false
-fits [] (b ∷ s) = fits (rowOf b .after) s
-fits (r ∷ due) (b ∷ s) = within b r && fits due s
+abbrev pub wellFormed : List Range → List ℕ → Bool
+wellFormed [] [] = true
+wellFormed (r ∷ due) [] = false
+wellFormed [] (b ∷ s) = wellFormed (rowOf b .after) s
+wellFormed (r ∷ due) (b ∷ s) = within b r && wellFormed due s
 
 -- s is well-formed UTF-8
 abbrev pub utf8 : List ℕ → Bool
-utf8 s = fits [] s
+utf8 s = wellFormed [] s
 
 -- a character is complete once no byte is due
 abbrev pub emit : List Range → ℕ → List ℕ → List ℕ

@@ -5,8 +5,8 @@ ghost use Prim.Native.Nat.{_<_, _≤_, _+_, _-_, _*_, _^_};
 ghost use lib.ListN.{length, drop, getD};
 ghost use Rattle.base.specs.Choice.{if_then_else_, among};
 ghost use Rattle.utf8.specs.Utf8.{_to_, utf8, characters, begins, sizeOf, characterAt};
-ghost use Rattle.utf8.specs.Neighbours.{asks, low, high, beside};
-ghost use Rattle.utf8.specs.Parts.{AtMost, Ascii, soundAt, Sure, Passed, Plain, Begun, Counted};
+ghost use Rattle.utf8.specs.InnerNeighbours.{asks, low, high, beside};
+ghost use Rattle.utf8.specs.InnerParts.{AtMost, Ascii, soundAt, Sure, Passed, Plain, Begun, Counted};
 
 // Whether a byte from lo to hi stands at `at`.
 fn next1(s: &[u8], at: usize, lo: u8, hi: u8) -> bool

@@ -10,7 +10,7 @@ use lib.Seq.{take-add, drop-at, drop-cons, length-take-le}
 use Rattle.base.specs.Choice.{if_then_else_}
 use Rattle.utf8.specs.Utf8.{encode}
 use Rattle.white.specs.White.{whites}
-use Rattle.white.specs.Parts.{whiteBytes, whiteSize, last}
+use Rattle.white.specs.InnerParts.{whiteBytes, whiteSize, last}
 
 module _ (s : List ℕ) (e : ℕ) (room : e ≤ length s) where
   -- the last k of the first e bytes

@@ -13,7 +13,7 @@ use Rattle.base.specs.Choice.{if_then_else_}
 use Rattle.base.proofs.Choice.{and-left, and-right, not-passed, le-or-lt}
 use Rattle.utf8.specs.Utf8.{encode, encodeAll, decode, rowOf, table}
 use Rattle.white.specs.White.{whites, any, white, allWhite, blank, trim}
-use Rattle.white.specs.Parts.{same, whiteBytes, last, whiteSize}
+use Rattle.white.specs.InnerParts.{same, whiteBytes, last, whiteSize}
 use Rattle.utf8.proofs.Scalars.{encode-decode}
 use Rattle.white.proofs.White.{blank-valid, blank-white, trim-blank}
 use Rattle.white.proofs.Ends.{last-short}

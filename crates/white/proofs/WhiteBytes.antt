@@ -9,7 +9,7 @@ use Rattle.base.specs.Choice.{if_then_else_}
 use Rattle.base.proofs.Bytes.{byte}
 use Rattle.utf8.specs.Utf8.{encode}
 use Rattle.white.specs.White.{whites}
-use Rattle.white.specs.Parts.{whiteBytes}
+use Rattle.white.specs.InnerParts.{whiteBytes}
 
 pub one : (c : ℕ) → c < 256 → whiteBytes (c ∷ []) ≡ (eqb c 0x20 || (leb 0x09 c && leb c 0x0D))
 unfolding whiteBytes whites encode if_then_else_

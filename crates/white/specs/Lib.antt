@@ -1,2 +1,2 @@
 pub mod White
-pub mod Parts
+pub mod InnerParts

@@ -5,7 +5,7 @@ ghost use Prim.Native.Nat.{_<_, _≤_, _+_, _-_};
 ghost use lib.ListN.{length, take};
 ghost use Rattle.utf8.specs.Utf8.{utf8};
 ghost use Rattle.white.specs.White.{white, trim, printingCount};
-ghost use Rattle.white.specs.Parts.{whiteBytes, whiteSize};
+ghost use Rattle.white.specs.InnerParts.{whiteBytes, whiteSize};
 use utf8::Decoded;
 
 // Whether these bytes are one White_Space character.

@@ -12,7 +12,7 @@ use Rattle.base.specs.Choice.{if_then_else_}
 use Rattle.base.proofs.Choice.{pick, le-or-lt, eq-or-not}
 use Rattle.utf8.specs.Utf8.{characters}
 use Rattle.splitter.specs.Split.{before, isLineEndOrSpace, raw, word}
-use Rattle.splitter.specs.Parts.{wordFrom}
+use Rattle.splitter.specs.InnerParts.{wordFrom}
 use Rattle.splitter.specs.Answers.{placedFrom, cursor}
 use Rattle.splitter.specs.declared.Code.the-variants as code
 use Rattle.splitter.specs.declared.Piece.the-variants.{Raw, Space}
@@ -20,7 +20,7 @@ use Rattle.splitter.specs.declared.Step.the-variants.{Take}
 use Rattle.splitter.proofs.Before.{before-short, before-go, before-part, space-ends, neither-ends}
 use Rattle.splitter.proofs.Steps.{placed-take}
 use Rattle.splitter.proofs.Answers.{plain-word, plain-space, answers-some}
-use Rattle.words.specs.Copies.{NoLineEnd, NoWordCut}
+use Rattle.words.specs.InnerCopies.{NoLineEnd, NoWordCut}
 use Rattle.words.proofs.Copying.{take-one}
 
 -- none of the bytes before the first that passes a test passes it

@@ -15,7 +15,7 @@ use Rattle.utf8.specs.Utf8.{characters}
 use Rattle.utf8.proofs.Laws.{adds, adds-by, adds-not}
 use Rattle.splitter.specs.Split.{isLineEndOrSpace}
 use Rattle.splitter.proofs.Fits.{count-short}
-use Rattle.words.specs.Copies.{NoLineEnd, NoWordCut, Copying, Stopped, Whole, Copies}
+use Rattle.words.specs.InnerCopies.{NoLineEnd, NoWordCut, Copying, Stopped, Whole, Copies}
 
 -- Parts
 

@@ -1,4 +1,4 @@
 pub mod Copying
 pub mod Chunks
 pub mod Follow
-pub mod Onward
+pub mod Advance

@@ -1,2 +1,2 @@
-pub mod Copies
-pub mod Onward
+pub mod InnerCopies
+pub mod InnerAdvance

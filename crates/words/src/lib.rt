@@ -7,7 +7,7 @@ ghost use lib.ListN.{length, take, drop};
 ghost use Rattle.base.specs.Bytes.{part};
 ghost use Rattle.utf8.specs.Utf8.{characters};
 ghost use Rattle.splitter.specs.Split.{isLineEndOrSpace};
-ghost use Rattle.words.specs.Copies.{NoLineEnd, Copying, Stopped, Whole, Copies};
+ghost use Rattle.words.specs.InnerCopies.{NoLineEnd, Copying, Stopped, Whole, Copies};
 
 // Where a run ends, and its width.
 pub struct Run {

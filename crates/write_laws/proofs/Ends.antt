@@ -8,7 +8,7 @@ use Rattle.base.specs.Choice.{if_then_else_}
 use Rattle.base.specs.Result.{Result, gives, refused, _>>=_}
 use Rattle.base.specs.Stack.{top, pushed, popped}
 use Rattle.utf8.specs.Utf8.{table, rowOf}
-use Rattle.records.specs.Records.{little, styles, blocks, kindOf, size, tokenAt, fits}
+use Rattle.records.specs.Records.{little, styles, blocks, kindOf, size, tokenAt, recordFits}
 use Rattle.document.specs.Document.{opens, closes, bodiless, accept, first, reads, openBlocks, short, closed, check}
 use Rattle.records.specs.Stored.{littleBytes, stored, text, start, end, around}
 use Rattle.records.specs.declared.Style.the-variants as style
@@ -36,7 +36,7 @@ cut-character = (refl, refl)
 -- written, where one call leaves the room as it was
 pub second-refused : (writesAll (replicate 7 0) 0 style.Text a (b ∷ []) ≡ refused 13 0) × (writes (replicate 7 0) 0 style.Text (a ++ b) ≡ refused 13 0)
     × (roomAfter (replicate 7 0) 0 style.Text a (b ∷ []) ≡ text style.Text a)
-unfolding writesAll roomAfter orUnchanged writes soFar short openBlocks reads first accept fits little kindOf styles size tokenAt oneText fit written
+unfolding writesAll roomAfter orUnchanged writes soFar short openBlocks reads first accept recordFits little kindOf styles size tokenAt oneText fit written
     text stored littleBytes _>>=_ if_then_else_ rowOf table
 second-refused = (refl, refl, refl)
 
@@ -47,7 +47,7 @@ next rule r = r >>= λ doc. rule (kept room (gives doc)) (length doc)
 -- two styles give two records, where the two joined are one
 pub two-styles : (next (λ room n. writes room n style.Emphasis b) (writes room 0 style.Text a) ≡ gives (text style.Text a ++ text style.Emphasis b))
     × (writes room 0 style.Text (a ++ b) ≡ gives (text style.Text (a ++ b)))
-unfolding writes soFar short openBlocks reads first accept fits little kindOf styles size tokenAt oneText fit written text stored littleBytes
+unfolding writes soFar short openBlocks reads first accept recordFits little kindOf styles size tokenAt oneText fit written text stored littleBytes
     _>>=_ if_then_else_ rowOf table
 two-styles = (refl, refl)
 
@@ -56,5 +56,5 @@ pub two-documents : (next (λ room n. addsDoc room n (text style.Text b)) (addsD
     ≡ gives (around block.InlineBlock (text style.Text a) ++ around block.InlineBlock (text style.Text b)))
     × (addsDoc room 0 (text style.Text (a ++ b)) ≡ gives (around block.InlineBlock (text style.Text (a ++ b))))
 unfolding addsDoc addsAs add check closed opens closes bodiless top pushed popped blocks start end around soFar short openBlocks reads first accept
-    fits little kindOf styles size tokenAt fit text stored littleBytes _>>=_ if_then_else_ rowOf table
+    recordFits little kindOf styles size tokenAt fit text stored littleBytes _>>=_ if_then_else_ rowOf table
 two-documents = (refl, refl)

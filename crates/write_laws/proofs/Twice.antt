@@ -11,7 +11,7 @@ use Rattle.base.specs.Choice.{if_then_else_}
 use Rattle.base.specs.Result.{gives}
 use Rattle.base.proofs.Choice.{if-true, if-false, and-both, pick}
 use Rattle.base.proofs.Results.{bind-gives}
-use Rattle.records.specs.Records.{little, styles, number, kindOf, size, tokenAt, fits}
+use Rattle.records.specs.Records.{little, styles, number, kindOf, size, tokenAt, recordFits}
 use Rattle.document.specs.Document.{first, reads}
 use Rattle.records.specs.Stored.{littleBytes, stored, text}
 use Rattle.records.specs.declared.Style.{Style}
@@ -87,7 +87,7 @@ module _ (st : Style) where
 
   -- A record that stays, with other bytes after it
 
-  module _ (b : ℕ) (s w : List ℕ) (f : fits (b ∷ s) ≡ true) (h : 1 ≤ length w) where
+  module _ (b : ℕ) (s w : List ℕ) (f : recordFits (b ∷ s) ≡ true) (h : 1 ≤ length w) where
     stays-not : oneText st (b ∷ take (5 + size (b ∷ s)) s ++ w) ≡ false
     unfolding oneText
     stays-not =

@@ -2,7 +2,7 @@ use mathlib.Core.Path.{sym, ap}
 use borrow.Author.Needs.{needs}
 use Rattle.any_renderer.proofs.too_wide.Statement.{statement}
 use Rattle.any_renderer.proofs.too_wide.Tie as tie
-use Rattle.any_renderer.specs.Renders.{tooWide}
+use Rattle.any_renderer.specs.InnerRenders.{tooWide}
 
 returns : tie.Need-returns
 returns c = sym (ap tooWide (c .before .before .asked .given .1))

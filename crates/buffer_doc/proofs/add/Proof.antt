@@ -5,7 +5,7 @@ use native.Mathlib.Omega.{arith}
 use denote.Ref.{now}
 use mathlib.Core.List.{[]}
 use Rattle.document.proofs.Walks.{verdict-gives}
-use Rattle.buffer_doc.specs.Parts.{madeOf}
+use Rattle.buffer_doc.specs.InnerParts.{madeOf}
 use Rattle.buffer_doc.proofs.Adding.{joins-refused, joins-added, joins-made, joins-numbers}
 
 returns : tie.Need-returns

@@ -14,7 +14,7 @@ use Rattle.base.specs.Result.{refused}
 use Rattle.records.specs.Stored.{text, start}
 use Rattle.records.specs.declared.Style.the-variants as style
 use Rattle.records.specs.declared.Block.the-variants as block
-use Rattle.buffer_doc.specs.Parts.{section, titled}
+use Rattle.buffer_doc.specs.InnerParts.{section, titled}
 use Rattle.buffer.proofs.Answering.{room-there}
 use Rattle.buffer_doc.proofs.Adding.{adds-shut, adds-deep, adds-full, adds-written, pasted-then, length-start, length-around}
 use Rattle.buffer_doc.proofs.Titles.{length-text, length-title, length-titled, titled-shut, titled-deep, titled-given, titled-whole}

@@ -8,7 +8,7 @@ use denote.Ref.{now}
 use lib.ListN.{length}
 use Rattle.compared.proofs.holds.Statement.{statement}
 use Rattle.compared.proofs.holds.Tie as tie
-use Rattle.compared.specs.Compared.{holds}
+use Rattle.compared.specs.InnerCompared.{holds}
 use Rattle.compared.proofs.Filling.{Left, holds-next, holds-other, holds-all}
 
 abbrev Inv-loop : tie.InvT-loop

@@ -3,7 +3,7 @@ use borrow.Author.Needs.{needs}
 use denote.Ref.{now}
 use lib.ListN.{length}
 use Rattle.splitter.specs.Answers.{PieceWithin}
-use Rattle.console_chunks.specs.Pieces.{textOr}
+use Rattle.console_chunks.specs.InnerPieces.{textOr}
 use Rattle.console.proofs.text_or.Statement.{statement}
 use Rattle.console.proofs.text_or.Tie as tie
 

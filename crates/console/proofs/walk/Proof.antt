@@ -18,7 +18,7 @@ use Rattle.console.proofs.Standing.{Standing, Writing, stand-first, zer
 use Rattle.console.proofs.Standing.{stand-count, stand-column, stand-started, stand-ended, stand-hidden, write-words, stands-refused}
 use Rattle.console.proofs.Standing.{stands-done, margin-low, body-few, body-first, column-low, body-done, body-stop, body-on, body-deep}
 use Rattle.console.proofs.Standing.{stand-read, placed-deep, placed-at, nearby-at}
-use Rattle.console_tabstop.specs.Ahead.{Known}
+use Rattle.console_tabstop.specs.InnerAhead.{Known}
 use Rattle.console_tabstop.proofs.Ahead.{known-next}
 use Rattle.records.specs.Answers.{Read}
 

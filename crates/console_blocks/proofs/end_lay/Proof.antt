@@ -7,7 +7,7 @@ use Rattle.console_blocks.proofs.end_lay.Tie as tie
 use Rattle.base.specs.Choice.{if_then_else_}
 use Rattle.records.specs.declared.Block.the-variants as block
 use Rattle.skip.proofs.Counter.{skip-end-most}
-use Rattle.console_blocks.specs.Blocks.{endLay}
+use Rattle.console_blocks.specs.InnerBlocks.{endLay}
 
 returns : tie.Need-returns
 unfolding endLay if_then_else_

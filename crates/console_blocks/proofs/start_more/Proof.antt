@@ -4,7 +4,7 @@ use borrow.Author.Tests.{eq-eqb, ne-eqb}
 use Rattle.console_blocks.proofs.start_more.Statement.{statement}
 use Rattle.console_blocks.proofs.start_more.Tie as tie
 use Rattle.base.specs.Choice.{if_then_else_}
-use Rattle.console_blocks.specs.Blocks.{startMore}
+use Rattle.console_blocks.specs.InnerBlocks.{startMore}
 
 returns : tie.Need-returns
 unfolding startMore if_then_else_

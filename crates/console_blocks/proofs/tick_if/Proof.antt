@@ -6,7 +6,7 @@ use lib.ListN.{length}
 use Rattle.console_blocks.proofs.tick_if.Statement.{statement}
 use Rattle.console_blocks.proofs.tick_if.Tie as tie
 use Rattle.console_rules.specs.Console.{tick}
-use Rattle.console_blocks.specs.Blocks.{tickIf}
+use Rattle.console_blocks.specs.InnerBlocks.{tickIf}
 use Rattle.console_chunks.proofs.Pages.{agree, idle}
 use Rattle.console_blocks.proofs.Blocks.{tick-due, tick-none}
 

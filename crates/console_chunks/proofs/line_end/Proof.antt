@@ -4,7 +4,7 @@ use borrow.Author.Needs.{needs}
 use denote.Ref.{now}
 use Rattle.console_chunks.proofs.line_end.Statement.{statement}
 use Rattle.console_chunks.proofs.line_end.Tie as tie
-use Rattle.console_rules.specs.Console.{column, lineEnd}
+use Rattle.console_rules.specs.Console.{withColumn, lineEnd}
 use Rattle.console_chunks.proofs.Pages.{wrote}
 use Rattle.console_chunks.proofs.Chunks.{near-column}
 
@@ -13,7 +13,7 @@ unfolding lineEnd
 returns c =
     let a = c .before .before .before .before .before .before .args in
     let e = c .at-column .ensures in (
-      (λ kept. wrote (now (a .room)) _ (a .m .len .0) _ kept (a .m .lay) _ (0x0A ∷ []) _ (column 0) e (c .before .before .before .put .ensures)),
+      (λ kept. wrote (now (a .room)) _ (a .m .len .0) _ kept (a .m .lay) _ (0x0A ∷ []) _ (withColumn 0) e (c .before .before .before .put .ensures)),
       near-column 0 0 (a .m .lay) _ e (omega arith),
     )
 

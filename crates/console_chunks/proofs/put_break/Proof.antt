@@ -4,7 +4,7 @@ use borrow.Author.Needs.{needs}
 use denote.Ref.{now}
 use lib.ListN.{length}
 use Rattle.splitter.specs.Answers.{chunkOf}
-use Rattle.console_chunks.specs.Pieces.{isText}
+use Rattle.console_chunks.specs.InnerPieces.{isText}
 use Rattle.console_chunks.proofs.put_break.Statement.{statement}
 use Rattle.console_chunks.proofs.put_break.Tie as tie
 use Rattle.console_rules.specs.Console.{measureOf}

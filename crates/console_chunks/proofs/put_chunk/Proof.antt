@@ -26,10 +26,10 @@ returns-2 c =
 returns-3 : tie.Need-returns-3
 returns-3 c =
     let h = c .before .before .place-here in
-    let after-gap-two = c .before .before .before .before .before .before in
-    let g = after-gap-two .gap-two in
-    let r = after-gap-two .before .before .before .before .reach-margin in
-    let after-if1 = after-gap-two .before .before .before .before .before .before in
+    let after-pad-gutter = c .before .before .before .before .before .before in
+    let g = after-pad-gutter .pad-gutter in
+    let r = after-pad-gutter .before .before .before .before .reach-margin in
+    let after-if1 = after-pad-gutter .before .before .before .before .before .before in
     let if1 = after-if1 .if1 in
     let miss = after-if1 .before .before .missing-to in
     let a = after-if1 .before .before .before .before .before .before .args in (

@@ -6,7 +6,7 @@ use denote.Ref.{now}
 use lib.ListN.{length, replicate}
 use Rattle.console_chunks.proofs.reach_margin.Statement.{statement}
 use Rattle.console_chunks.proofs.reach_margin.Tie as tie
-use Rattle.console_rules.specs.Console.{column, reach}
+use Rattle.console_rules.specs.Console.{withColumn, reach}
 use Rattle.console_chunks.proofs.Pages.{wrote, agree}
 use Rattle.console_chunks.proofs.Chunks.{near-column}
 
@@ -23,7 +23,7 @@ returns c =
     let z = missing-to .ensures in
     let x = c .before .max .ensures in (
       (λ kept. wrote (now (a .room)) _ (a .m .len .0) _ kept (a .m .lay) _ (replicate (a .margin .0 - a .m .lay .column .0) 0x20) n
-          (λ l. column (max (l .column .0) (a .margin .0)) l) (rw x at e) (rw z at s)
+          (λ l. withColumn (max (l .column .0) (a .margin .0)) l) (rw x at e) (rw z at s)
           ∙ agree (now (a .room)) (a .m .len .0) kept (a .m .lay) _ (reach n (a .margin .0)) (λ _. refl)),
       near-column (a .margin .0) _ (a .m .lay) _ e (omega arith),
     )

@@ -11,7 +11,7 @@ use Rattle.console_tabstop.proofs.find_from.Tie as tie
 use Rattle.records.specs.Records.{tokensFrom}
 use Rattle.records.specs.Answers.{headOf}
 use Rattle.console_rules.specs.Console.{Terms, terms, settledFrom}
-use Rattle.console_tabstop.specs.Counted.{termsOf}
+use Rattle.console_tabstop.specs.InnerCounted.{termsOf}
 use Rattle.console_tabstop.proofs.Searching.{On, on-done, on-few, on-settled, on-next}
 
 abbrev Inv-loop : tie.InvT-loop

@@ -13,7 +13,7 @@ use Rattle.console_tabstop.proofs.find_tabstop.Tie as tie
 use Rattle.records.specs.Records.{tokens}
 use Rattle.records.specs.Answers.{headOf, Read}
 use Rattle.console_rules.specs.Console.{Terms, terms, tabstop, settledFrom, settledAt}
-use Rattle.console_tabstop.specs.Counted.{termsOf}
+use Rattle.console_tabstop.specs.InnerCounted.{termsOf}
 use Rattle.console_tabstop.proofs.Searching.{On, on-done, on-few, on-settled, on-next}
 
 abbrev none : Terms

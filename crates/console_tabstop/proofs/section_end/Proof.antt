@@ -12,7 +12,7 @@ use Rattle.records.specs.Records.{isEnd}
 use Rattle.records.specs.Answers.{headOf}
 use Rattle.records.specs.declared.Block.the-variants as block
 use Rattle.records.proofs.Codes.{end-by-code, no-end-code}
-use Rattle.console_tabstop.specs.Ahead.{Ahead}
+use Rattle.console_tabstop.specs.InnerAhead.{Ahead}
 use Rattle.console_tabstop.proofs.Ahead.{ahead-none, ahead-here, ahead-later}
 
 abbrev Inv-loop : tie.InvT-loop

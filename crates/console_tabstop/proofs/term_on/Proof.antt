@@ -12,7 +12,7 @@ use Rattle.records.specs.declared.Kind.{Kind}
 use Rattle.records.proofs.Codes.{start-by-code, end-by-code, no-start-code, no-end-code}
 use Rattle.splitter.proofs.Answers.{count-short}
 use Rattle.console_rules.specs.Console.{term}
-use Rattle.console_tabstop.specs.Counted.{termsOf}
+use Rattle.console_tabstop.specs.InnerCounted.{termsOf}
 use Rattle.console_tabstop.proofs.Scans.{text-counted, term-passed}
 
 returns : tie.Need-returns

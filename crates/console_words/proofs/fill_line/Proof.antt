@@ -1,4 +1,4 @@
--- Invariant: the words up to `at` stand in the room, and from there on the rule goes on as it does from `from` (Onward).
+-- Invariant: the words up to `at` stand in the room, and from there on the rule goes on as it does from `from` (LineAdvance).
 -- What falls: the bytes of the body after `at`.
 use mathlib.Core.Path.{_∙_}
 use Prim.Native.Nat.{_+_, _-_, _^_, _≤_, _<_}
@@ -9,11 +9,11 @@ use lib.ListN.{length}
 use Rattle.words.proofs.Copying.{part-narrow}
 use Rattle.console_words.proofs.fill_line.Statement.{statement}
 use Rattle.console_words.proofs.fill_line.Tie as tie
-use Rattle.console_words.specs.Onward.{Onward}
-use Rattle.console_words.proofs.Onward.{onward-start, onward-run}
+use Rattle.console_words.specs.InnerAdvance.{LineAdvance}
+use Rattle.console_words.proofs.Advance.{line-advance-start, onward-run}
 
 abbrev Inv-loop : tie.InvT-loop
-Inv-loop room₀ body from set len₀ column₀ at₀ room len column at = Onward set body room₀ (len₀ .0) (column₀ .0) from room (len .0) (column .0) at
+Inv-loop room₀ body from set len₀ column₀ at₀ room len column at = LineAdvance set body room₀ (len₀ .0) (column₀ .0) from room (len .0) (column .0) at
 
 abbrev μ-loop : tie.MeasureT-loop
 μ-loop room₀ body from set len₀ column₀ at₀ room len column at = length body - at
@@ -37,7 +37,7 @@ ran : (r : tie.After-copy-run Inv-loop μ-loop)
     → let l = turn r .loop in
     let a = turn r .before .before .before .args in
     let w = r .copy-run .result in
-    Onward (a .set) (now (a .body)) (now (a .room)) (a .len .0) (a .column .0) (a .from) (r .copy-run .last .0)
+    LineAdvance (a .set) (now (a .body)) (now (a .room)) (a .len .0) (a .column .0) (a .from) (r .copy-run .last .0)
     (l .len .0 + (w .to - l .at)) (l .column .0 + w .width) (w .to)
 ran r =
     let run = r .copy-run in
@@ -51,7 +51,7 @@ loop-holds : tie.Need-loop-holds Inv-loop μ-loop
 loop-holds c =
     let start = c .before .before in
     let a = start .args in
-    onward-start (a .set) (now (a .body)) (now (a .room)) (a .len .0) (a .column .0) (a .from) (start .pre .0) (start .pre .1)
+    line-advance-start (a .set) (now (a .body)) (now (a .room)) (a .len .0) (a .column .0) (a .from) (start .pre .0) (start .pre .1)
 
 same-length : tie.Need-same-length Inv-loop μ-loop
 same-length c = c .before .before .before .before .loop .inv .words .size

@@ -2,7 +2,7 @@ use borrow.Author.Needs.{needs}
 use denote.Ref.{now}
 use Rattle.console_words.proofs.follows.Statement.{statement}
 use Rattle.console_words.proofs.follows.Tie as tie
-use Rattle.console_words.proofs.Onward.{ready-if}
+use Rattle.console_words.proofs.Advance.{ready-if}
 
 returns-6 : tie.Need-returns-6
 returns-6 c =

@@ -3,7 +3,7 @@ use borrow.Author.Tests.{not-false}
 use denote.Ref.{now}
 use Rattle.console_words.proofs.put_words.Statement.{statement}
 use Rattle.console_words.proofs.put_words.Tie as tie
-use Rattle.console_words.proofs.Onward.{ready, moves-none, moves-on}
+use Rattle.console_words.proofs.Advance.{ready, moves-none, moves-on}
 
 returns : tie.Need-returns
 returns c =

@@ -7,7 +7,7 @@ use denote.Ref.{now}
 use lib.ListN.{length}
 use Rattle.figures.proofs.count_all.Statement.{statement}
 use Rattle.figures.proofs.count_all.Tie as tie
-use Rattle.figures.specs.Parts.{nothing, Bounded, from}
+use Rattle.figures.specs.InnerParts.{nothing, Bounded, from}
 use Rattle.figures.proofs.Texts.{part-short}
 use Rattle.figures.proofs.Laws.{from-end, from-cut, from-other, next-inside, from-next}
 

@@ -8,7 +8,7 @@ use Rattle.base.proofs.Choice.{if-true, if-false}
 use Rattle.utf8.specs.Utf8.{bytes, encode}
 use Rattle.document.proofs.Walks.{verdict-gives, verdict-refused}
 use Rattle.html_rules.specs.Html.{css}
-use Rattle.html_tags.specs.Parts.{tags}
+use Rattle.html_tags.specs.InnerParts.{tags}
 use Rattle.html.proofs.Whole.{html-refused, html-accepted}
 
 walk-requires : tie.Need-walk-requires

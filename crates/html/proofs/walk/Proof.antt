@@ -71,8 +71,8 @@ read c = c .before .before
 abbrev other : Told → Other
 other c = c .before .before
 
-abbrev told : Changed → Told
-told c = c .before .before .before .before .before
+abbrev kind-read : Changed → Told
+kind-read c = c .before .before .before .before .before
 
 abbrev changed : Bytes → Changed
 changed c = c .before .before .before .before
@@ -169,20 +169,20 @@ records-again-4 c =
 records-less-5 : tie.Need-records-less-5 Inv-chunks μ-chunks Inv-records μ-records
 records-less-5 c =
     let b = chunks (c .before .before .before .before) .before in
-    falls (read (other (told (changed b))))
+    falls (read (other (kind-read (changed b))))
 
 records-less-6 : tie.Need-records-less-6 Inv-chunks μ-chunks Inv-records μ-records
 records-less-6 c =
     let step = c .before .before in
     let b = chunks (lately step) .before in
-    falls (read (other (told (changed b))))
+    falls (read (other (kind-read (changed b))))
 
 records-less-7 : tie.Need-records-less-7 Inv-chunks μ-chunks Inv-records μ-records
 records-less-7 c =
     let ends = c .before .before in
     let step = ends .before .before .before .before in
     let b = chunks (lately step) .before in
-    falls (read (other (told (changed b))))
+    falls (read (other (kind-read (changed b))))
 
 chunks-less : tie.Need-chunks-less Inv-chunks μ-chunks Inv-records μ-records
 chunks-less c =
@@ -276,7 +276,7 @@ chunks-holds : tie.Need-chunks-holds Inv-chunks μ-chunks Inv-records μ-records
 chunks-holds c =
     let style = changed c in
     let test = style .before .before in
-    let kind = told style in
+    let kind = kind-read style in
     let r = read (other kind) in
     let o = records r .records .inv in (
       refl,
@@ -291,7 +291,7 @@ records-again-5 : tie.Need-records-again-5 Inv-chunks μ-chunks Inv-records μ-r
 records-again-5 c =
     let line = c .before .before .before .before in
     let b = chunks line .before in
-    let kind = told (changed b) in
+    let kind = kind-read (changed b) in
     let r = read (other kind) in
     let o = records r .records .inv in
     let i = chunks line .chunks .inv in
@@ -308,7 +308,7 @@ records-again-6 c =
     let step = c .before .before in
     let line = lately step in
     let b = chunks line .before in
-    let kind = told (changed b) in
+    let kind = kind-read (changed b) in
     let r = read (other kind) in
     let o = records r .records .inv in
     let i = chunks line .chunks .inv in
@@ -326,7 +326,7 @@ records-again-7 c =
     let step = piece .before .before in
     let line = lately step in
     let b = chunks line .before in
-    let kind = told (changed b) in
+    let kind = kind-read (changed b) in
     let r = read (other kind) in
     let o = records r .records .inv in
     let i = chunks line .chunks .inv in

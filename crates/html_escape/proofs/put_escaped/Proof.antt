@@ -8,7 +8,7 @@ use Rattle.html_escape.proofs.put_escaped.Statement.{statement}
 use Rattle.html_escape.proofs.put_escaped.Tie as tie
 use Rattle.base.specs.Result.{_>>=_}
 use Rattle.room.specs.Room.{seen}
-use Rattle.html_escape.specs.Parts.{entityOf}
+use Rattle.html_escape.specs.InnerParts.{entityOf}
 use Rattle.html_escape.proofs.Escapes.{rest, escaped-more, escaped-done}
 
 -- What the room shows, and then the escapes of the bytes from `i` on, is what the room showed at first, and then the escapes of all bytes.

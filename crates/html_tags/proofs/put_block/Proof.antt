@@ -4,7 +4,7 @@ use Prim.Native.Nat.{ℕ, _-_}
 use borrow.Author.Needs.{needs}
 use Rattle.html_tags.proofs.put_block.Statement.{statement}
 use Rattle.html_tags.proofs.put_block.Tie as tie
-use Rattle.html_marks.specs.Parts.{spanned}
+use Rattle.html_marks.specs.InnerParts.{spanned}
 use Rattle.html_rules.proofs.Writes.{wrote-same}
 use Rattle.html_tags.proofs.Blocks.{block-other, block-header}
 

@@ -8,17 +8,17 @@ use denote.Ref.{now}
 use lib.ListN.{length}
 use Rattle.joined.proofs.put_bodies.Statement.{statement}
 use Rattle.joined.proofs.put_bodies.Tie as tie
-use Rattle.records.specs.Records.{tokensFrom, joined, textOf}
+use Rattle.records.specs.Records.{tokensFrom, joined, documentText}
 use Rattle.joined.proofs.Writing.{Putting, putting-start, putting-more, putting-done, bodies-step, bodies-end}
 
 abbrev Inv-loop : tie.InvT-loop
-Inv-loop document room₀ len to₀ at₀ room to at = Putting room₀ len (textOf document) (joined (tokensFrom document at)) room to
+Inv-loop document room₀ len to₀ at₀ room to at = Putting room₀ len (documentText document) (joined (tokensFrom document at)) room to
 
 abbrev μ-loop : tie.MeasureT-loop
 μ-loop document room₀ len to₀ at₀ room to at = length document - at
 
 loop-holds : tie.Need-loop-holds Inv-loop μ-loop
-loop-holds c = unfold textOf in putting-start (now (c .before .before .args .room)) (c .before .before .args .len) refl
+loop-holds c = unfold documentText in putting-start (now (c .before .before .args .room)) (c .before .before .args .len) refl
 
 sub-put-all : tie.Need-sub-put-all Inv-loop μ-loop
 sub-put-all c = c .before .record-at .ensures .order

@@ -4,9 +4,9 @@ use borrow.Author.Needs.{needs}
 use Rattle.manpage.proofs.control.Statement.{statement}
 use Rattle.manpage.proofs.control.Tie as tie
 use Rattle.roff_escape.specs.Composer.{linebreak, control}
-use Rattle.roff_escape.specs.Parts.{controlName}
+use Rattle.roff_escape.specs.InnerParts.{controlName}
 use Rattle.roff_escape.proofs.Composing.{pushed-then}
-use Rattle.manpage.specs.Parts.{argumentPieces}
+use Rattle.manpage.specs.InnerParts.{argumentPieces}
 
 returns : tie.Need-returns
 unfolding control controlName argumentPieces linebreak

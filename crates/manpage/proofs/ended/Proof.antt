@@ -3,7 +3,7 @@ use borrow.Author.Needs.{needs}
 use denote.Ref.{now}
 use Rattle.manpage.proofs.ended.Statement.{statement}
 use Rattle.manpage.proofs.ended.Tie as tie
-use Rattle.manpage.specs.Parts.{between}
+use Rattle.manpage.specs.InnerParts.{between}
 
 headed-requires : tie.Need-headed-requires
 headed-requires c κs =

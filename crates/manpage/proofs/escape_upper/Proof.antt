@@ -12,7 +12,7 @@ use Rattle.manpage.proofs.escape_upper.Tie as tie
 use Rattle.upper.specs.Upper.{upper}
 use Rattle.roff_escape.specs.declared.escape.Escape.the-variants as mode
 use Rattle.roff_escape.proofs.Escaping.{Escaped, escaped-start, escaped-byte}
-use Rattle.manpage.specs.Parts.{CasedTo}
+use Rattle.manpage.specs.InnerParts.{CasedTo}
 use Rattle.manpage.proofs.Capturing.{Valid-from, valid-past-ascii, upper-here}
 
 abbrev Inv-loop : tie.InvT-loop

@@ -8,7 +8,7 @@ use Rattle.base.specs.Result.{Result}
 use Rattle.records.specs.declared.Block.{Block}
 use Rattle.utf8.specs.Utf8.{encode, bytes}
 use Rattle.manpage.specs.Roff.{Outcome, heading, ended}
-use Rattle.manpage.specs.Parts.{locals, between, Follows}
+use Rattle.manpage.specs.InnerParts.{locals, between, Follows}
 use Rattle.manpage.proofs.Blocks.{ended-section}
 
 returns : tie.Need-returns

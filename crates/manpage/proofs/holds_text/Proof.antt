@@ -5,7 +5,7 @@ use lib.Dec.{ltb}
 use Rattle.manpage.proofs.holds_text.Statement.{statement}
 use Rattle.manpage.proofs.holds_text.Tie as tie
 use Rattle.records.specs.declared.Kind.{Kind}
-use Rattle.manpage.specs.Parts.{isText}
+use Rattle.manpage.specs.InnerParts.{isText}
 
 returns : tie.Need-returns
 returns c =

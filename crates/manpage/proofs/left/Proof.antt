@@ -7,7 +7,7 @@ use Rattle.base.specs.Choice.{if_then_else_}
 use Rattle.records.specs.declared.Block.{Block}
 use Rattle.utf8.specs.Utf8.{encode, bytes}
 use Rattle.manpage.specs.Roff.{ended}
-use Rattle.manpage.specs.Parts.{locals, Follows}
+use Rattle.manpage.specs.InnerParts.{locals, Follows}
 use Rattle.manpage.proofs.Blocks.{stripped, ended-nothing}
 
 returns : tie.Need-returns

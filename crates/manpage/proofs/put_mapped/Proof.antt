@@ -16,7 +16,7 @@ use Rattle.upper.specs.Upper.{upper}
 use Rattle.upper.proofs.Text.{upper-none}
 use Rattle.roff_escape.specs.declared.escape.Escape.the-variants as mode
 use Rattle.roff_escape.proofs.Escaping.{Escaped, escaped-start, escaped-part, escaped-end}
-use Rattle.manpage.specs.Parts.{isText, textsValid, between}
+use Rattle.manpage.specs.InnerParts.{isText, textsValid, between}
 use Rattle.manpage.proofs.Capturing.{Again, captured-part, holds-valid, passed-over, between-none, further, valid-next}
 use Rattle.manpage.proofs.Casing.{escaped-rest}
 

@@ -13,7 +13,7 @@ use Rattle.manpage.proofs.walk.Tie as tie
 use Rattle.refusal.specs.declared.Refusal.the-variants as refusal
 use Rattle.room.specs.Room.{extended}
 use Rattle.roff_escape.specs.Escape.{preamble}
-use Rattle.manpage.specs.Parts.{isTermRef}
+use Rattle.manpage.specs.InnerParts.{isTermRef}
 use Rattle.manpage.proofs.Walking.{On, on-start, Taken, taken, taken-less, on-unknown, on-started, on-ended, on-text, on-captured}
 use Rattle.manpage.proofs.Walking.{refused-11, refused-13, answer-refused, done}
 

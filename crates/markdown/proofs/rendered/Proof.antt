@@ -6,7 +6,7 @@ use Rattle.markdown.proofs.rendered.Tie as tie
 use Rattle.base.specs.Choice.{if_then_else_}
 use Rattle.utf8.specs.Utf8.{bytes, encode}
 use Rattle.document.proofs.Walks.{verdict-gives, verdict-refused}
-use Rattle.markdown_marks.specs.Parts.{tags}
+use Rattle.markdown_marks.specs.InnerParts.{tags}
 use Rattle.markdown.proofs.Whole.{markdown-refused, markdown-accepted}
 
 walk-requires : tie.Need-walk-requires

@@ -70,8 +70,8 @@ read c = c .before .before
 abbrev other : Told → Other
 other c = c .before .before
 
-abbrev told : Changed → Told
-told c = c .before .before .before .before .before
+abbrev kind-read : Changed → Told
+kind-read c = c .before .before .before .before .before
 
 abbrev changed : Bytes → Changed
 changed c = c .before .before .before .before
@@ -176,7 +176,7 @@ chunks-holds : tie.Need-chunks-holds Inv-chunks μ-chunks Inv-records μ-records
 chunks-holds c =
     let style = changed c in
     let test = style .before .before in
-    let kind = told style in
+    let kind = kind-read style in
     let r = read (other kind) in
     let o = records r .records .inv in (
       refl,
@@ -191,7 +191,7 @@ records-less-5 c =
     let ends = code .before .before .before in
     let step = ends .before .before .before .before in
     let b = chunks (lately step) .before in
-    falls (read (other (told (changed b))))
+    falls (read (other (kind-read (changed b))))
 
 records-again-5 : tie.Need-records-again-5 Inv-chunks μ-chunks Inv-records μ-records
 records-again-5 c =
@@ -201,7 +201,7 @@ records-again-5 c =
     let step = piece .before .before in
     let plain = lately step in
     let b = chunks plain .before in
-    let kind = told (changed b) in
+    let kind = kind-read (changed b) in
     let r = read (other kind) in
     let o = records r .records .inv in
     let i = chunks plain .chunks .inv in
@@ -232,7 +232,7 @@ chunks-again c =
     let step = piece .before .before in
     let plain = lately step in
     let b = chunks plain .before in
-    let kind = told (changed b) in
+    let kind = kind-read (changed b) in
     let r = read (other kind) in
     let o = records r .records .inv in
     let i = chunks plain .chunks .inv in
@@ -250,7 +250,7 @@ records-less-6 : tie.Need-records-less-6 Inv-chunks μ-chunks Inv-records μ-rec
 records-less-6 c =
     let out = c .before .before .before .before in
     let b = chunks (out .before .before .before) .before in
-    falls (read (other (told (changed b))))
+    falls (read (other (kind-read (changed b))))
 
 records-again-6 : tie.Need-records-again-6 Inv-chunks μ-chunks Inv-records μ-records
 records-again-6 c =
@@ -258,7 +258,7 @@ records-again-6 c =
     let out = code .before .before in
     let plain = out .before .before .before in
     let b = chunks plain .before in
-    let kind = told (changed b) in
+    let kind = kind-read (changed b) in
     let r = read (other kind) in
     let o = records r .records .inv in
     let i = chunks plain .chunks .inv in

@@ -1,7 +1,7 @@
 use borrow.Author.Needs.{needs}
 use Rattle.markdown_chunks.proofs.is_plain.Statement.{statement}
 use Rattle.markdown_chunks.proofs.is_plain.Tie as tie
-use Rattle.markdown_chunks.proofs.Onward.{ready}
+use Rattle.markdown_chunks.proofs.Advance.{ready}
 
 returns-3 : tie.Need-returns-3
 returns-3 c =

@@ -2,7 +2,7 @@ use borrow.Author.Needs.{needs}
 use denote.Ref.{now}
 use Rattle.markdown_chunks.proofs.put_plain.Statement.{statement}
 use Rattle.markdown_chunks.proofs.put_plain.Tie as tie
-use Rattle.markdown_chunks.proofs.Onward.{moves-on, moves-none}
+use Rattle.markdown_chunks.proofs.Advance.{moves-on, moves-none}
 
 returns : tie.Need-returns
 returns c =

@@ -6,17 +6,17 @@ use denote.Ref.{now}
 use Rattle.base.proofs.Choice.{le-or-lt}
 use Rattle.markdown_chunks.proofs.put_words.Statement.{statement}
 use Rattle.markdown_chunks.proofs.put_words.Tie as tie
-use Rattle.markdown_chunks.proofs.Onward.{onward-start, onward-run}
+use Rattle.markdown_chunks.proofs.Advance.{markdown-start, onward-run}
 
 returns : tie.Need-returns
 returns c =
     let a = c .before .before .before .args in
-    onward-start (now (a .body)) (now (a .room)) (a .len) (a .from)
+    markdown-start (now (a .body)) (now (a .room)) (a .len) (a .from)
 
 returns-2 : tie.Need-returns-2
 returns-2 c =
     let a = c .before .before .before .before .before .args in
-    onward-start (now (a .body)) (now (a .room)) (a .len) (a .from)
+    markdown-start (now (a .body)) (now (a .room)) (a .len) (a .from)
 
 add-t7 : tie.Need-add-t7
 add-t7 c =

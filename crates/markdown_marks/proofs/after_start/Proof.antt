@@ -4,7 +4,7 @@ use borrow.Author.Needs.{needs}
 use Rattle.markdown_marks.proofs.after_start.Statement.{statement}
 use Rattle.markdown_marks.proofs.after_start.Tie as tie
 use Rattle.html_rules.specs.declared.Markdown.{Markdown}
-use Rattle.markdown_marks.specs.Parts.{startOf}
+use Rattle.markdown_marks.specs.InnerParts.{startOf}
 
 returns : tie.Need-returns
 returns c =

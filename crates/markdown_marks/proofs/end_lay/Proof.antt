@@ -3,8 +3,8 @@ use Prim.Native.Nat.{ℕ, _-_}
 use borrow.Author.Needs.{needs}
 use Rattle.markdown_marks.proofs.end_lay.Statement.{statement}
 use Rattle.markdown_marks.proofs.end_lay.Tie as tie
-use Rattle.html_rules.specs.Markdown.{mono, ended}
-use Rattle.markdown_marks.specs.Parts.{endOf}
+use Rattle.html_rules.specs.Markdown.{withMono, ended}
+use Rattle.markdown_marks.specs.InnerParts.{endOf}
 use Rattle.markdown_marks.proofs.Flags.{inline-end}
 
 returns-9 : tie.Need-returns-9
@@ -14,7 +14,7 @@ returns-9 c =
 
 returns-12 : tie.Need-returns-12
 unfolding endOf ended
-returns-12 c = rw (c .before .enum-told12 .given .1) (ap (λ (n : ℕ). mono n (c .before .before .before .args .l)) (c .saturating-sub .ensures))
+returns-12 c = rw (c .before .enum-told12 .given .1) (ap (λ (n : ℕ). withMono n (c .before .before .before .args .l)) (c .saturating-sub .ensures))
 
 pub end-lay-spec : {M : Type 1} → statement M
 unfolding endOf ended

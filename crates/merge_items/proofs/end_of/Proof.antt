@@ -8,7 +8,7 @@ use lib.ListN.{length}
 use Rattle.merge_items.proofs.end_of.Statement.{statement}
 use Rattle.merge_items.proofs.end_of.Tie as tie
 use Rattle.records.specs.Records.{tokensFrom}
-use Rattle.merge_rules.specs.Ends.{endOf}
+use Rattle.merge_rules.specs.InnerEnds.{endOf}
 use Rattle.merge_items.proofs.Finding.{deep-low, deep-open, deep-over, end-on, end-here, end-past}
 
 abbrev Inv-loop : tie.InvT-loop

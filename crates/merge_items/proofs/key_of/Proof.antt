@@ -11,7 +11,7 @@ use Rattle.merge_items.proofs.key_of.Tie as tie
 use Rattle.base.specs.Result.{_>>=_}
 use Rattle.records.specs.Records.{tokensFrom}
 use Rattle.room.specs.Room.{seen, extended}
-use Rattle.merge_items.specs.Steps.{textTo}
+use Rattle.merge_items.specs.InnerSteps.{textTo}
 use Rattle.merge_items.proofs.Texts.{from-nothing, joined-on, joined-end}
 
 abbrev Inv-loop : tie.InvT-loop

@@ -10,7 +10,7 @@ use Rattle.merge_sides.proofs.all_plain.Statement.{statement}
 use Rattle.merge_sides.proofs.all_plain.Tie as tie
 use Rattle.records.specs.Records.{tokensFrom}
 use Rattle.shape.specs.Shape.{kinds}
-use Rattle.merge_sides.specs.Steps.{allPlain}
+use Rattle.merge_sides.specs.InnerSteps.{allPlain}
 use Rattle.merge_sides.proofs.Filling.{plain-on, plain-out, plain-end}
 
 abbrev Inv-loop : tie.InvT-loop

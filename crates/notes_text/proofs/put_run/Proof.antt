@@ -13,7 +13,7 @@ use Rattle.notes_text.proofs.put_run.Tie as tie
 use Rattle.base.specs.Bytes.{part}
 use Rattle.room.specs.Room.{seen}
 use Rattle.notes_rules.specs.Notes.{styled}
-use Rattle.notes_text.specs.Parts.{lead}
+use Rattle.notes_text.specs.InnerParts.{lead}
 use Rattle.notes_text.proofs.Runs.{styles-differ, styles-same, pair-on, lead-on, lead-other, lead-end}
 use Rattle.notes_text.proofs.Writes.{Puts, puts-start, puts-as, puts-more, puts-all}
 

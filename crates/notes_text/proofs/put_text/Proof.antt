@@ -12,7 +12,7 @@ use Rattle.notes_text.proofs.put_text.Tie as tie
 use Rattle.room.specs.Room.{seen}
 use Rattle.records.specs.Stored.{head}
 use Rattle.notes_rules.specs.Notes.{styled, textRecords}
-use Rattle.notes_text.specs.Parts.{lead}
+use Rattle.notes_text.specs.InnerParts.{lead}
 use Rattle.notes_text.proofs.Runs.{recordsAt, records-pair, records-end, records-run, run-moves}
 use Rattle.notes_text.proofs.Writes.{Puts, puts-start, puts-as, puts-more, puts-all}
 

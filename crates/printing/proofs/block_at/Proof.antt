@@ -8,7 +8,7 @@ use lib.ListN.{getD}
 use Rattle.printing.proofs.block_at.Statement.{statement}
 use Rattle.printing.proofs.block_at.Tie as tie
 use Rattle.utf8.proofs.Laws.{most-more}
-use Rattle.printing.specs.Parts.{asciiCount}
+use Rattle.printing.specs.InnerParts.{asciiCount}
 use Rattle.printing.proofs.Laws.{prints-small, count-none, count-more}
 
 -- No byte so far is over the largest, and so many of them print.

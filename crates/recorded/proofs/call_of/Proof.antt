@@ -7,7 +7,7 @@ use lib.Dec.{eqb}
 use lib.ListN.{drop, getD}
 use Rattle.recorded.proofs.call_of.Statement.{statement}
 use Rattle.recorded.proofs.call_of.Tie as tie
-use Rattle.recorded.specs.Cases.{numberIn, past}
+use Rattle.recorded.specs.InnerCases.{numberIn, past}
 use Rattle.recorded.proofs.Cases.{call-is}
 
 returns : tie.Need-returns

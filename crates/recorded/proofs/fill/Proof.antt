@@ -8,8 +8,8 @@ use denote.Ref.{now}
 use lib.ListN.{length, take, getD, length-set}
 use Rattle.recorded.proofs.fill.Statement.{statement}
 use Rattle.recorded.proofs.fill.Tie as tie
-use Rattle.compared.specs.Compared.{filledBy}
-use Rattle.recorded.specs.Cases.{pattern, filled}
+use Rattle.compared.specs.InnerCompared.{filledBy}
+use Rattle.recorded.specs.InnerCases.{pattern, filled}
 use Rattle.compared.proofs.Filling.{filled-more}
 use lib.Seq.{take-all}
 

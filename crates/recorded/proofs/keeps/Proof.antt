@@ -8,7 +8,7 @@ use denote.Ref.{now}
 use lib.ListN.{length, getD}
 use Rattle.recorded.proofs.keeps.Statement.{statement}
 use Rattle.recorded.proofs.keeps.Tie as tie
-use Rattle.recorded.specs.Cases.{pattern, keeps}
+use Rattle.recorded.specs.InnerCases.{pattern, keeps}
 use Rattle.compared.proofs.Filling.{Left, holds-next, holds-other, holds-all}
 
 abbrev Inv-loop : tie.InvT-loop

@@ -5,7 +5,7 @@ use denote.Ref.{now}
 use lib.ListN.{drop}
 use Rattle.recorded.proofs.past.Statement.{statement}
 use Rattle.recorded.proofs.past.Tie as tie
-use Rattle.recorded.specs.Cases.{past}
+use Rattle.recorded.specs.InnerCases.{past}
 
 returns : tie.Need-returns
 unfolding past

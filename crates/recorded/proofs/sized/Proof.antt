@@ -3,7 +3,7 @@ use borrow.Author.Needs.{needs}
 use lib.ListN.{drop}
 use Rattle.recorded.proofs.sized.Statement.{statement}
 use Rattle.recorded.proofs.sized.Tie as tie
-use Rattle.recorded.specs.Cases.{past}
+use Rattle.recorded.specs.InnerCases.{past}
 
 returns : tie.Need-returns
 returns c =

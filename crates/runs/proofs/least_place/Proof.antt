@@ -11,7 +11,7 @@ use denote.Ref.{now}
 use lib.ListN.{length, take, drop, length-drop}
 use lib.Seq.{length-take-le}
 use Rattle.base.specs.Choice.{if_then_else_}
-use Rattle.runs.specs.Runs.{among}
+use Rattle.runs.specs.InnerRuns.{among}
 use Rattle.runs.proofs.Runs.{Least, least-more, least-all, block-byte}
 use Rattle.runs.proofs.least_place.Statement.{statement}
 use Rattle.runs.proofs.least_place.Tie as tie

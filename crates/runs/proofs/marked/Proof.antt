@@ -7,7 +7,7 @@ use borrow.Author.Needs.{needs}
 use denote.Ref.{now}
 use lib.ListN.{take, drop}
 use Rattle.base.specs.Choice.{if_then_else_}
-use Rattle.runs.specs.Runs.{among, any}
+use Rattle.runs.specs.InnerRuns.{among, any}
 use Rattle.runs.proofs.Runs.{mark-tells, marked-start, marked-more}
 use Rattle.runs.proofs.marked.Statement.{statement}
 use Rattle.runs.proofs.marked.Tie as tie

@@ -5,7 +5,7 @@ use borrow.Author.Tests.{not-true, not-false}
 use denote.Ref.{now}
 use Rattle.sample_calls.proofs.agrees.Statement.{statement}
 use Rattle.sample_calls.proofs.agrees.Tie as tie
-use Rattle.sample_calls.specs.Calls.{isWanted}
+use Rattle.sample_calls.specs.InnerCalls.{isWanted}
 use Rattle.sample_calls.proofs.Calls.{agrees-no, agrees-large, agrees-by, part-length}
 
 returns : tie.Need-returns

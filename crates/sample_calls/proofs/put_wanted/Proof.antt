@@ -6,7 +6,7 @@ use Rattle.sample_calls.proofs.put_wanted.Tie as tie
 use Rattle.base.specs.Choice.{if_then_else_}
 use Rattle.utf8.specs.Utf8.{encode, bytes}
 use Rattle.roff_escape.specs.Escape.{preamble}
-use Rattle.sample_lines.specs.Lines.{textFrom}
+use Rattle.sample_lines.specs.InnerLines.{textFrom}
 use Rattle.sample_calls.proofs.Calls.{wrote-two}
 
 returns : tie.Need-returns

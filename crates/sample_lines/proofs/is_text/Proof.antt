@@ -8,9 +8,9 @@ use denote.Ref.{now}
 use lib.ListN.{length, drop}
 use Rattle.sample_lines.proofs.is_text.Statement.{statement}
 use Rattle.sample_lines.proofs.is_text.Tie as tie
-use Rattle.compared.specs.Compared.{same}
+use Rattle.compared.specs.InnerCompared.{same}
 use Rattle.compared.proofs.Comparing.{same-rest, other-rest, longer-rest, no-rest}
-use Rattle.sample_lines.specs.Lines.{textFrom}
+use Rattle.sample_lines.specs.InnerLines.{textFrom}
 use Rattle.sample_lines.proofs.Lines.{text-end}
 
 abbrev Inv-loop : tie.InvT-loop

@@ -8,7 +8,7 @@ use denote.Ref.{now}
 use lib.ListN.{length, drop}
 use Rattle.sample_lines.proofs.number_at.Statement.{statement}
 use Rattle.sample_lines.proofs.number_at.Tie as tie
-use Rattle.sample_lines.specs.Lines.{numberFrom, numberAt}
+use Rattle.sample_lines.specs.InnerLines.{numberFrom, numberAt}
 use Rattle.sample_lines.proofs.Lines.{number-more, number-end, number-below, number-above, number-large}
 
 abbrev Inv-loop : tie.InvT-loop

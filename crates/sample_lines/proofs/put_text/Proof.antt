@@ -10,7 +10,7 @@ use Rattle.sample_lines.proofs.put_text.Statement.{statement}
 use Rattle.sample_lines.proofs.put_text.Tie as tie
 use Rattle.base.specs.Result.{_>>=_}
 use Rattle.room.specs.Room.{seen, extended}
-use Rattle.sample_lines.specs.Lines.{textFrom}
+use Rattle.sample_lines.specs.InnerLines.{textFrom}
 use Rattle.sample_lines.proofs.Lines.{text-end}
 use Rattle.sample_lines.proofs.Writing.{wrote-on, wrote-last}
 

@@ -8,7 +8,7 @@ use denote.Ref.{now}
 use lib.ListN.{length}
 use Rattle.sample_lines.proofs.text_size.Statement.{statement}
 use Rattle.sample_lines.proofs.text_size.Tie as tie
-use Rattle.sample_lines.specs.Lines.{textFrom}
+use Rattle.sample_lines.specs.InnerLines.{textFrom}
 use Rattle.sample_lines.proofs.Lines.{text-end}
 
 abbrev Inv-loop : tie.InvT-loop

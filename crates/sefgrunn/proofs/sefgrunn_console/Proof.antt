@@ -6,7 +6,7 @@ use Rattle.sefgrunn.proofs.sefgrunn_console.Statement.{statement}
 use Rattle.sefgrunn.proofs.sefgrunn_console.Tie as tie
 use Rattle.console_rules.specs.Console.{console}
 use Rattle.console_rules.specs.declared.Settings.{Settings}
-use Rattle.sefgrunn.proofs.Numbers.{rendered-number, told-gives}
+use Rattle.sefgrunn.proofs.Numbers.{rendered-number, caller-reads-gives}
 use Rattle.console.proofs.Order.{demand3}
 use Rattle.sefgrunn.proofs.RoomBound.{room-enough}
 
@@ -19,9 +19,9 @@ returns c =
     let set : Settings = record { width = a .width; full = a .full; measure = m .result } in
     let x = console set (length (now (a .room))) (now (a .document)) in
     let n = rendered-number (r .result) x (r .ensures .0) in
-    let number = c .told .ensures .0 ∙ n .0 in
-    let at = c .told .ensures .1 ∙ n .1 in
-    let three = demand3 set (now (a .document)) (now (a .room)) _ _ (λ text e. told-gives x _ _ text number at e) (r .ensures .1 .0) in
+    let number = c .numbers-of .ensures .0 ∙ n .0 in
+    let at = c .numbers-of .ensures .1 ∙ n .1 in
+    let three = demand3 set (now (a .document)) (now (a .room)) _ _ (λ text e. caller-reads-gives x _ _ text number at e) (r .ensures .1 .0) in
     rw (← m .ensures) (number, (at, (r .ensures .1 .0, (three, room-enough set (length (now (a .room))) (now (a .document)) _ number))))
 
 pub sefgrunn-console-spec : {M : Type 1} → statement M

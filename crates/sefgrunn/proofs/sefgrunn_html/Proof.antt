@@ -16,7 +16,7 @@ returns c =
     let n =
     rendered-number (render-html .result) (html (length (now (args .room))) false (args .full) (args .css) (now (args .document)))
     (render-html .ensures .0) in
-    (c .told .ensures .0 ∙ n .0, (c .told .ensures .1 ∙ n .1, render-html .ensures .1))
+    (c .numbers-of .ensures .0 ∙ n .0, (c .numbers-of .ensures .1 ∙ n .1, render-html .ensures .1))
 
 pub sefgrunn-html-spec : {M : Type 1} → statement M
 sefgrunn-html-spec =

@@ -16,7 +16,7 @@ returns c =
     let n =
     rendered-number (render-html-strict .result) (html (length (now (args .room))) true (args .full) (args .css) (now (args .document)))
     (render-html-strict .ensures .0) in
-    (c .told .ensures .0 ∙ n .0, (c .told .ensures .1 ∙ n .1, render-html-strict .ensures .1))
+    (c .numbers-of .ensures .0 ∙ n .0, (c .numbers-of .ensures .1 ∙ n .1, render-html-strict .ensures .1))
 
 pub sefgrunn-html-strict-spec : {M : Type 1} → statement M
 sefgrunn-html-strict-spec =

@@ -16,7 +16,7 @@ returns c =
     let set : Settings = record { width = a .width; full = a .full; measure = m .result } in
     let x = joinedConsole set (length (now (a .room))) (now (a .joined)) in
     let n = rendered-number (r .result) x (r .ensures .0) in
-    rw (← m .ensures) (c .told .ensures .0 ∙ n .0, (c .told .ensures .1 ∙ n .1, r .ensures .1))
+    rw (← m .ensures) (c .numbers-of .ensures .0 ∙ n .0, (c .numbers-of .ensures .1 ∙ n .1, r .ensures .1))
 
 pub sefgrunn-joined-console-spec : {M : Type 1} → statement M
 sefgrunn-joined-console-spec =

@@ -4,7 +4,7 @@ use Rattle.sefgrunn.proofs.sefgrunn_merge.Tie as tie
 use Rattle.sefgrunn.proofs.Merge.{merge-told}
 
 returns : tie.Need-returns
-returns c = merge-told (c .before .before .before .before .merge .ensures) (c .told .ensures .0) (c .told .ensures .1)
+returns c = merge-told (c .before .before .before .before .merge .ensures) (c .numbers-of .ensures .0) (c .numbers-of .ensures .1)
 
 pub sefgrunn-merge-spec : {M : Type 1} → statement M
 sefgrunn-merge-spec =

@@ -12,7 +12,7 @@ returns c =
     let a = c .before .before .before .before .before .before .before .before .args in
     let r = c .before .before .before .before .render-roff in
     let n = rendered-number (r .result) (roff (length (now (a .room))) (now (a .document))) (r .ensures .0) in
-    (c .told .ensures .0 ∙ n .0, (c .told .ensures .1 ∙ n .1, r .ensures .1))
+    (c .numbers-of .ensures .0 ∙ n .0, (c .numbers-of .ensures .1 ∙ n .1, r .ensures .1))
 
 pub sefgrunn-roff-spec : {M : Type 1} → statement M
 sefgrunn-roff-spec =

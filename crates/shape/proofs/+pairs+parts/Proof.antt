@@ -9,8 +9,8 @@ use native.Mathlib.Omega.{arith}
 use borrow.Author.Needs.{needs}
 use borrow.Fn.Kinds.{In}
 use borrow.Fn.PlainCycle.{Measures, is, falls, and}
-use Rattle.shape.specs.Steps.{ahead}
-use Rattle.shape.specs.Steps as want
+use Rattle.shape.specs.InnerSteps.{ahead}
+use Rattle.shape.specs.InnerSteps as want
 use Rattle.shape.proofs.Blocks.{is-part, is-list, no-part, wanted, no-text, no-end, due-body, due-other, next-term, next-other}
 use Rattle.shape.proofs.Records.{Turned, turned, start-out}
 use Rattle.shape.proofs.Loops.{Before, begins, over, on-text, text-strays, end-strays, unknown-strays}

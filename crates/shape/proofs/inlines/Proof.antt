@@ -1,8 +1,8 @@
 use mathlib.Core.Path.{refl, sym, _∙_}
 use native.Mathlib.Omega.{arith}
 use borrow.Author.Needs.{needs}
-use Rattle.shape.specs.Steps.{ahead}
-use Rattle.shape.specs.Steps as want
+use Rattle.shape.specs.InnerSteps.{ahead}
+use Rattle.shape.specs.InnerSteps as want
 use Rattle.shape.proofs.Blocks.{is-wrap, no-wrap}
 use Rattle.shape.proofs.Loops.{Before, begins, over, on-text, unknown-strays, start-strays, on-start, on-end, stops}
 use Rattle.shape.proofs.inlines.Statement.{statement}

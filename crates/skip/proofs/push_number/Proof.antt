@@ -3,7 +3,7 @@
 use Rattle.proof_kit.proofs.Kit.{ℕ, givenOf, tables, tablesOf, tripleOf, entered, cited}
 use Rattle.records.specs.declared.Block.the-variants.{InlineBlock}
 use Rattle.skip.specs.Counter.{skipStart}
-use Rattle.skip.specs.Answers.{held}
+use Rattle.skip.specs.Answers.{newIfFits}
 use Rattle.skip.proofs.InPlace.{Lent}
 use Rattle.skip.proofs.Through.{through}
 use Rattle.skip.proofs.Skip.push.Symbol as callee-def
@@ -15,7 +15,7 @@ use Rattle.skip.proofs.push_number.Statement as stated
 use Rattle.skip.proofs.push_number.Code as code
 
 abbrev rule : ℕ → ℕ
-rule n = held n (skipStart InlineBlock n)
+rule n = newIfFits n (skipStart InlineBlock n)
 
 pub push-number-spec : {M : Type 1} → stated.statement M
 unfolding code.routine tablesOf

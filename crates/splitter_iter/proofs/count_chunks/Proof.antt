@@ -29,7 +29,7 @@ use Rattle.splitter.specs.Answers.{start}
 use Rattle.splitter.specs.declared.Step.{Step}
 use Rattle.splitter.proofs.Step as S
 use Rattle.splitter.proofs.Step.Laws as S′
-use Rattle.splitter_iter.specs.Held.{splitter, left, hasChunk}
+use Rattle.splitter_iter.specs.InnerStruct.{splitter, left, hasChunk}
 use Rattle.splitter_iter.specs.declared.Splitter.{Splitter}
 use Rattle.splitter_iter.proofs.Splitter as T
 use Rattle.splitter_iter.proofs.Splitter.Laws as T′

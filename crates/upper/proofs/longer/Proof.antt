@@ -5,7 +5,7 @@ use native.Mathlib.Omega.{arith}
 use borrow.Author.Needs.{needs}
 use Rattle.upper.proofs.longer.Statement.{statement}
 use Rattle.upper.proofs.longer.Tie as tie
-use Rattle.upper.specs.Parts.{threeAt}
+use Rattle.upper.specs.InnerParts.{threeAt}
 use Rattle.upper.proofs.Columns.{longer-size}
 
 mul-wide : tie.Need-mul-wide

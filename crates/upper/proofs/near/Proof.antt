@@ -5,7 +5,7 @@ use borrow.Author.Needs.{needs}
 use lib.ListN.{getD}
 use Rattle.upper.proofs.near.Statement.{statement}
 use Rattle.upper.proofs.near.Tie as tie
-use Rattle.upper.specs.Parts.{NearColumns}
+use Rattle.upper.specs.InnerParts.{NearColumns}
 use Rattle.upper.proofs.Columns.{near-none, NearRow, near-row, just-one, longer-size}
 
 abbrev entry : tie.Else1 → tie.Start

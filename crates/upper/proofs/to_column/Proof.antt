@@ -1,7 +1,7 @@
 use mathlib.Core.Path.{refl}
 use Rattle.base.specs.Choice.{if_then_else_}
 use Rattle.upper.specs.Table.{table}
-use Rattle.upper.specs.Parts.{near, far, nearToColumn, farToColumn, toColumn}
+use Rattle.upper.specs.InnerParts.{near, far, nearToColumn, farToColumn, toColumn}
 use Rattle.upper.proofs.to_column.Statement.{statement}
 use Rattle.upper.proofs.to_column.Tie as tie
 

@@ -9,7 +9,7 @@ use Rattle.upper.proofs.to_uppercase.Tie as tie
 use Rattle.utf8.specs.Utf8.{encodeAll, characterAt}
 use Rattle.utf8.specs.declared.Decoded.the-variants.{Char}
 use Rattle.utf8.proofs.Characters.{read-character, character-encoded}
-use Rattle.upper.specs.Parts.{Columns}
+use Rattle.upper.specs.InnerParts.{Columns}
 use Rattle.upper.proofs.Writing.{scalar-most}
 use Rattle.upper.proofs.Going.{Going, going-first, going-more, going-full, going-none}
 

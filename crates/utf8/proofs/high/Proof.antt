@@ -1,6 +1,6 @@
 use borrow.Author.Tests.{eq-eqb, ne-eqb}
 use Rattle.base.specs.Choice.{if_then_else_}
-use Rattle.utf8.specs.Neighbours.{high}
+use Rattle.utf8.specs.InnerNeighbours.{high}
 use Rattle.utf8.proofs.high.Statement.{statement}
 use Rattle.utf8.proofs.high.Tie as tie
 

@@ -1,7 +1,7 @@
 use Prim.Native.Nat.{_-_}
 use native.Mathlib.Omega.{arith}
 use lib.ListN.{length}
-use Rattle.utf8.specs.Parts.{Ascii}
+use Rattle.utf8.specs.InnerParts.{Ascii}
 use Rattle.utf8.proofs.Neighbours.{ascii-more}
 use Rattle.utf8.proofs.past_ascii.Statement.{statement}
 use Rattle.utf8.proofs.past_ascii.Tie as tie

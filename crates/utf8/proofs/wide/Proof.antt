@@ -6,7 +6,7 @@ use Prim.Native.Nat.{ℕ, _≤_, _+_, _-_}
 use native.Mathlib.Omega.{arith}
 use lib.ListN.{length}
 use Rattle.utf8.specs.Utf8.{utf8}
-use Rattle.utf8.specs.Parts.{soundAt}
+use Rattle.utf8.specs.InnerParts.{soundAt}
 use Rattle.utf8.proofs.Neighbours.{sound-end, last-fails, last-passes}
 use Rattle.utf8.proofs.wide.Statement.{statement}
 use Rattle.utf8.proofs.wide.Tie as tie

@@ -7,7 +7,7 @@ use native.Mathlib.Omega.{arith}
 use borrow.Author.Needs.{needs}
 use borrow.Author.Tests.{eqb-false}
 use denote.Ref.{now}
-use Rattle.words.specs.Copies.{NoLineEnd}
+use Rattle.words.specs.InnerCopies.{NoLineEnd}
 use Rattle.words.proofs.has_line_end.Statement.{statement}
 use Rattle.words.proofs.has_line_end.Tie as tie
 use Rattle.words.proofs.Copying.{plain-more}

@@ -14,7 +14,7 @@ use Rattle.utf8.specs.Utf8.{characters}
 use Rattle.utf8.proofs.Laws.{adds-by, adds-not}
 use Rattle.splitter.specs.Split.{isLineEndOrSpace}
 use Rattle.splitter.proofs.Before.{neither-ends}
-use Rattle.words.specs.Copies.{NoWordCut}
+use Rattle.words.specs.InnerCopies.{NoWordCut}
 use Rattle.words.proofs.whole_words.Statement.{statement}
 use Rattle.words.proofs.whole_words.Tie as tie
 use Rattle.words.proofs.Copying.{counts-back, cut-back, whole-end, whole-stop, whole-space, whole-none}

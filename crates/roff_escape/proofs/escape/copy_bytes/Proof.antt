@@ -10,7 +10,7 @@ use lib.ListN.{length, take, getD, set, length-set}
 use lib.Seq.{length-take-le, getD-take}
 use Rattle.roff_escape.proofs.escape.copy_bytes.Statement.{statement}
 use Rattle.roff_escape.proofs.escape.copy_bytes.Tie as tie
-use Rattle.roff_escape.specs.Parts.{plain, Copies}
+use Rattle.roff_escape.specs.InnerParts.{plain, Copies}
 use Rattle.roff_escape.proofs.Plain.{copies-start, copies-more}
 
 abbrev Inv-loop : tie.InvT-loop

@@ -8,10 +8,10 @@ use denote.Ref.{now}
 use lib.ListN.{length, take, drop, length-take, length-drop}
 use lib.Seq.{length-take-le}
 use Rattle.splitter.proofs.Before.{before-short}
-use Rattle.runs.specs.Runs.{among}
+use Rattle.runs.specs.InnerRuns.{among}
 use Rattle.roff_escape.proofs.escape.copy_plain.Statement.{statement}
 use Rattle.roff_escape.proofs.escape.copy_plain.Tie as tie
-use Rattle.roff_escape.specs.Parts.{Copies}
+use Rattle.roff_escape.specs.InnerParts.{Copies}
 use Rattle.roff_escape.proofs.Plain.{run-plain, block-part, copies-start, copies-run, copies-join}
 
 abbrev Inv-loop : tie.InvT-loop

@@ -14,7 +14,7 @@ use lib.Seq.{length-take-le, getD-take}
 use Rattle.base.proofs.Choice.{and-left}
 use Rattle.roff_escape.proofs.escape.escape_text.Statement.{statement}
 use Rattle.roff_escape.proofs.escape.escape_text.Tie as tie
-use Rattle.roff_escape.specs.Parts.{textMode, plain}
+use Rattle.roff_escape.specs.InnerParts.{textMode, plain}
 use Rattle.roff_escape.proofs.Escaping.{escaped-start, escaped-byte, escaped-end, from-here}
 use Rattle.roff_escape.proofs.Plain.{TextFrom, text-part, text-same, text-plain, copies-below}
 

@@ -4,7 +4,7 @@ use Rattle.roff_escape.proofs.roff.control_name.Statement.{statement}
 use Rattle.roff_escape.proofs.roff.control_name.Tie as tie
 use Rattle.base.specs.Choice.{if_then_else_}
 use Rattle.utf8.specs.Utf8.{encode, bytes}
-use Rattle.roff_escape.specs.Parts.{controlName}
+use Rattle.roff_escape.specs.InnerParts.{controlName}
 use Rattle.roff_escape.proofs.Composing.{pushed-then}
 
 returns : tie.Need-returns

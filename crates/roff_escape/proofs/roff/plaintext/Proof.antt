@@ -5,7 +5,7 @@ use Rattle.base.specs.Bytes.{part}
 use Rattle.roff_escape.proofs.roff.plaintext.Statement.{statement}
 use Rattle.roff_escape.proofs.roff.plaintext.Tie as tie
 use Rattle.roff_escape.specs.Composer.{plaintext}
-use Rattle.roff_escape.specs.Parts.{textMode}
+use Rattle.roff_escape.specs.InnerParts.{textMode}
 use Rattle.roff_escape.proofs.Composing.{piece-put, text-unasked}
 
 returns : tie.Need-returns

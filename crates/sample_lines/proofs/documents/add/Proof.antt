@@ -7,7 +7,7 @@ use lib.ListN.{length}
 use Rattle.sample_lines.proofs.documents.add.Statement.{statement}
 use Rattle.sample_lines.proofs.documents.add.Tie as tie
 use Rattle.room.specs.Room.{seen}
-use Rattle.sample_lines.specs.Adding.{repeated}
+use Rattle.sample_lines.specs.InnerAdding.{repeated}
 use Rattle.sample_lines.proofs.Adding.{adds-text, adds-starts, adds-ends, adds-zeros, adds-bytes}
 use Rattle.sample_lines.proofs.Writing.{wrote-as}
 

@@ -7,7 +7,7 @@ use Rattle.sample_lines.proofs.documents.put_record.Statement.{statemen
 use Rattle.sample_lines.proofs.documents.put_record.Tie as tie
 use Rattle.base.specs.Result.{_>>=_}
 use Rattle.room.specs.Room.{seen, extended}
-use Rattle.sample_lines.specs.Lines.{textFrom}
+use Rattle.sample_lines.specs.InnerLines.{textFrom}
 use Rattle.sample_lines.proofs.Adding.{record-wrote}
 
 returns : tie.Need-returns

@@ -11,7 +11,7 @@ use Rattle.sample_lines.proofs.documents.put_times.Tie as tie
 use native.Mathlib.Nat.{sub-zero}
 use Rattle.base.specs.Result.{_>>=_}
 use Rattle.room.specs.Room.{seen, extended}
-use Rattle.sample_lines.specs.Adding.{repeated}
+use Rattle.sample_lines.specs.InnerAdding.{repeated}
 use Rattle.sample_lines.proofs.Adding.{repeated-more, repeated-none}
 use Rattle.sample_lines.proofs.Writing.{wrote-on, wrote-last}
 

@@ -16,7 +16,7 @@ use Rattle.proof_kit.proofs.Kit.{Walks, ends-at, walked, walk-meets, ensured, l
 use denote.Enum.Laws as EL
 use denote.Struct.Laws as LL
 use Rattle.splitter.specs.Answers.{firstChunk, Within}
-use Rattle.splitter_iter.specs.Held.{splitter, standing, afterStep}
+use Rattle.splitter_iter.specs.InnerStruct.{splitter, cursorOf, afterStep}
 use Rattle.splitter.specs.declared.Cursor.{Cursor}
 use Rattle.splitter_iter.specs.declared.Splitter.{Splitter}
 use Rattle.splitter.specs.declared.Step.{Step}
@@ -77,7 +77,7 @@ module _ {M : Type 1} (𝓤 : URA M) (H : Heap 𝓤) (A : Atoms 𝓤) (W : Given
 
   -- where it stands
   abbrev st : Cursor
-  st = standing h
+  st = cursorOf h
 
   -- what `step_at` says of its answer
   abbrev Chunk : Step → Type 0

@@ -9,6 +9,7 @@ use Rattle.records.specs.declared.Kind.the-variants as kind
 use Rattle.shape.specs.Shape.{inline}
 use Rattle.merge_rules.specs.Merge.{Item, records, Proper, Lists, IsList, ascending}
 use Rattle.merge_sides.specs.declared.Side.{Side}
+use Rattle.document.specs.Document.{maxBytes}
 
 -- an item stands at a place, with its term's end and its own end
 pub record Stands (s : List ℕ) (at stop next : ℕ) : Type 0 where
@@ -22,7 +23,7 @@ pub record Stands (s : List ℕ) (at stop next : ℕ) : Type 0 where
 pub record Asked (s : List ℕ) : Type 0 where
   pub is : List Item
   pub listed : Lists s is
-  pub short : length s ≤ 32_768
+  pub short : length s ≤ maxBytes
 
 pub record Climbs (s : List ℕ) (r : Bool) : Type 0 where
   pub says : (is : List Item) → Lists s is → r ≡ ascending is

@@ -14,8 +14,8 @@ use Rattle.utf8.specs.Utf8.{characters}
 use Rattle.splitter.specs.Split.{raw, Placed}
 use Rattle.splitter.specs.declared.Code.the-variants as code
 use Rattle.renderer.specs.Walk.{Page, page, shown}
-use Rattle.words.specs.Copies.{NoLineEnd, NoWordCut, Copies}
-use Rattle.words.specs.Onward.{onward, Onward}
+use Rattle.words.specs.InnerCopies.{NoLineEnd, NoWordCut, Copies}
+use Rattle.words.specs.InnerAdvance.{walkFrom, Advance}
 use Rattle.words.proofs.Copying.{part-join, copied-part}
 use Rattle.words.proofs.Chunks.{First, first-chunk}
 use Rattle.words.proofs.Follow.{shown-stays, word-follows}
@@ -35,7 +35,7 @@ module _ {I L : Type 0} (full : I → Bool) (chunk : I → ℕ → Placed → Pa
         (written : Written) (i : I) (kept : List ℕ) (lay : L) (q : Plain i lay) where
       -- what the rule gives from a place of the run on
       abbrev from : ℕ → Result (Page L)
-      from p = shown room (len + (p - at)) kept (after (characters (part x at p)) lay) >>= onward full chunk i (length room) x p code.No
+      from p = shown room (len + (p - at)) kept (after (characters (part x at p)) lay) >>= walkFrom full chunk i (length room) x p code.No
 
       there : (e : ℕ) → at < to → at ≤ e → e ≤ to → take (len + (e - at)) room ≡ take len room ++ part x at e
       there e l c d = copied-part x room room len at to e (omega (arith, fits l)) c d copied
@@ -64,27 +64,27 @@ module _ {I L : Type 0} (full : I → Bool) (chunk : I → ℕ → Placed → Pa
           run-follows n (f .next) (omega (arith, f .more)) (omega (arith, f .more)) (f .near) ∙ chunk-follows p a l f)
           (le-or-lt to p)
 
-      pub run-there : at ≤ to → (shown room (len + (to - at)) kept (after (characters (part x at to)) lay) >>= onward full chunk i (length room) x to code.No)
-          ≡ (shown room len kept (after 0 lay) >>= onward full chunk i (length room) x at code.No)
+      pub run-there : at ≤ to → (shown room (len + (to - at)) kept (after (characters (part x at to)) lay) >>= walkFrom full chunk i (length room) x to code.No)
+          ≡ (shown room len kept (after 0 lay) >>= walkFrom full chunk i (length room) x at code.No)
       run-there h =
           let z : at - at ≡ 0 = omega arith in
           run-follows (to - at) at (omega arith) (omega arith) h ∙ rw (z, add-zero) refl
 
   module _ (old : List ℕ) (len at : ℕ) where
     -- no word yet
-    pub onward-start : (moved : L → L) → ((i : I) (lay : L) → Plain i lay → moved lay ≡ lay) → Onward full chunk Plain moved x old len at old len at
-    onward-start moved e = record {
+    pub advance-start : (moved : L → L) → ((i : I) (lay : L) → Plain i lay → moved lay ≡ lay) → Advance full chunk Plain moved x old len at old len at
+    advance-start moved e = record {
       size = refl;
       order = omega arith;
       within = λ l. l;
-      same = λ i kept lay p. ap (λ (l : L). shown old len kept l >>= onward full chunk i (length old) x at code.No) (e i lay p);
+      same = λ i kept lay p. ap (λ (l : L). shown old len kept l >>= walkFrom full chunk i (length old) x at code.No) (e i lay p);
     }
 
     -- a run more
-    pub onward-run : (moved : L → L) (new : List ℕ) (len′ at′ : ℕ) → Onward full chunk Plain moved x old len at new len′ at′
+    pub onward-run : (moved : L → L) (new : List ℕ) (len′ at′ : ℕ) → Advance full chunk Plain moved x old len at new len′ at′
         → (new′ : List ℕ) (most to width : ℕ) → Copies x at′ most len′ new new′ to width → length new′ ≡ length new
         → (after : ℕ → L → L) → ((lay : L) → after 0 lay ≡ moved lay) → Written new′ len′ at′ to after
-        → Onward full chunk Plain (after width) x old len at new′ (len′ + (to - at′)) to
+        → Advance full chunk Plain (after width) x old len at new′ (len′ + (to - at′)) to
     onward-run moved new len′ at′ o new′ most to width c size after first written = record {
       size = size ∙ o .size;
       order = omega (arith, o .order, c .order);
@@ -94,7 +94,7 @@ module _ {I L : Type 0} (full : I → Bool) (chunk : I → ℕ → Placed → Pa
           rw (← e, ← c .counts)
           (run-there new′ len′ at′ to after (c .within) (λ h. omega (arith, c .fits h)) (c .copied ∙ ap (λ (y : List ℕ). y ++ part x at′ to) (sym (c .stays)))
           (c .plain) (c .whole) written i kept lay p (c .order)
-          ∙ ap₂ (λ (r : Result (Page L)) (n : ℕ). r >>= onward full chunk i n x at′ code.No)
+          ∙ ap₂ (λ (r : Result (Page L)) (n : ℕ). r >>= walkFrom full chunk i n x at′ code.No)
           (ap (shown new′ len′ kept) (first lay) ∙ shown-stays new new′ len′ size (c .stays) kept (moved lay)) e
           ∙ o .same i kept lay p
           ∙ rw e refl);

@@ -18,18 +18,18 @@ use Rattle.splitter.proofs.Fits.{count-short}
 use Rattle.splitter.specs.declared.Code.{Code}
 use Rattle.splitter.specs.declared.Code.the-variants as code
 use Rattle.renderer.specs.Walk.{page, withLay, empty}
-use Rattle.console_rules.specs.Console.{State, column, settled, measureOf, measureBy, reach, place, put, rawChunk, chunk}
+use Rattle.console_rules.specs.Console.{State, withColumn, settled, measureOf, measureBy, reach, place, put, rawChunk, chunk}
 use Rattle.console_rules.specs.declared.Settings.{Settings}
 use Rattle.console_rules.specs.declared.Lay.{Lay}
 use Rattle.console_rules.specs.declared.Measure.{Measure}
 use Rattle.console_rules.specs.declared.Measure.the-variants as measure
 use Rattle.console_chunks.proofs.Chunks.{line-idle, blank-idle, gap-no, put-near, empty-some}
 use Rattle.console_chunks.specs.declared.Mark.{Mark}
-use Rattle.console_words.specs.Onward.{Quiet, Task, fullOf, ruleOf, Plain, Onward, Ready, Ahead, Moves}
-use Rattle.words.specs.Copies.{Copies}
+use Rattle.console_words.specs.InnerAdvance.{Quiet, Task, fullOf, ruleOf, Plain, LineAdvance, Ready, Ahead, Moves}
+use Rattle.words.specs.InnerCopies.{Copies}
 use Rattle.words.proofs.Follow.{write-in}
 use Rattle.words.proofs.Copying.{characters-join, part-short, part-narrow}
-use Rattle.words.proofs.Onward.{Written, onward-start as words-start, onward-run as words-run}
+use Rattle.words.proofs.Advance.{Written, advance-start as words-start, onward-run as words-run}
 
 -- A chunk that fits on its line, where nothing is due: it is written, and the column goes on by its width.
 module _ (limit margin p : ℕ) (x : List ℕ) (w : ℕ) (kept : List ℕ) (lay : Lay) (out : List ℕ) (q : Quiet margin lay) (h : length out + length x ≤ limit) where
@@ -37,7 +37,7 @@ module _ (limit margin p : ℕ) (x : List ℕ) (w : ℕ) (kept : List ℕ) (lay 
   here = page kept lay out
 
   abbrev after : State
-  after = page kept (column (lay .column .0 + w) lay) (out ++ x)
+  after = page kept (withColumn (lay .column .0 + w) lay) (out ++ x)
 
   -- no space is missing
   reach-there : reach limit margin here ≡ gives here
@@ -47,13 +47,13 @@ module _ (limit margin p : ℕ) (x : List ℕ) (w : ℕ) (kept : List ℕ) (lay 
       let m : max (lay .column .0) margin ≡ lay .column .0 = omega (arith, q .reached) in
       rw (z, m) (write-in limit [] here (omega arith) ∙ ap (λ (y : List ℕ). gives (page kept lay y)) (append-nil out))
 
-  settled-same : column (lay .column .0 + w) (settled lay) ≡ column (lay .column .0 + w) lay
+  settled-same : withColumn (lay .column .0 + w) (settled lay) ≡ withColumn (lay .column .0 + w) lay
   settled-same = rw (q .newline, q .blank, q .gutter)
 
   place-there : place limit x w here ≡ gives after
   unfolding place
   place-there =
-      write-in limit x (withLay (λ l. column (l .column .0 + w) (settled l)) here) h ∙ ap (λ (l : Lay). gives (page kept l (out ++ x))) settled-same
+      write-in limit x (withLay (λ l. withColumn (l .column .0 + w) (settled l)) here) h ∙ ap (λ (l : Lay). gives (page kept l (out ++ x))) settled-same
 
   put-there : put limit margin p x w here ≡ gives after
   unfolding _>>=_
@@ -72,16 +72,16 @@ module _ (limit margin p : ℕ) (x : List ℕ) (w : ℕ) (kept : List ℕ) (lay 
 
 -- One run of words after another.
 
-column-same : (col : ℕ) (lay : Lay) → lay .column .0 ≡ col → column col lay ≡ lay
+column-same : (col : ℕ) (lay : Lay) → lay .column .0 ≡ col → withColumn col lay ≡ lay
 column-same col lay e = rw (← e) refl
 
-pub onward-start : (set : Settings) (x old : List ℕ) (len col at : ℕ) → 0 < len → len ≤ length old → Onward set x old len col at old len col at
-onward-start set x old len col at h k = record {
+pub line-advance-start : (set : Settings) (x old : List ℕ) (len col at : ℕ) → 0 < len → len ≤ length old → LineAdvance set x old len col at old len col at
+line-advance-start set x old len col at h k = record {
   some = h;
   inside = k;
   grows = omega arith;
   near = omega arith;
-  words = words-start (fullOf set) (ruleOf set) (Plain col) x old len at (column col) (λ t lay p. column-same col lay (p .here));
+  words = words-start (fullOf set) (ruleOf set) (Plain col) x old len at (withColumn col) (λ t lay p. column-same col lay (p .here));
 }
 
 -- what a text counts for is at most its bytes, whichever the measure
@@ -90,14 +90,14 @@ measure-short measure.Bytes y = omega arith
 measure-short measure.Characters y = count-short y
 
 -- A run that is no longer than the line has columns left.
-module _ (set : Settings) (x old : List ℕ) (len col at : ℕ) (new : List ℕ) (len′ col′ at′ : ℕ) (o : Onward set x old len col at new len′ col′ at′)
+module _ (set : Settings) (x old : List ℕ) (len col at : ℕ) (new : List ℕ) (len′ col′ at′ : ℕ) (o : LineAdvance set x old len col at new len′ col′ at′)
     (new′ : List ℕ) (most to width : ℕ) (c : Copies x at′ most len′ new new′ to width) (size : length new′ ≡ length new)
     (thin : col′ + most ≤ set .width) where
-  quiet-on : (n margin : ℕ) (lay : Lay) → Quiet margin lay → lay .column .0 ≡ col → Quiet margin (column (col′ + n) lay)
+  quiet-on : (n margin : ℕ) (lay : Lay) → Quiet margin lay → lay .column .0 ≡ col → Quiet margin (withColumn (col′ + n) lay)
   quiet-on n margin lay q d = record { newline = q .newline; blank = q .blank; gutter = q .gutter; reached = omega (arith, q .reached, o .grows) }
 
   -- each of its words and spaces is written where it stands
-  word-there : Written (fullOf set) (ruleOf set) (Plain col) x new′ len′ at′ to (λ n. column (col′ + n))
+  word-there : Written (fullOf set) (ruleOf set) (Plain col) x new′ len′ at′ to (λ n. withColumn (col′ + n))
   unfolding chunk
   word-there p e a b d t kept lay q =
       let out = take (len′ + (p - at′)) new′ in
@@ -107,20 +107,20 @@ module _ (set : Settings) (x old : List ℕ) (len col at : ℕ) (new : List ℕ)
       let joined = characters-join x at′ p e a (omega arith) in
       let counts : col′ + characters (part x at′ p) + measureOf set text ≤ set .width =
       omega (arith, part-narrow x at′ p, measure-short (set .measure) text, part-short x p e, c .near) in
-      raw-there (length new′) (t .margin) (t .start + p) text (characters text) kept (column (col′ + characters (part x at′ p)) lay) out
+      raw-there (length new′) (t .margin) (t .start + p) text (characters text) kept (withColumn (col′ + characters (part x at′ p)) lay) out
       (quiet-on (characters (part x at′ p)) (t .margin) lay (q .quiet) (q .here)) (omega (arith, part-short x p e)) (measureOf set) set
       (empty-some new′ (len′ + (p - at′)) (λ z. omega (arith, o .some)) (omega arith)) counts
-      ∙ ap (λ (n : ℕ). gives (page kept (column n lay) (out ++ text))) (omega arith)
+      ∙ ap (λ (n : ℕ). gives (page kept (withColumn n lay) (out ++ text))) (omega arith)
 
-  pub onward-run : Onward set x old len col at new′ (len′ + (to - at′)) (col′ + width) to
+  pub onward-run : LineAdvance set x old len col at new′ (len′ + (to - at′)) (col′ + width) to
   onward-run = record {
     some = omega (arith, o .some);
     inside = ⊎-elim (λ (h : to ≤ at′). omega (arith, o .inside)) (λ (h : at′ < to). omega (arith, c .fits h, o .words .size)) (le-or-lt to at′);
     grows = omega (arith, o .grows);
     near = omega (arith, o .near, o .words .order, c .order, c .counts, part-narrow x at′ to);
     words =
-        words-run (fullOf set) (ruleOf set) (Plain col) x old len at (column col′) new len′ at′ (o .words) new′ most to width c size
-        (λ n. column (col′ + n)) (λ lay. ap (λ (n : ℕ). column n lay) (add-zero col′)) word-there;
+        words-run (fullOf set) (ruleOf set) (Plain col) x old len at (withColumn col′) new len′ at′ (o .words) new′ most to width c size
+        (λ n. withColumn (col′ + n)) (λ lay. ap (λ (n : ℕ). withColumn n lay) (add-zero col′)) word-there;
   }
 
 -- Where a word would follow at once.
@@ -145,8 +145,8 @@ module _ (set : Settings) (margin : ℕ) (x : List ℕ) (c : Code) (old : List �
   moves-none = record { order = omega arith; within = λ l. l; near = omega arith; skip = refl; same = λ p kept. refl }
 
   -- words followed
-  pub moves-on : Ready old m margin c → (new : List ℕ) (len col at′ : ℕ) → Onward set x old (m .len .0) (m .lay .column .0) at new len col at′
-      → Moves set margin x c old m at new (record { len = record { 0 = len }; lay = column col (m .lay) }) at′
+  pub moves-on : Ready old m margin c → (new : List ℕ) (len col at′ : ℕ) → LineAdvance set x old (m .len .0) (m .lay .column .0) at new len col at′
+      → Moves set margin x c old m at new (record { len = record { 0 = len }; lay = withColumn col (m .lay) }) at′
   moves-on r new len col at′ o = record {
     order = o .words .order;
     within = o .words .within;

@@ -12,8 +12,9 @@ use Rattle.records.specs.declared.Style.{Style}
 use Rattle.records.specs.declared.Style.the-variants as style
 use Rattle.records.specs.declared.Block.{Block}
 use Rattle.html_rules.specs.Marks.{separated}
-use Rattle.html_rules.specs.Markdown.{AtStart, AtEnd, started, ended, styled, bare, opening, closing}
+use Rattle.html_rules.specs.Markdown.{AtStart, AtEnd, started, ended, withStyle, withBare, opening, closing}
 use Rattle.html_rules.specs.declared.Markdown.{Markdown}
+use Rattle.document.specs.Document.{maxBytes}
 
 -- all marks in one text
 unfoldable pub tags : List ℕ
@@ -21,7 +22,7 @@ tags = bytes "**`**_`_### - \n\n  ```text\n\n  ```\n &mdash; "
 
 -- `empty_term = ..` at an ItemTerm or a Section4, before its text
 unfoldable pub metTerm : Block → Bool → Markdown → Markdown
-metTerm b empty l = if eqb (index b) 3 || eqb (index b) 4 then bare empty l else l
+metTerm b empty l = if eqb (index b) 3 || eqb (index b) 4 then withBare empty l else l
 
 -- what the rules say of a block's start once its term is met, and of its end; of Meta, which they refuse, nothing
 abbrev pub givenStart : Markdown → Result AtStart → AtStart
@@ -48,12 +49,12 @@ closed limit st x = extended limit (closing st ++ opening style.Text) x
 
 -- the text after a block's start with the open style closed, and after its end
 abbrev pub startedText : ℕ → Markdown → Block → List ℕ → Result (List ℕ)
-startedText limit l b x = closed limit (l .style) x >>= startRule limit (styled style.Text l) b
+startedText limit l b x = closed limit (l .style) x >>= startRule limit (withStyle style.Text l) b
 
 abbrev pub endedText : ℕ → Markdown → Block → List ℕ → Result (List ℕ)
-endedText limit l b x = closed limit (l .style) x >>= extended limit ((endOf (styled style.Text l) b) .text)
+endedText limit l b x = closed limit (l .style) x >>= extended limit ((endOf (withStyle style.Text l) b) .text)
 
 -- both numbers are as small as in an accepted document
 pub record Few (l : Markdown) : Type 0 where
-  pub skipped : l .skip ≤ 32_768
-  pub opened : l .mono ≤ 32_768
+  pub skipped : l .skip ≤ maxBytes
+  pub opened : l .mono ≤ maxBytes

@@ -9,7 +9,7 @@ use Rattle.base.specs.Result.{Result, gives}
 use Rattle.base.specs.Stack.{top, pushed, popped}
 use Rattle.records.specs.declared.Block.the-variants as block
 use Rattle.skip.specs.Counter.{skipStart, skipEnd}
-use Rattle.console_rules.specs.Console.{State, tick, newline, blankLine, gutter, skip, gap}
+use Rattle.console_rules.specs.Console.{State, tick, withNewline, withBlank, withGutter, withSkip, withGap}
 use Rattle.console_rules.specs.declared.Lay.{Lay}
 
 -- 'Backticks go out at once' at a TermRef
@@ -19,17 +19,17 @@ tickIf room i s = if eqb i 9 then tick room s else gives s
 -- what a start changes, with g saying whether an adjacent gap lies ahead, and what an end changes
 unfoldable pub startLay : ℕ → Bool → Lay → Lay
 startLay i g l =
-    if eqb i 3 then if g then gap true (l .passing) (newline l) else newline l else
-    if ltb i 5 then newline l else
-    if eqb i 5 then gutter true l else
-    if eqb i 8 then skip (skipStart block.InlineBlock (l .skip)) l else l
+    if eqb i 3 then if g then withGap true (l .passing) (withNewline l) else withNewline l else
+    if ltb i 5 then withNewline l else
+    if eqb i 5 then withGutter true l else
+    if eqb i 8 then withSkip (skipStart block.InlineBlock (l .skip)) l else l
 
 unfoldable pub endLay : ℕ → Lay → Lay
 endLay i l =
-    if eqb i 3 then gap false (l .gap) l else
-    if eqb i 5 then gutter false l else
-    if eqb i 7 then if l .passing then gap false false l else blankLine l else
-    if eqb i 8 then skip (skipEnd block.InlineBlock (l .skip)) l else l
+    if eqb i 3 then withGap false (l .gap) l else
+    if eqb i 5 then withGutter false l else
+    if eqb i 7 then if l .passing then withGap false false l else withBlank l else
+    if eqb i 8 then withSkip (skipEnd block.InlineBlock (l .skip)) l else l
 
 -- 'The other five push nothing'
 unfoldable pub pushes : ℕ → Bool

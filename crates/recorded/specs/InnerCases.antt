@@ -7,7 +7,7 @@ use lib.Dec.{ltb, eqb}
 use lib.ListN.{length, take, drop, getD, set}
 use Rattle.base.specs.Choice.{if_then_else_}
 use Rattle.records.specs.Records.{little}
-use Rattle.compared.specs.Compared.{filledBy, holdsBy}
+use Rattle.compared.specs.InnerCompared.{filledBy, holdsBy}
 use Rattle.recorded.specs.declared.Call.{Call}
 
 -- 'A number `n` is one byte below 255, or a byte 255 and then four bytes, the least first.' Where bytes are missing it is one that no

@@ -4,7 +4,7 @@ use mathlib.Core.Bool.{Bool, true, false}
 use mathlib.Core.List.{List}
 use lib.Dec.{ltb}
 use Rattle.base.specs.Result.{Result}
-use Rattle.console_rules.specs.Console.{console}
+use Rattle.console_rules.specs.Console.{console, maxWidth}
 use Rattle.html_rules.specs.Html.{html}
 use Rattle.html_rules.specs.Markdown.{markdown}
 use Rattle.manpage.specs.Roff.{roff}
@@ -21,7 +21,7 @@ renders asked.Roff room d = roff room d
 
 -- refusal 9, 'width over 10,000 (console)'
 abbrev pub tooWide : Asked → Bool
-tooWide (asked.Console set) = ltb 10_000 (set .width)
+tooWide (asked.Console set) = ltb maxWidth (set .width)
 tooWide (asked.Html full sheet) = false
 tooWide (asked.StrictHtml full sheet) = false
 tooWide (asked.Markdown full) = false

@@ -5,7 +5,7 @@ use mathlib.Core.Bool.{true}
 use mathlib.Core.List.{List, []}
 use lib.ListN.{length}
 use Rattle.base.specs.Result.{gives, refused}
-use Rattle.document.specs.Document.{check}
+use Rattle.document.specs.Document.{check, maxBytes}
 use Rattle.document.specs.declared.Checked.{Checked}
 use Rattle.document.specs.declared.Checked.the-variants as checked
 use Rattle.refusal.specs.Numbers.{refusalNumber, refusalPlace}
@@ -18,8 +18,8 @@ pub record Sides (s t : List ℕ) : Type 0 where
   pub js : List Item
   pub first : Lists s is
   pub second : Lists t js
-  pub short : length s ≤ 32_768
-  pub also-short : length t ≤ 32_768
+  pub short : length s ≤ maxBytes
+  pub also-short : length t ≤ maxBytes
 
 -- the merged list was written into a room, up to a length
 pub record Written (s t old new : List ℕ) (len : ℕ) : Type 0 where

@@ -10,17 +10,17 @@ use Rattle.console_chunks.specs.declared.Placed.{Placed}
 use Rattle.console_chunks.specs.declared.Placed.the-variants.{At, Deep}
 
 -- a room and a mark in it, with the margins that are kept beside them
-abbrev pub held : List ℕ → List ℕ → Mark → Result State
-held room kept m = shown room (m .len .0) kept (m .lay)
+abbrev pub stateAt : List ℕ → List ℕ → Mark → Result State
+stateAt room kept m = shown room (m .len .0) kept (m .lay)
 
 -- and where refusal 10 may have been met
-abbrev pub told : List ℕ → List ℕ → Placed → Result State
-told room kept (At m) = held room kept m
-told room kept (Deep p) = refused 10 p
+abbrev pub stateAfter : List ℕ → List ℕ → Placed → Result State
+stateAfter room kept (At m) = stateAt room kept m
+stateAfter room kept (Deep p) = refused 10 p
 
 -- a number that the code can hold
-abbrev pub Fits : ℕ → Type 0
-Fits n = n < 2 ^ 64
+abbrev pub Fits64 : ℕ → Type 0
+Fits64 n = n < 2 ^ 64
 
 -- Bounds that hold even once the room is too small, where the equations say nothing of the lay: the column is not past the old one by
 -- more than some columns, and the skip counter is at most the old one or 1.

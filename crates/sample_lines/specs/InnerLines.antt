@@ -6,7 +6,7 @@ use lib.Dec.{leb, eqb}
 use lib.ListN.{length, drop, getD}
 use Rattle.base.specs.Choice.{if_then_else_, among}
 use Rattle.splitter.specs.Split.{Chunk, raw, paragraph, lineBreak}
-use Rattle.compared.specs.Compared.{same}
+use Rattle.compared.specs.InnerCompared.{same}
 use Rattle.sample_lines.specs.declared.Number.{Number}
 use Rattle.sample_lines.specs.declared.Tally.{Tally}
 

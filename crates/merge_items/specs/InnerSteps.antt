@@ -13,6 +13,7 @@ use Rattle.merge_items.specs.declared.Deep.{Deep}
 use Rattle.merge_items.specs.declared.Deep.the-variants as deep
 use Rattle.merge_items.specs.declared.Place.{Place}
 use Rattle.merge_items.specs.declared.Entry.{Entry}
+use Rattle.document.specs.Document.{maxBytes}
 
 abbrev pub deepAs : Deep → Option ℕ
 deepAs (deep.Open depth) = some depth
@@ -25,11 +26,11 @@ textTo stop (t ∷ ts) = if ltb (t .place) stop then t .body ++ textTo stop ts e
 
 -- an item was looked for at a place of a document: if one stands there, where its term ends, where it ends, and where its term's records stand
 pub record Found (s : List ℕ) (at : ℕ) (r : Place) : Type 0 where
-  pub item : length s ≤ 32_768 → (i : Item) (w : List ℕ) → Proper i → drop at s ≡ records i ++ w
+  pub item : length s ≤ maxBytes → (i : Item) (w : List ℕ) → Proper i → drop at s ≡ records i ++ w
       → (r .stop ≡ at + 6 + length (i .term)) × (r .next ≡ at + length (records i)) × (r .from ≡ at + 6)
   pub inside : r .stop ≤ length s
 
 -- the same, and its term's text was written into a key
 pub record Keyed (s : List ℕ) (at : ℕ) (text : List ℕ) (r : Entry) : Type 0 where
-  pub item : length s ≤ 32_768 → (i : Item) (w : List ℕ) → Proper i → drop at s ≡ records i ++ w
+  pub item : length s ≤ maxBytes → (i : Item) (w : List ℕ) → Proper i → drop at s ≡ records i ++ w
       → (r .next ≡ at + length (records i)) × (seen text (r .len) ≡ extended (length text) (key i) [])

@@ -11,7 +11,7 @@ use Rattle.base.specs.Result.{_>>=_}
 use Rattle.utf8.specs.Utf8.{bytes}
 use Rattle.room.specs.Room.{seen, extended}
 use Rattle.roff_escape.specs.declared.escape.Escape.{Escape}
-use Rattle.roff_escape.specs.declared.roff.Mark.{Mark}
+use Rattle.roff_escape.specs.declared.roff.Roff.{Roff}
 use Rattle.roff_escape.specs.Escape.{unescapedAtNewline, spaces, special, specialNoNewline, unescaped}
 use Rattle.roff_escape.specs.Monoid.{Piece, piece, escapeAll, lineAfter}
 
@@ -46,13 +46,13 @@ pub record Copies (x : List ℕ) (at len : ℕ) (old new : List ℕ) (to : ℕ) 
 
 -- Some pieces were pushed: the text in the room is longer by their bytes, or past the room; whether a line starts after them; and whether
 -- line ends are stripped from text from here on.
-pub record Followed (ps : List Piece) (strips : Bool) (old : List ℕ) (m : Mark) (new : List ℕ) (r : Mark) : Type 0 where
+pub record Followed (ps : List Piece) (strips : Bool) (old : List ℕ) (m : Roff) (new : List ℕ) (r : Roff) : Type 0 where
   pub text : seen new (r .len) ≡ (seen old (m .len) >>= extended (length old) (escapeAll (m .fresh) ps))
   pub line : r .fresh ≡ lineAfter (m .fresh) ps
   pub strip : r .strip ≡ strips
 
 -- the same, where that stays as it was
-abbrev pub Pushed : List Piece → List ℕ → Mark → List ℕ → Mark → Type 0
+abbrev pub Pushed : List Piece → List ℕ → Roff → List ℕ → Roff → Type 0
 Pushed ps old m new r = Followed ps (m .strip) old m new r
 
 -- what a control line begins with

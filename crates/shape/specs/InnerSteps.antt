@@ -13,7 +13,7 @@ use Rattle.records.specs.declared.Block.{Block}
 use Rattle.records.specs.declared.Block.the-variants as block
 use Rattle.records.specs.declared.Kind.{Kind}
 use Rattle.records.specs.declared.Kind.the-variants as kind
-use Rattle.document.specs.Document.{reads}
+use Rattle.document.specs.Document.{reads, maxOpen}
 use Rattle.shape.specs.Shape.{same, other, inline}
 use Rattle.shape.specs.declared.Way.{Way}
 use Rattle.shape.specs.declared.Way.the-variants as way
@@ -91,7 +91,7 @@ Leads s w from v at = (later : List Want) → stray (tokensFrom s from) w later 
 pub record OpenAt (s : List ℕ) (at depth : ℕ) : Type 0 where
   pub stack : List ℕ
   pub runs : reads at 0 stack (drop at s) ≡ gives []
-  pub shallow : length stack ≤ 32
+  pub shallow : length stack ≤ maxOpen
   pub deep : length stack ≡ depth
 
 -- A run was gone through. In a block it stops after that block's end record, from where on what may stand after the block is wanted. With no

@@ -1,4 +1,4 @@
--- The struct that holds a body and its tick state, as the splitter's rules see it.
+-- The struct that holds a body and its tick state, as the splitter's rules see it; no rule of 01 stands here.
 use Prim.Native.Nat.{ℕ}
 use mathlib.Core.Bool.{Bool, true, false}
 use mathlib.Core.List.{List}
@@ -17,12 +17,12 @@ abbrev pub bodyOf : Splitter → List ℕ
 bodyOf s = now (s .input)
 
 -- the cursor at which a step goes on
-abbrev pub standing : Splitter → Cursor
-standing s = cursor (s .at) (s .code)
+abbrev pub cursorOf : Splitter → Cursor
+cursorOf s = cursor (s .at) (s .code)
 
 -- the chunks that are left
 abbrev pub left : Splitter → List Placed
-left s = placedFrom (bodyOf s) (standing s)
+left s = placedFrom (bodyOf s) (cursorOf s)
 
 -- the cursor after a step; where there was no chunk, the one before it
 abbrev pub afterStep : Step → Cursor → Cursor

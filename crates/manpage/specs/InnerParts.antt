@@ -14,12 +14,12 @@ use Rattle.records.specs.declared.Block.{Block}
 use Rattle.records.specs.declared.Kind.{Kind}
 use Rattle.records.specs.declared.Kind.the-variants as kind
 use Rattle.roff_escape.specs.declared.escape.Escape.the-variants as mode
-use Rattle.roff_escape.specs.declared.roff.Mark.{Mark}
+use Rattle.roff_escape.specs.declared.roff.Roff.{Roff}
 use Rattle.room.specs.Room.{seen, extended}
 use Rattle.roff_escape.specs.Escape.{escape, lineStart}
 use Rattle.roff_escape.specs.Monoid.{Piece, piece}
 use Rattle.roff_escape.specs.Composer.{argument}
-use Rattle.roff_escape.specs.Parts.{Followed}
+use Rattle.roff_escape.specs.InnerParts.{Followed}
 use Rattle.manpage.specs.Roff.{Locals, Outcome}
 use Rattle.manpage.specs.declared.Cased.{Cased}
 
@@ -28,11 +28,11 @@ unfoldable pub argumentPieces : List ℕ → List Piece
 argumentPieces x = piece mode.Unescaped (bytes " ") ∷ piece mode.Spaces (argument x) ∷ []
 
 -- the locals, where a mark says whether line ends are stripped
-abbrev pub locals : Mark → List ℕ → Bool → Locals
+abbrev pub locals : Roff → List ℕ → Bool → Locals
 locals m kept capture = record { strip = m .strip; kept = kept; capture = capture }
 
 -- what a token does was done; of one that is refused nothing is said
-abbrev pub Follows : Result Outcome → List ℕ → Mark → List ℕ → Mark → Type 0
+abbrev pub Follows : Result Outcome → List ℕ → Roff → List ℕ → Roff → Type 0
 Follows (gives o) old m new r = Followed (o .pushed) (o .after .strip) old m new r
 Follows (refused n p) old m new r = Unit {0}
 

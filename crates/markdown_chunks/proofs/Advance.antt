@@ -14,13 +14,13 @@ use Rattle.utf8.specs.Utf8.{bytes, characters}
 use Rattle.splitter.specs.declared.Code.{Code}
 use Rattle.splitter.specs.declared.Code.the-variants as code
 use Rattle.renderer.specs.Walk.{page, write}
-use Rattle.words.specs.Copies.{Copies}
+use Rattle.words.specs.InnerCopies.{Copies}
 use Rattle.words.proofs.Follow.{write-in}
 use Rattle.words.proofs.Copying.{part-short, part-narrow}
-use Rattle.words.proofs.Onward.{Written, onward-start as words-start, onward-run as words-run}
-use Rattle.html_rules.specs.Markdown.{State, fenced, wordText, codeStops, rawChunk, chunk}
+use Rattle.words.proofs.Advance.{Written, advance-start as words-start, onward-run as words-run}
+use Rattle.html_rules.specs.Markdown.{State, withFenced, wordText, codeStops, rawChunk, chunk}
 use Rattle.html_rules.specs.declared.Markdown.{Markdown}
-use Rattle.markdown_chunks.specs.Onward.{ruleOf, Plain, Onward, Ready, Ahead, Moves}
+use Rattle.markdown_chunks.specs.InnerAdvance.{ruleOf, Plain, MarkdownAdvance, Ready, Ahead, Moves}
 
 -- A word where words go out as they stand.
 module _ (limit : ℕ) (x : List ℕ) (w : ℕ) (kept : List ℕ) (lay : Markdown) (out : List ℕ) {y : List ℕ} (q : Plain y lay) (h : length out + length x ≤ limit)
@@ -34,11 +34,11 @@ module _ (limit : ℕ) (x : List ℕ) (w : ℕ) (kept : List ℕ) (lay : Markdow
       ap (λ (y : List ℕ). write limit y here) (if-false _ _ (q .fenced)) ∙ write-in limit [] here (omega arith) ∙ ap (λ (y : List ℕ). gives (page kept lay y))
       (append-nil out)
 
-  word-there : write limit (wordText lay x) (page kept (fenced false lay) out) ≡ gives (page kept lay (out ++ x))
+  word-there : write limit (wordText lay x) (page kept (withFenced false lay) out) ≡ gives (page kept lay (out ++ x))
   word-there =
-      ap (λ (y : List ℕ). write limit y (page kept (fenced false lay) out)) (if-false _ _ (le-ltb 0 (lay .mono) (q .mono)))
-      ∙ write-in limit x (page kept (fenced false lay) out) h
-      ∙ ap (λ (b : Bool). gives (page kept (fenced b lay) (out ++ x))) (sym (q .fenced))
+      ap (λ (y : List ℕ). write limit y (page kept (withFenced false lay) out)) (if-false _ _ (le-ltb 0 (lay .mono) (q .mono)))
+      ∙ write-in limit x (page kept (withFenced false lay) out) h
+      ∙ ap (λ (b : Bool). gives (page kept (withFenced b lay) (out ++ x))) (sym (q .fenced))
 
   raw-there : rawChunk limit x w here ≡ gives (page kept lay (out ++ x))
   unfolding rawChunk _>>=_
@@ -49,14 +49,14 @@ module _ (limit : ℕ) (x : List ℕ) (w : ℕ) (kept : List ℕ) (lay : Markdow
 
 -- No word, and a run of them.
 
-pub onward-start : (x old : List ℕ) (len at : ℕ) → Onward x old len at old len at
-onward-start x old len at = words-start (λ full. full) ruleOf (λ _ l. Plain x l) x old len at (λ l. l) (λ full lay q. refl)
+pub markdown-start : (x old : List ℕ) (len at : ℕ) → MarkdownAdvance x old len at old len at
+markdown-start x old len at = words-start (λ full. full) ruleOf (λ _ l. Plain x l) x old len at (λ l. l) (λ full lay q. refl)
 
 pub onward-run : (x old : List ℕ) (len at : ℕ) (new : List ℕ) (most to width : ℕ) → Copies x at most len old new to width → length new ≡ length old
-    → Onward x old len at new (len + (to - at)) to
+    → MarkdownAdvance x old len at new (len + (to - at)) to
 unfolding chunk
 onward-run x old len at new most to width c size =
-    words-run (λ full. full) ruleOf (λ _ l. Plain x l) x old len at (λ l. l) old len at (onward-start x old len at) new most to width c size
+    words-run (λ full. full) ruleOf (λ _ l. Plain x l) x old len at (λ l. l) old len at (markdown-start x old len at) new most to width c size
     (λ _ l. l) (λ lay. refl) written
   where
     -- each of its words and spaces is written where it stands
@@ -74,7 +74,7 @@ pub moves-none : (lay : Markdown) (x : List ℕ) (c : Code) (old : List ℕ) (le
 moves-none lay x c old len at = record { order = omega arith; within = λ l. l; same = λ few full kept. refl }
 
 pub moves-on : (lay : Markdown) (x : List ℕ) (c : Code) (old : List ℕ) (len at : ℕ) (new : List ℕ) (len′ at′ : ℕ) (b : Bool) → b ≡ true → Ahead lay c b
-    → Onward x old len at new len′ at′ → Moves lay x c old len at new len′ at′
+    → MarkdownAdvance x old len at new len′ at′ → Moves lay x c old len at new len′ at′
 moves-on lay x c old len at new len′ at′ b e a o =
     let r : Ready lay c = rw e at a in
     record {

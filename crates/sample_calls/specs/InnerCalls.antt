@@ -13,7 +13,7 @@ use Rattle.console_rules.specs.declared.Measure.the-variants as measure
 use Rattle.html_rules.specs.Html.{html}
 use Rattle.html_rules.specs.Markdown.{markdown}
 use Rattle.manpage.specs.Roff.{roff}
-use Rattle.compared.specs.Compared.{isAnswer}
+use Rattle.compared.specs.InnerCompared.{isAnswer}
 use Rattle.sample_calls.specs.declared.Wanted.{Wanted}
 
 -- '> a call for each letter: k check, c console, b console with `full` off, h HTML and s strict HTML, both without CSS, m Markdown, r roff': what

@@ -2,7 +2,7 @@
 use Prim.Native.Nat.{ℕ}
 use mathlib.Core.Bool.{Bool, true, false}
 use mathlib.Core.List.{List}
-use Rattle.splitter.specs.Answers.{textOf}
+use Rattle.splitter.specs.Answers.{pieceText}
 use Rattle.splitter.specs.declared.Piece.{Piece}
 use Rattle.splitter.specs.declared.Piece.the-variants.{Raw, Space, Paragraph, LineBreak}
 
@@ -13,7 +13,7 @@ isText (Paragraph at) = false
 isText (LineBreak at) = false
 
 abbrev pub textOr : List ℕ → List ℕ → Piece → List ℕ
-textOr body space (Raw from to width) = textOf body (Raw from to width)
+textOr body space (Raw from to width) = pieceText body (Raw from to width)
 textOr body space (Space at) = space
 textOr body space (Paragraph at) = space
 textOr body space (LineBreak at) = space

@@ -4,7 +4,7 @@ use mathlib.Core.List.{List, [], _∷_, _++_}
 use lib.Dec.{eqb, ltb}
 use lib.ListN.{length, getD}
 use Rattle.base.specs.Choice.{if_then_else_}
-use Rattle.sample_lines.specs.Lines.{numberAt, nextNumber, textFrom}
+use Rattle.sample_lines.specs.InnerLines.{numberAt, nextNumber, textFrom}
 
 -- some bytes, so many times
 unfoldable pub repeated : ℕ → List ℕ → List ℕ

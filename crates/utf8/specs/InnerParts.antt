@@ -5,7 +5,7 @@ use mathlib.Core.List.{List}
 use Prim.Native.Nat.{ℕ, _≤_, _<_, _+_, _-_}
 use lib.ListN.{length, drop, getD}
 use Rattle.utf8.specs.Utf8.{utf8, characters}
-use Rattle.utf8.specs.Neighbours.{sound}
+use Rattle.utf8.specs.InnerNeighbours.{sound}
 
 -- no byte of the n from a on is over m
 pub record AtMost (s : List ℕ) (a n m : ℕ) : Type 0 where

@@ -8,7 +8,7 @@ use lib.ListN.{length, take, drop}
 use Rattle.base.specs.Bytes.{part}
 use Rattle.base.specs.Choice.{if_then_else_}
 use Rattle.base.specs.Result.{gives, refused, measured, _>>=_}
-use Rattle.document.specs.Document.{reads, check}
+use Rattle.document.specs.Document.{reads, check, maxBytes, maxOpen}
 use Rattle.records.specs.Stored.{head, text, start, end, around}
 use Rattle.records.specs.declared.Style.the-variants as style
 use Rattle.utf8.specs.Utf8.{utf8}
@@ -36,8 +36,8 @@ pub record Nests (s : List ℕ) (from depth r : ℕ) : Type 0 where
 -- a room with a document so far, and how many of its blocks are open
 pub record Ready (room : List ℕ) (len depth : ℕ) : Type 0 where
   pub inside : len ≤ length room
-  pub small : len ≤ 32_768
-  pub shallow : depth ≤ 32
+  pub small : len ≤ maxBytes
+  pub shallow : depth ≤ maxOpen
 
 -- records in InlineBlock were added to it, or refused, whichever blocks are open
 pub record Adds (records : List ℕ) (len depth : ℕ) (old new : List ℕ) (r : Built) : Type 0 where
@@ -65,7 +65,7 @@ pub record Lines (s : List ℕ) (line next : ℕ) : Type 0 where
   pub from : 6 ≤ line
   pub before : line < next
   pub inside : next ≤ length s
-  pub short : length s ≤ 32_768
+  pub short : length s ≤ maxBytes
   pub title : utf8 (part s 6 line) ≡ true
   pub more : utf8 (part s (line + 1) next) ≡ true
   pub others : reads next 0 [] (drop next s) ≡ gives []

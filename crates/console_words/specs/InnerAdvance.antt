@@ -10,16 +10,16 @@ use Rattle.splitter.specs.Answers.{placedFrom, cursor}
 use Rattle.splitter.specs.declared.Code.{Code}
 use Rattle.splitter.specs.declared.Code.the-variants as code
 use Rattle.renderer.specs.Walk.{body}
-use Rattle.words.specs.Onward as words
-use Rattle.console_rules.specs.Console.{State, column, measureOf, bodyChunk}
+use Rattle.words.specs.InnerAdvance as words
+use Rattle.console_rules.specs.Console.{State, withColumn, measureOf, bodyChunk}
 use Rattle.console_rules.specs.declared.Settings.{Settings}
 use Rattle.console_rules.specs.declared.Lay.{Lay}
-use Rattle.console_chunks.specs.Shown.{held}
+use Rattle.console_chunks.specs.InnerShown.{stateAt}
 use Rattle.console_chunks.specs.declared.Mark.{Mark}
 
 -- the chunks of a body that starts at a place, from a cursor on, as the console writes them
-abbrev pub onward : Settings → ℕ → ℕ → ℕ → List ℕ → ℕ → Code → State → Result State
-onward set limit margin start x at c = body (set .full) (bodyChunk (measureOf set) set limit margin start) (placedFrom x (cursor at c))
+abbrev pub consoleFrom : Settings → ℕ → ℕ → ℕ → List ℕ → ℕ → Code → State → Result State
+consoleFrom set limit margin start x at c = body (set .full) (bodyChunk (measureOf set) set limit margin start) (placedFrom x (cursor at c))
 
 -- nothing is due, and no column is missing to the margin
 pub record Quiet (margin : ℕ) (l : Lay) : Type 0 where
@@ -45,12 +45,12 @@ pub record Plain (col : ℕ) (t : Task) (l : Lay) : Type 0 where
   pub here : l .column .0 ≡ col
 
 -- Words went on from one place to another, and the column with them.
-pub record Onward (set : Settings) (x : List ℕ) (old : List ℕ) (len col at : ℕ) (new : List ℕ) (len′ col′ at′ : ℕ) : Type 0 where
+pub record LineAdvance (set : Settings) (x : List ℕ) (old : List ℕ) (len col at : ℕ) (new : List ℕ) (len′ col′ at′ : ℕ) : Type 0 where
   pub some : 0 < len′
   pub inside : len′ ≤ length old
   pub grows : col ≤ col′
   pub near : col′ ≤ col + (at′ - at)
-  pub words : words.Onward (fullOf set) (ruleOf set) (Plain col) (column col′) x old len at new len′ at′
+  pub words : words.Advance (fullOf set) (ruleOf set) (Plain col) (withColumn col′) x old len at new len′ at′
 
 -- a word would follow at once
 pub record Ready (room : List ℕ) (m : Mark) (margin : ℕ) (c : Code) : Type 0 where
@@ -70,4 +70,4 @@ pub record Moves (set : Settings) (margin : ℕ) (x : List ℕ) (c : Code) (old 
   pub near : m′ .lay .column .0 ≤ m .lay .column .0 + (at′ - at)
   pub skip : m′ .lay .skip ≡ m .lay .skip
   pub same : (start : ℕ) (kept : List ℕ)
-      → (held new kept m′ >>= onward set (length old) margin start x at′ c) ≡ (held old kept m >>= onward set (length old) margin start x at c)
+      → (stateAt new kept m′ >>= consoleFrom set (length old) margin start x at′ c) ≡ (stateAt old kept m >>= consoleFrom set (length old) margin start x at c)
