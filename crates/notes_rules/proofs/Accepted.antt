@@ -1,7 +1,7 @@
 -- The texts of the parts are UTF-8, and the document that notes stand for is accepted. Assumes nothing.
 use Rattle.notes_rules.proofs.Names.{ℕ, zero, suc, _+_, _≤_, _<_, _≡_, refl, sym, ap, _∙_, subst, Bool, true, false, not, _&&_, _||_, List, [], _∷_}
 use Rattle.notes_rules.proofs.Names.{_++_, eqb, length, drop, length-append, length-drop, drop-of-length-le, drop-drop, arith, eqb-true, if_then_else_}
-use Rattle.notes_rules.proofs.Names.{startsWith, gives, _>>=_, pick, starts-split, Range, rowOf, table, fits, Valid, due-1, number, index, text}
+use Rattle.notes_rules.proofs.Names.{startsWith, gives, _>>=_, pick, starts-split, Range, rowOf, table, wellFormed, Valid, due-1, number, index, text}
 use Rattle.notes_rules.proofs.Names.{around, Block, short, check, length-stored, Line, header, item, other, separator, lines, headerMark, itemMark}
 use Rattle.notes_rules.proofs.Names.{joined, styled, Stretch, stretches, styleOf, records, textRecords, parts, document, textLeft, ordinary}
 use mathlib.Core.List.{append-nil}
@@ -43,7 +43,7 @@ module _ (x : List ℕ) where
   cut-right (b ∷ r) e v =
       let q = eqb-true b 0x0A e in
       let l : b < 0x80 = omega arith in
-      ap (λ (d : List Range). fits d r) (sym (due-1 b l)) ∙ cut x r b (adds-low b l) v .right
+      ap (λ (d : List Range). wellFormed d r) (sym (due-1 b l)) ∙ cut x r b (adds-low b l) v .right
 
 left-take : (one : Bool) (t : List ℕ) → textLeft one t ≡ take (length (textLeft one t)) t
 unfolding textLeft

@@ -1,6 +1,7 @@
 -- The stretches of a text: each is text, and joined they are the text without its paired backticks. Assumes nothing.
 use Rattle.notes_rules.proofs.Names.{ℕ, _≤_, _<_, _≡_, refl, sym, ap, _∙_, subst, ⊎-elim, Bool, true, false, not, _&&_, _||_, false≢true, List, []}
-use Rattle.notes_rules.proofs.Names.{_∷_, _++_, eqb, length, arith, eqb-true, ne-eqb, pick, if-true, and-left, and-right, Range, within, rowOf, fits}
+use Rattle.notes_rules.proofs.Names.{_∷_, _++_, eqb, length, arith, eqb-true, ne-eqb, pick, if-true, and-left, and-right, Range, within, rowOf}
+use Rattle.notes_rules.proofs.Names.{wellFormed}
 use Rattle.notes_rules.proofs.Names.{due-1, Valid, follows, follow, follows-rest, row-follows, Styled, styledAs, ticked, styled, Stretch, stretches}
 use mathlib.Core.Bool.{Bool·beq}
 use Rattle.base.proofs.Choice.{and-both}
@@ -33,7 +34,7 @@ pub data Valids : List Stretch → Type 0 where
 -- the first stretch is of a style, and has the bytes that are due
 abbrev First : List Range → Bool → List Stretch → Type 0
 First due w [] = ⊥
-First due w (x ∷ xs) = (x .literal ≡ w) × (fits due (x .body) ≡ true) × Valids xs
+First due w (x ∷ xs) = (x .literal ≡ w) × (wellFormed due (x .body) ≡ true) × Valids xs
 
 -- where none are due, there need be no stretch of that style
 abbrev Good : List Range → Bool → List Stretch → Type 0
@@ -60,17 +61,18 @@ same-beq true b e = rw e
 same-beq false b e = rw e
 
 -- a byte before some stretches, after which `after` is due
-module _ (due after : List Range) (w : Bool) (b : ℕ) (step : (y : List ℕ) → fits after y ≡ true → fits due (b ∷ y) ≡ true) where
-  first-joined : (x : Stretch) (xs : List Stretch) → x .literal ≡ w → fits after (x .body) ≡ true → Valids xs → First due w (grown (styledAs w b) (x ∷ xs))
+module _ (due after : List Range) (w : Bool) (b : ℕ) (step : (y : List ℕ) → wellFormed after y ≡ true → wellFormed due (b ∷ y) ≡ true) where
+  first-joined : (x : Stretch) (xs : List Stretch) → x .literal ≡ w → wellFormed after (x .body) ≡ true → Valids xs
+      → First due w (grown (styledAs w b) (x ∷ xs))
   first-joined x xs e f v = subst (First due w) (sym (if-true _ _ (same-beq w (x .literal) e))) (refl, step (x .body) f, v)
 
-grown-none : (due : List Range) (w : Bool) (b : ℕ) → ((y : List ℕ) → fits [] y ≡ true → fits due (b ∷ y) ≡ true) → (xs : List Stretch) → Valids xs
+grown-none : (due : List Range) (w : Bool) (b : ℕ) → ((y : List ℕ) → wellFormed [] y ≡ true → wellFormed due (b ∷ y) ≡ true) → (xs : List Stretch) → Valids xs
     → First due w (grown (styledAs w b) xs)
 grown-none due w b step [] v = (refl, step [] refl, v)
 grown-none due w b step (x ∷ xs) (one-more e v) =
     pick (First due w) _ (λ _. (refl, step (x .body) e, v)) (λ _. (refl, step [] refl, one-more e v))
 
-grown-first : (due after : List Range) (w : Bool) (b : ℕ) → ((y : List ℕ) → fits after y ≡ true → fits due (b ∷ y) ≡ true) → (xs : List Stretch)
+grown-first : (due after : List Range) (w : Bool) (b : ℕ) → ((y : List ℕ) → wellFormed after y ≡ true → wellFormed due (b ∷ y) ≡ true) → (xs : List Stretch)
     → Good after w xs → First due w (grown (styledAs w b) xs)
 grown-first due [] w b step xs g = grown-none due w b step xs g
 grown-first due (r ∷ after) w b step [] g = absurd g
@@ -84,27 +86,27 @@ none-styled : (w : Bool) → stretches (styled w []) ≡ []
 unfolding stretches styled
 none-styled w = refl
 
-good : (due : List Range) (w : Bool) (s : List ℕ) → follows due ≡ true → fits due s ≡ true → Good due w (stretches (styled w s))
+good : (due : List Range) (w : Bool) (s : List ℕ) → follows due ≡ true → wellFormed due s ≡ true → Good due w (stretches (styled w s))
 unfolding stretches
 good [] w [] p e = subst Valids (sym (none-styled w)) no-more
 good (r ∷ due) w [] p e = absurd (false≢true e)
 good [] w (b ∷ s) p e =
     let byte = good (rowOf b .after) w s (row-follows b) e in
-    let pair : fits [] s ≡ true → Valids (stretches (styled (not w) s)) = λ f. good [] (not w) s refl f in
+    let pair : wellFormed [] s ≡ true → Valids (stretches (styled (not w) s)) = λ f. good [] (not w) s refl f in
     ⊎-elim
     (λ (f : eqb b 0x60 && (w || ticked s) ≡ true).
     let q = eqb-true b 0x60 (and-left (eqb b 0x60) _ f) in
     let l : b < 0x80 = omega arith in
-    subst (λ (ms : List Styled). Valids (stretches ms)) (sym (styled-pair w b s f)) (pair (ap (λ (d : List Range). fits d s) (sym (due-1 b l)) ∙ e)))
+    subst (λ (ms : List Styled). Valids (stretches ms)) (sym (styled-pair w b s f)) (pair (ap (λ (d : List Range). wellFormed d s) (sym (due-1 b l)) ∙ e)))
     (λ (f : eqb b 0x60 && (w || ticked s) ≡ false).
     subst (λ (ms : List Styled). Valids (stretches ms)) (sym (styled-byte w b s f))
     (first-valid w _ (grown-first [] (rowOf b .after) w b (λ y g. g) (stretches (styled w s)) byte)))
     (either (eqb b 0x60 && (w || ticked s)))
 good (r ∷ due) w (b ∷ s) p e =
-    let i = good due w s (follows-rest r due p) (and-right (within b r) (fits due s) e) in
-    let f : eqb b 0x60 && (w || ticked s) ≡ false = ap (λ (t : Bool). t && (w || ticked s)) (no-tick r due b (fits due s) p e) in
+    let i = good due w s (follows-rest r due p) (and-right (within b r) (wellFormed due s) e) in
+    let f : eqb b 0x60 && (w || ticked s) ≡ false = ap (λ (t : Bool). t && (w || ticked s)) (no-tick r due b (wellFormed due s) p e) in
     subst (λ (ms : List Styled). First (r ∷ due) w (stretches ms)) (sym (styled-byte w b s f))
-    (grown-first (r ∷ due) due w b (λ y g. and-both (and-left (within b r) (fits due s) e) g) (stretches (styled w s)) i)
+    (grown-first (r ∷ due) due w b (λ y g. and-both (and-left (within b r) (wellFormed due s) e) g) (stretches (styled w s)) i)
 
 pub stretches-valid : (s : List ℕ) → Valid s → Valids (stretches (styled false s))
 stretches-valid s e = good [] false s refl e
