@@ -20,7 +20,8 @@ use Rattle.splitter.specs.Split.{Chunk, raw, paragraph, lineBreak, split}
 use Rattle.renderer.specs.Walk.{withOut, withLay, page, write, last, anywhere, body}
 use Rattle.skip.specs.Counter.{hides}
 use Rattle.html_rules.specs.Marks.{separated}
-use Rattle.html_rules.specs.Markdown.{State, AtStart, AtEnd, withStyle, withSkip, withFenced, termEnds, started, ended, codeBegins, codeStops, lineText, wordText}
+use Rattle.html_rules.specs.Markdown.{State, AtStart, AtEnd, withStyle, withSkip, withFenced, termEnds, started, ended}
+use Rattle.html_rules.specs.Markdown.{codeBegins, codeStops, lineText, wordText}
 use Rattle.html_rules.specs.Markdown.{change, separate, begin, close, rawChunk, bodyEnds, finish, chunk, turn}
 use Rattle.html_rules.specs.declared.Markdown.{Markdown}
 use Rattle.html_rules.proofs.Lifts.{lift, lift-then, lift-lay}
