@@ -1,4 +1,7 @@
 // Any renderer: which one is told by a value.
+
+#![tactic(auto)]
+
 ghost use Rattle.std.specs.Prelude.{◌≡◌, length};
 ghost use Rattle.base.specs.Result.{measured};
 ghost use Rattle.renderer.specs.Rendered.{answered, filled};

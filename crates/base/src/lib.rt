@@ -1,4 +1,7 @@
 // What all rules, proofs and crates share: numbers and bytes, under the names that Rust has for them.
+
+#![tactic(auto)]
+
 ghost use Rattle.std.specs.Prelude.{◌≡◌, ◌-◌, ◌+◌, ◌<◌, ◌≤◌, min as min_of, max as max_of, length, drop};
 ghost use Rattle.base.specs.Bytes.{part, starts_with, overwritten};
 

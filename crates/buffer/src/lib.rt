@@ -1,5 +1,8 @@
 // The builder (src/buffer.rs): text, blocks and documents are added to a document in the first bytes of a lent room. A refused call
 // changes no byte of the room.
+
+#![tactic(auto)]
+
 ghost use Rattle.std.specs.Prelude.{◌≡◌, ◌&&◌, [], ◌++◌, ◌+◌, ◌-◌, ◌≤◌, ◌<◌, leb, length, take};
 ghost use Rattle.base.specs.Result.{measured, ◌>>=◌ as bind};
 ghost use Rattle.utf8.specs.Utf8.{utf8};

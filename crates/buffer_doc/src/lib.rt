@@ -1,5 +1,8 @@
 // Documents added to a document in the first bytes of a lent room (src/buffer.rs: `Doc::doc`, `Doc::em_doc`). A refused call changes no byte of the
 // room.
+
+#![tactic(auto)]
+
 ghost use Rattle.std.specs.Prelude.{◌≡◌, true, [], ◌++◌, ◌+◌, ◌-◌, ◌≤◌, ◌<◌, length, drop};
 ghost use Rattle.base.specs.Result.{gives, measured};
 ghost use Rattle.utf8.specs.Utf8.{utf8};

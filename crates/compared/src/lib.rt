@@ -1,4 +1,7 @@
 // An answer beside the one that a list says, for the programs that compare.
+
+#![tactic(auto)]
+
 ghost use Rattle.std.specs.Prelude.{◌≡◌, get_or};
 ghost use Rattle.compared.specs.InnerCompared.{holds, is_refusal, is_verdict, is_rendered};
 

@@ -1,4 +1,7 @@
 // The console renderer (src/buffer/console.rs).
+
+#![tactic(auto)]
+
 ghost use Rattle.std.specs.Prelude.{◌≡◌, List, [], ℕ, ◌+◌, ◌≤◌, ◌^◌, length};
 ghost use Rattle.base.specs.Result.{gives, measured, ◌>>=◌ as bind};
 ghost use Rattle.splitter.specs.Answers.{placed_of, PieceWithin};

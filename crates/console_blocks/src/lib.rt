@@ -1,4 +1,7 @@
 // What the console does at the starts and ends of blocks (src/buffer/console.rs): backticks, flags, margins.
+
+#![tactic(auto)]
+
 ghost use Rattle.std.specs.Prelude.{◌≡◌, false, List, ℕ, ◌+◌, ◌-◌, ◌≤◌, ◌<◌, ◌^◌, min, length, take};
 ghost use Rattle.base.specs.Result.{◌>>=◌ as bind};
 ghost use Rattle.base.specs.Stack.{top, pushed};

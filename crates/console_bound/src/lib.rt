@@ -1,4 +1,7 @@
 // How much room to lend to the console.
+
+#![tactic(auto)]
+
 ghost use Rattle.std.specs.Prelude.{◌≡◌, ◌≤◌, length};
 ghost use Rattle.console_bound.specs.Bound.{ref, bound, room_bound};
 ghost use Rattle.console_bound.specs.Answers.{lent, Enough};

@@ -1,4 +1,7 @@
 // How the console writes chunks (src/buffer/console.rs): what is due before a chunk, the fold, the margin, and the pieces of a body.
+
+#![tactic(auto)]
+
 ghost use Rattle.std.specs.Prelude.{◌≡◌, ℕ, ◌+◌, ◌-◌, ◌^◌, ◌<◌, ◌≤◌, max, false, ◌||◌, List, length};
 ghost use Rattle.base.specs.Result.{◌>>=◌ as bind};
 ghost use Rattle.white.specs.White.{trim};

@@ -1,5 +1,7 @@
 // The types that the console's rules share with its code.
 
+#![tactic(auto)]
+
 // The characters of the widest term that counts for the tabstop: the source's `MAX_TAB`.
 pub const MAX_TAB: usize = 24;
 

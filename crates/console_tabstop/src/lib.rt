@@ -1,4 +1,7 @@
 // What the console looks up in the records before and beside its walk (src/buffer/console.rs): the tabstop, and the adjacent gap.
+
+#![tactic(auto)]
+
 ghost use Rattle.std.specs.Prelude.{◌≡◌, false, ◌+◌, ◌-◌, ◌≤◌, ◌<◌, ◌^◌, length};
 ghost use Rattle.records.specs.Records.{is_text, kind_of, tokens, tokens_from};
 ghost use Rattle.records.specs.declared.Block.TheVariants as block;

@@ -1,5 +1,8 @@
 // Words and spaces that follow on their line as they stand (src/buffer/console.rs): what the console does most, in one pass over their
 // bytes, without the tests that only another chunk can pass.
+
+#![tactic(auto)]
+
 ghost use Rattle.std.specs.Prelude.{◌<◌, ◌≤◌, length};
 ghost use Rattle.console_words.specs.InnerAdvance.{LineAdvance, Ahead, Moves};
 

@@ -1,4 +1,7 @@
 // The check of a stored document: refusals 1 to 8.
+
+#![tactic(auto)]
+
 ghost use Rattle.std.specs.Prelude.{◌≡◌, [], ◌+◌, ◌<◌, ◌≤◌, length, take};
 ghost use Rattle.document.specs.Document.{opens, closes, accept, open_blocks, check, max_open};
 ghost use Rattle.base.specs.Bytes.{part};

@@ -1,5 +1,8 @@
 // A page built in linear time: a draft stands beside the document in a lent room, and the builder's calls (`buffer`, `buffer_doc`) read it instead
 // of the document. A refused call changes no byte of the room.
+
+#![tactic(auto)]
+
 ghost use Rattle.std.specs.Prelude.{◌≡◌, ℕ, ◌+◌, ◌-◌, ◌*◌, ◌/◌, ◌%◌, ◌≤◌, ◌<◌, List, length};
 ghost use Rattle.base.specs.Stack.{pushed, popped};
 ghost use Rattle.records.specs.Records.{number, index};

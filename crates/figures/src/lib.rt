@@ -1,4 +1,7 @@
 // The figures of a bundle of documents.
+
+#![tactic(auto)]
+
 ghost use Rattle.std.specs.Prelude.{◌≡◌, [], ◌∷◌, ◌≤◌, ◌+◌, length};
 ghost use Rattle.console_rules.specs.Console.{console};
 ghost use Rattle.figures.specs.Bundle.{shelf, full_text, figures};

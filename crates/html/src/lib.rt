@@ -1,4 +1,7 @@
 // HTML and strict HTML (src/buffer/html.rs).
+
+#![tactic(auto)]
+
 ghost use Rattle.std.specs.Prelude.{◌≡◌, true, false, [], ◌+◌, ◌<◌, length, set};
 ghost use Rattle.base.specs.Result.{gives, ◌>>=◌ as bind, measured};
 ghost use Rattle.room.specs.Room.{seen, extended};

@@ -1,4 +1,7 @@
 // Escapes of HTML, strict HTML and Markdown (src/buffer/html.rs).
+
+#![tactic(auto)]
+
 ghost use Rattle.std.specs.Prelude.{◌≡◌, false, true, length};
 ghost use Rattle.base.specs.Result.{◌>>=◌ as bind};
 ghost use Rattle.room.specs.Room.{seen, extended};

@@ -1,5 +1,8 @@
 // Lines of HTML outside ticks (src/buffer/html.rs). The words and spaces of a line go out one after another, each byte of them escaped alone:
 // together they are the line escaped, which is written in one pass, and in it runs of bytes that stand for themselves are copied.
+
+#![tactic(auto)]
+
 ghost use Rattle.std.specs.Prelude.{◌≡◌, ◌+◌, length, drop};
 ghost use Rattle.base.specs.Result.{◌>>=◌ as bind};
 ghost use Rattle.room.specs.Room.{seen, extended};

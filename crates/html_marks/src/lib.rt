@@ -1,4 +1,7 @@
 // What HTML and Markdown (src/buffer/html.rs) share: texts out of a table, lines of their own, and the test for Meta.
+
+#![tactic(auto)]
+
 ghost use Rattle.std.specs.Prelude.{◌≡◌, ◌++◌, length};
 ghost use Rattle.base.specs.Result.{◌>>=◌ as bind};
 ghost use Rattle.room.specs.Room.{seen, extended};

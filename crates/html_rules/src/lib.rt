@@ -1,4 +1,7 @@
 // The types that the rules of HTML and Markdown share with their code.
+
+#![tactic(auto)]
+
 use records::Style;
 
 // What HTML keeps from one record to the next, beside the text and the open blocks: the open style, and the skip counter.

@@ -1,5 +1,8 @@
 // The texts of HTML (src/buffer/html.rs): tags of styles and blocks out of one table, and chunks. The table is lent, since a constant
 // that is named here would be built anew at each call; what is promised of a tag holds where the lent table is that of the tags.
+
+#![tactic(auto)]
+
 ghost use Rattle.std.specs.Prelude.{◌≡◌, ◌++◌, length, take};
 ghost use Rattle.base.specs.Result.{refused, ◌>>=◌ as bind};
 ghost use Rattle.room.specs.Room.{seen, extended};

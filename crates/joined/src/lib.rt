@@ -1,4 +1,7 @@
 // A document into the joined form (02, point 7) and back, and places of the one in the other.
+
+#![tactic(auto)]
+
 ghost use Rattle.std.specs.Prelude.{◌≡◌, [], ◌≤◌, length};
 ghost use Rattle.base.specs.Bytes.{overwritten};
 ghost use Rattle.base.specs.Result.{gives, measured, ◌>>=◌ as bind};

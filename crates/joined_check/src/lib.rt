@@ -1,4 +1,7 @@
 // The check of a joined form (02, point 7), and its text.
+
+#![tactic(auto)]
+
 ghost use Rattle.std.specs.Prelude.{◌≡◌, true, List, [], ℕ, ◌≤◌, length, take};
 ghost use Rattle.base.specs.Bytes.{part};
 ghost use Rattle.document.specs.Answers.{verdict_of, turn_as, depth_of};

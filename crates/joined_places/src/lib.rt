@@ -1,4 +1,7 @@
 // A refusal of a document, with its place in the joined form (02, point 7).
+
+#![tactic(auto)]
+
 ghost use Rattle.std.specs.Prelude.{◌≡◌, ◌≤◌, length};
 ghost use Rattle.refusal.specs.Numbers.{refusal_number, refusal_place};
 ghost use Rattle.renderer.specs.Rendered.{answered};

@@ -1,5 +1,8 @@
 // Rendering the joined form (02, point 7): it is moved into a document in a local buffer, that is rendered, and the place of a refusal is
 // translated into the joined form.
+
+#![tactic(auto)]
+
 ghost use Rattle.std.specs.Prelude.{◌≡◌, true, false, ◌+◌, ◌≤◌, length, replicate};
 ghost use Rattle.base.specs.Result.{refused, measured};
 ghost use Rattle.refusal.specs.Numbers.{refusal_number, refusal_place};

@@ -1,4 +1,7 @@
 // Roff: `Doc::render_roff` given `Roff::new()` (src/buffer/manpage.rs).
+
+#![tactic(auto)]
+
 ghost use Rattle.std.specs.Prelude.{◌≡◌, Bool, true, false, not, ◌&&◌, List, ◌++◌, ℕ, ◌≤◌, ltb, length, drop};
 ghost use Rattle.base.specs.Bytes.{part};
 ghost use Rattle.base.specs.Result.{◌>>=◌ as bind, measured};

@@ -1,4 +1,7 @@
 // Markdown (src/buffer/html.rs).
+
+#![tactic(auto)]
+
 ghost use Rattle.std.specs.Prelude.{◌≡◌, [], length};
 ghost use Rattle.base.specs.Result.{gives, ◌>>=◌ as bind, measured};
 ghost use Rattle.room.specs.Room.{seen};

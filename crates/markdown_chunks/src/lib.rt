@@ -1,5 +1,8 @@
 // The chunks of Markdown (src/buffer/html.rs): lines in ticks and code lines, words, and words that go out as they stand. What is promised
 // of a text out of the table holds where the lent table is that of the marks.
+
+#![tactic(auto)]
+
 ghost use Rattle.std.specs.Prelude.{◌≡◌, [], length};
 ghost use Rattle.base.specs.Result.{◌>>=◌ as bind};
 ghost use Rattle.room.specs.Room.{seen, extended};

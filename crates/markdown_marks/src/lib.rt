@@ -1,6 +1,9 @@
 // The marks of Markdown (src/buffer/html.rs): those of styles and blocks out of one table, and the numbers and flags after a block. The
 // table is lent, since a constant that is named here would be built anew at each call; what is promised of a mark holds where the lent
 // table is that of the marks.
+
+#![tactic(auto)]
+
 ghost use Rattle.std.specs.Prelude.{◌≡◌, ◌++◌, ◌+◌, length};
 ghost use Rattle.base.specs.Result.{refused, ◌>>=◌ as bind};
 ghost use Rattle.room.specs.Room.{seen, extended};

@@ -1,4 +1,7 @@
 // One option list from two products.
+
+#![tactic(auto)]
+
 ghost use Rattle.std.specs.Prelude.{◌≡◌, length};
 ghost use Rattle.renderer.specs.Rendered.{standing, Inside};
 ghost use Rattle.merge_rules.specs.Merge.{TheMerge};

@@ -1,4 +1,7 @@
 // The items of a side: where they end, their terms' texts, and two texts beside each other.
+
+#![tactic(auto)]
+
 ghost use Rattle.std.specs.Prelude.{◌≡◌, [], ◌<◌, ◌≤◌, length};
 ghost use Rattle.records.specs.Records.{tokens_from};
 ghost use Rattle.room.specs.Room.{seen, extended};

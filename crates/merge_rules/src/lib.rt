@@ -1,5 +1,7 @@
 // What the rules of a merged option list share with its code.
 
+#![tactic(auto)]
+
 // How one text stands to another by their bytes.
 #[derive(Drop)]
 pub enum Order {

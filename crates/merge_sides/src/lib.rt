@@ -1,4 +1,7 @@
 // A side of the merge: whether it is a list, and whether its terms ascend.
+
+#![tactic(auto)]
+
 ghost use Rattle.std.specs.Prelude.{◌≡◌, ◌≤◌, length};
 ghost use Rattle.records.specs.Records.{tokens_from};
 ghost use Rattle.shape.specs.Shape.{parts, inlines, inline, kinds};

@@ -1,4 +1,7 @@
 // The splitter's step in numbers, as the C interface hands out chunks one by one.
+
+#![tactic(auto)]
+
 ghost use Rattle.std.specs.Prelude.{◌≡◌, length};
 ghost use Rattle.splitter.specs.Answers.{PieceWithin};
 ghost use Rattle.next_chunk.specs.NextChunk.{code_of, ticks_of, space_number, handed, next_chunk};

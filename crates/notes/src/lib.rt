@@ -1,4 +1,7 @@
 // The writers' notes, taken in as a stored document.
+
+#![tactic(auto)]
+
 ghost use Rattle.std.specs.Prelude.{◌≡◌, [], ◌≤◌, length, drop};
 ghost use Rattle.base.specs.Bytes.{starts_with};
 ghost use Rattle.base.specs.Result.{measured, ◌>>=◌ as bind};

@@ -1,4 +1,7 @@
 // The records of a text of the writers' notes: backticks pair, what stands between a pair is Literal, the rest Text.
+
+#![tactic(auto)]
+
 ghost use Rattle.std.specs.Prelude.{◌≡◌, true, false, ◌&&◌, ◌||◌, ◌+◌, ◌≤◌, ◌<◌, eqb, length, drop, get_or};
 ghost use Rattle.base.specs.Bytes.{part};
 ghost use Rattle.base.specs.Result.{◌>>=◌ as bind};

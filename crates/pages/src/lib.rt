@@ -1,4 +1,7 @@
 // Pages of a text by height, for a screen without scrolling. A text is any bytes.
+
+#![tactic(auto)]
+
 ghost use Rattle.std.specs.Prelude.{◌≡◌, ◌+◌, ◌≤◌, length, drop};
 ghost use Rattle.base.specs.Result.{measured};
 ghost use Rattle.pages.specs.Pages.{rows, page_of, page_start, page_count, shown};

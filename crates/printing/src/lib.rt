@@ -1,4 +1,7 @@
 // How many characters of a text print: by blocks of 64 bytes where they are ASCII, else by characters.
+
+#![tactic(auto)]
+
 ghost use Rattle.std.specs.Prelude.{◌≡◌, ◌<◌, ◌≤◌, ◌+◌, length};
 ghost use Rattle.utf8.specs.InnerParts.{AtMost};
 ghost use Rattle.white.specs.White.{printing_count};

@@ -1,4 +1,7 @@
 // What the programs share: standard input read whole, what is said of a failure, and the refusal line. No contract can say what is read or written.
+
+#![tactic(auto)]
+
 use refusal::Refusal;
 
 // How many bytes were read, or that a read failed.

@@ -1,1 +1,3 @@
 // What the proofs by hand share: no function.
+
+#![tactic(auto)]

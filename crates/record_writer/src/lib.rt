@@ -1,4 +1,7 @@
 // Records written into a lent room: the first six bytes of a record, after what stands there or at a place.
+
+#![tactic(auto)]
+
 ghost use Rattle.std.specs.Prelude.{◌≡◌, ◌%◌, length};
 ghost use Rattle.base.specs.Result.{◌>>=◌ as bind};
 ghost use Rattle.base.specs.Bytes.{overwritten};

@@ -1,5 +1,8 @@
 // A list of cases, calls with the oracle's answers, as the programs `replay` and `replay_builder` read it (its form stands in
 // oracle/src/cases.rs): its numbers, a call, the document and the answer of a case, and a room before a call.
+
+#![tactic(auto)]
+
 ghost use Rattle.std.specs.Prelude.{◌≡◌, ◌<◌, ◌≤◌, length};
 ghost use Rattle.recorded.specs.InnerCases.{number_in, number_size, past as past_number, sized_of, call_of, document_of, answer_of, pattern, filled, keeps, counted};
 

@@ -1,4 +1,7 @@
 // The records of a stored document: their kinds, and the record at a place.
+
+#![tactic(auto)]
+
 ghost use Rattle.std.specs.Prelude.{◌≡◌, true, ◌+◌, ◌<◌, ◌≤◌, ◌^◌, length, take, drop, get_or};
 ghost use Rattle.records.specs.Records.{little, styles, blocks, number, index, kind_of, record_fits, is_start, is_end};
 ghost use Rattle.records.specs.Answers.{head_of, Read};

@@ -1,4 +1,7 @@
 // The refusals: one case for each number.
+
+#![tactic(auto)]
+
 ghost use Rattle.std.specs.Prelude.{◌≡◌};
 ghost use Rattle.refusal.specs.Numbers.{refusal_number, refusal_place};
 

@@ -1,4 +1,7 @@
 // What the renderers share: their answer, and where the walk of a body ends.
+
+#![tactic(auto)]
+
 ghost use Rattle.std.specs.Prelude.{◌≡◌, false, List, ℕ, ◌<◌, length};
 ghost use Rattle.splitter.specs.Answers.{chunk_of};
 ghost use Rattle.renderer.specs.Walk.{last};

@@ -1,6 +1,9 @@
 // Writing into a lent room (01: '`String` output: a lent room and a length'). A length past the room says that the text was longer than
 // the room; every later write and trim keeps it so. What a write leaves free: the bytes past the new length; and, once a length is past
 // the room, every byte of it and how far the length is past it. `clear_from` settles them all.
+
+#![tactic(auto)]
+
 ghost use Rattle.std.specs.Prelude.{◌≡◌, [], ◌∷◌, ◌++◌, ◌+◌, ◌≤◌, length, take, replicate};
 ghost use Rattle.base.specs.Result.{gives, ◌>>=◌ as bind};
 ghost use Rattle.base.specs.Bytes.{ends_with};

@@ -1,5 +1,8 @@
 // Where a run of bytes ends that goes out as it stands: at the first of four bytes. Blocks of bytes are tested at a time, by loops of a fixed
 // number of turns without a way out, which a compiler turns into one test of all.
+
+#![tactic(auto)]
+
 ghost use Rattle.std.specs.Prelude.{◌≡◌, ◌+◌, ◌≤◌, min as min_of, eqb, leb, length, take, drop};
 ghost use Rattle.base.specs.Choice.{if◌then◌else◌ as choose};
 ghost use Rattle.splitter.specs.Split.{before};

@@ -1,4 +1,7 @@
 // The calls of the list of samples that `try_samples` runs, beside the wanted answer.
+
+#![tactic(auto)]
+
 ghost use Rattle.std.specs.Prelude.{◌≡◌, [], ◌++◌, length};
 ghost use Rattle.base.specs.Result.{measured};
 ghost use Rattle.document.specs.Document.{check};

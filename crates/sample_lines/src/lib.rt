@@ -1,5 +1,8 @@
 // Lines of the list of samples that `try_samples` runs, whose first lines tell its form: their numbers and texts, and what they add to a
 // document.
+
+#![tactic(auto)]
+
 ghost use Rattle.std.specs.Prelude.{◌≡◌, ◌<◌, ◌≤◌, ◌∷◌, length};
 ghost use Rattle.base.specs.Result.{◌>>=◌ as bind};
 ghost use Rattle.room.specs.Room.{seen, extended};

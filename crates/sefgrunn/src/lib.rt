@@ -1,4 +1,7 @@
 // The C interface (include/sefgrunn.h). Each function returns 0 for accepted, else the refusal's number.
+
+#![tactic(auto)]
+
 ghost use Rattle.std.specs.Prelude.{◌≡◌, true, false, ◌≤◌, length, take, drop};
 ghost use Rattle.base.specs.Result.{measured};
 ghost use Rattle.document.specs.Document.{check};

@@ -1,4 +1,7 @@
 // The house shape of a document.
+
+#![tactic(auto)]
+
 ghost use Rattle.std.specs.Prelude.{◌≡◌, ◌≤◌};
 ghost use Rattle.shape.specs.Shape.{same, other, inline};
 ghost use Rattle.shape.specs.Answers.{TheAnswer, shape_of};

@@ -1,4 +1,7 @@
 // The skip counter (src/buffer.rs, `Skip`): by value, lent and changed in place, and, for the renderers, from a number to a number.
+
+#![tactic(auto)]
+
 ghost use Rattle.std.specs.Prelude.{◌≡◌, ◌+◌, ◌<◌, eqb};
 ghost use Rattle.records.specs.declared.Block.TheVariants as block;
 ghost use Rattle.skip.specs.Counter.{hides, skip_paragraph, skip_start, skip_end};

@@ -1,4 +1,7 @@
 // The chunks of a body, one at a time (src/buffer/splitter.rs).
+
+#![tactic(auto)]
+
 ghost use Rattle.std.specs.Prelude.{◌≡◌, false, ◌+◌, ◌<◌, length, drop};
 ghost use Rattle.splitter.specs.Split.{line, step, stripped, ticked as ticked_line, after_line_end};
 ghost use Rattle.splitter.specs.Answers.{cursor, answer, first_chunk, place_of, piece_text, Within};

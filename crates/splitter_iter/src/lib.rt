@@ -1,5 +1,8 @@
 // The splitter as in the source (src/buffer/splitter.rs): a struct that holds a body and its tick state, with thin functions over the step of the
 // crate `splitter`. It also holds the place in the body where it stands, so that places of chunks count in the whole body.
+
+#![tactic(auto)]
+
 ghost use Rattle.std.specs.Prelude.{◌≡◌, length};
 ghost use Rattle.splitter.specs.Split.{split as split_of};
 ghost use Rattle.splitter.specs.Answers.{start, first_chunk};

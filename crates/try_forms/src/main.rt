@@ -1,5 +1,8 @@
 // Functions that hand back a part of a slice or lend a struct, run: some texts without a prefix, how many chunks some bodies have, and a skip
 // counter's number after a paragraph, an InlineBlock's start and its end.
+
+#![tactic(auto)]
+
 use libc::STDOUT_FILENO;
 
 fn digit(n: usize) -> bool {

@@ -1,4 +1,7 @@
 // Upper case by the Unicode Character Database: the characters of a text, each looked up in a table (`str::to_uppercase`).
+
+#![tactic(auto)]
+
 ghost use Rattle.std.specs.Prelude.{◌≡◌, [], ◌∷◌, ◌<◌, ◌≤◌, ◌+◌, ◌%◌, length};
 ghost use Rattle.utf8.specs.Utf8.{encode_all};
 ghost use Rattle.upper.specs.Upper.{maps_to, ascii_upper};

@@ -89,7 +89,7 @@ start-adds x s e =
     no : 0x80 ≤ x → x ≤ 0xBF → ⊥
     no l m =
         false≢true
-        (begins-never s ∙ and_left (begins never.after s) _ (sym (fits_begins never.after s) ∙ rw (← due_none x l (omega arith)) e))
+        (begins-never s ∙ and_left (begins never.after s) _ (sym (fits_begins never.after s) ∙ rw (due_none x l (omega arith)) at e))
 
 -- a character that is begun, and not complete
 abbrev pending : List Range → ℕ

@@ -1,4 +1,7 @@
 // Well-formed UTF-8: whether bytes are, its characters and their number.
+
+#![tactic(auto)]
+
 ghost use Rattle.std.specs.Prelude.{◌≡◌, [], ◌∷◌, ◌<◌, ◌≤◌, ◌+◌, ◌-◌, ◌*◌, ◌^◌, length, drop, get_or};
 ghost use Rattle.base.specs.Choice.{if◌then◌else◌, among};
 ghost use Rattle.utf8.specs.Utf8.{◌to◌, utf8, characters, begins, size_of, character_at};

@@ -1,4 +1,7 @@
 // White_Space: its characters, the White_Space at the end of a text, and the characters that print.
+
+#![tactic(auto)]
+
 ghost use Rattle.std.specs.Prelude.{◌≡◌, [], ◌∷◌, ◌<◌, ◌≤◌, ◌+◌, ◌-◌, length, take};
 ghost use Rattle.utf8.specs.Utf8.{utf8};
 ghost use Rattle.white.specs.White.{white, trim, printing_count};

@@ -1,4 +1,7 @@
 // Runs of words and spaces that go into a room as they stand, copied in the pass that looks for the end of their line.
+
+#![tactic(auto)]
+
 ghost use Rattle.std.specs.Prelude.{◌≡◌, false, ◌++◌, ◌+◌, ◌-◌, ◌<◌, ◌≤◌, length, take, drop};
 ghost use Rattle.base.specs.Bytes.{part};
 ghost use Rattle.utf8.specs.Utf8.{characters};

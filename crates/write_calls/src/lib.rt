@@ -1,5 +1,8 @@
 // Texts written by small pieces through the C interface (02, point 9): the laws of crate `write_laws`, said of calls of `sefgrunn_write`, from its contract. No
 // program calls these two functions.
+
+#![tactic(auto)]
+
 ghost use Rattle.std.specs.Prelude.{◌≡◌, []};
 ghost use Rattle.base.specs.Result.{measured};
 ghost use Rattle.buffer.specs.Answers.{kept};

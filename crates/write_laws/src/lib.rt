@@ -1,5 +1,8 @@
 // The builder for those who write by small pieces (02, point 9). The laws are about the builder's rules (specs/Small.antt, proofs/Laws.antt,
 // proofs/Empty.antt); the two functions say the same of calls of `buffer::write_str`, from its contract.
+
+#![tactic(auto)]
+
 ghost use Rattle.std.specs.Prelude.{◌≡◌, [], ◌∷◌};
 ghost use Rattle.base.specs.Result.{measured};
 ghost use Rattle.buffer.specs.Builder.{writes};
