@@ -82,11 +82,12 @@ without_extent line_break e = absurd (omega arith)
 
 ascend_most : {from to : ℕ} (ps : List Placed) → Ascend from ps to → from ≤ to
 ascend_most [] (done h) = h
-ascend_most (p ∷ ps) (later h a) = let k = ascend_most ps a in omega arith
+ascend_most {from = from} (p ∷ ps) (later h a) = let k = ascend_most {from = p.place + extent p.chunk} ps a in omega arith
 
 ascend_within : {from to : ℕ} (ps : List Placed) → Ascend from ps to → Each (λ (p : Placed). p.place + extent p.chunk ≤ to) ps
 ascend_within [] (done h) = none
-ascend_within (p ∷ ps) (later h a) = also (ascend_most ps a) (ascend_within ps a)
+ascend_within {from = from} (p ∷ ps) (later h a) =
+    also (ascend_most {from = p.place + extent p.chunk} ps a) (ascend_within {from = p.place + extent p.chunk} ps a)
 
 pub split-within : (body : List ℕ) → Each (λ (p : Placed). p.place + extent p.chunk ≤ length body) (split body)
 split-within body = ascend_within (split body) (split_ascend body)

@@ -1,4 +1,4 @@
-use Rattle.white.proofs.Names.{◌≡◌, refl, sym, ◌∙◌, ◌+◌, ◌-◌, ◌≤◌, arith, rules, not-true, not-false, length, drop, utf8, printing, Read}
+use Rattle.white.proofs.Names.{sym, ◌∙◌, arith, Read}
 use Rattle.white.proofs.Names.{read_character, no_character}
 use Rattle.white.proofs.Counting.{printing-not, printing-one, counted_none, counted_all}
 use Rattle.white.proofs.count_printing.Goals.{After-is_white}
@@ -6,13 +6,13 @@ use Rattle.white.proofs.count_printing.Goals as goal
 
 read : (c : After-is_white)
     → Read c.args.s.now
-    c.loop-i.i c.c-1.given.0.0 c.c-1.given.0.1.0
+    c.loop-i.i c.in-Char.c c.in-Char.next
 read c =
     let decode = c.decode in
     let after-loop = c in
     let loop = after-loop.loop-i in
     let args = after-loop.args in
-    read_character args.s.now loop.i _ _ (sym decode.ensures ∙ c.c-1.given.1)
+    read_character args.s.now loop.i _ _ (sym decode.ensures ∙ c.in-Char.is)
 
 pub returns-in_default : goal.returns-in_default
 returns-in_default c =
@@ -20,7 +20,7 @@ returns-in_default c =
     let loop = c.loop-i in
     let args = c.args in
     counted_none args.s.now
-    (loop.invariant.2 ∙ no_character args.s.now loop.i (sym c.decode.ensures ∙ c.enum_told-1.given.1) loop-test.true)
+    (loop.invariant.2 ∙ no_character args.s.now loop.i (sym c.decode.ensures ∙ c.in_default.is) loop-test.true)
 
 pub loop-i-smaller-then-not-is_white : goal.loop-i-smaller-then-not-is_white
 loop-i-smaller-then-not-is_white c = omega (arith, read (goal.at.loop-i-smaller-then-not-is_white c).After-is_white)
@@ -28,13 +28,12 @@ loop-i-smaller-then-not-is_white c = omega (arith, read (goal.at.loop-i-smaller-
 pub loop-i-preserved-then-not-is_white : goal.loop-i-preserved-then-not-is_white
 loop-i-preserved-then-not-is_white c =
     let after-c = c in
-    let the-c = after-c.c-1 in
     let loop = after-c.loop-i in
     let args = after-c.args in
     let r = read (goal.at.loop-i-preserved-then-not-is_white c).After-is_white in
     let e =
-    printing-one args.s.now loop.i the-c.given.0.0 the-c.given.0.1.0 r
-    (sym c.is_white.ensures ∙ not-true _ c.if-not-is_white.true) in
+    printing-one args.s.now loop.i after-c.in-Char.c after-c.in-Char.next r
+    (sym c.is_white.ensures ∙ c.if-not-is_white.true) in
     (omega arith, omega arith, loop.invariant.2 ∙ r.text, omega arith)
 
 pub loop-i-smaller : goal.loop-i-smaller
@@ -43,13 +42,12 @@ loop-i-smaller c = omega (arith, read (goal.at.loop-i-smaller c).After-is_white)
 pub loop-i-preserved : goal.loop-i-preserved
 loop-i-preserved c =
     let after-c = c in
-    let the-c = after-c.c-1 in
     let loop = after-c.loop-i in
     let args = after-c.args in
     let r = read (goal.at.loop-i-preserved c).After-is_white in
     let e =
-    printing-not args.s.now loop.i the-c.given.0.0 the-c.given.0.1.0 r
-    (sym c.is_white.ensures ∙ not-false _ c.if-not-is_white.false) in
+    printing-not args.s.now loop.i after-c.in-Char.c after-c.in-Char.next r
+    (sym c.is_white.ensures ∙ c.if-not-is_white.false) in
     (omega arith, omega arith, loop.invariant.2 ∙ r.text, omega arith)
 
 pub returns : goal.returns

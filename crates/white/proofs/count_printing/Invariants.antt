@@ -1,6 +1,4 @@
-use Rattle.white.proofs.Names.{◌≡◌, refl, sym, ◌∙◌, ◌+◌, ◌-◌, ◌≤◌, arith, rules, not-true, not-false, length, drop, utf8, printing, Read}
-use Rattle.white.proofs.Names.{read_character, no_character}
-use Rattle.white.proofs.Counting.{printing-not, printing-one, counted_none, counted_all}
+use Rattle.white.proofs.Names.{◌≡◌, ◌+◌, ◌-◌, ◌≤◌, length, drop, utf8, printing}
 use Rattle.white.proofs.count_printing.Given as goal
 
 -- Invariant: the characters before i are valid, n of them print, and those after i make up the rest.

@@ -17,7 +17,7 @@ pub returns-in_default-2 : goal.returns-in_default-2
 unfolding white whites
 returns-in_default-2 c =
     let x = c.args.c in
-    white_gap 0x0E 0x2000 low refl x (omega arith) (omega arith) (none_of low x c.in-9-to-13.rest.0.1)
+    white_gap 0x0E 0x2000 low refl x (omega arith) (omega arith) (none_of low x c.in_default.in_default-own.rest.0.1)
 
 pub returns-in_default-3 : goal.returns-in_default-3
 unfolding white whites
@@ -27,11 +27,11 @@ pub returns-in_default-4 : goal.returns-in_default-4
 unfolding white whites
 returns-in_default-4 c =
     let x = c.args.c in
-    white_gap 0x202A (2 ^ 32) high refl x (omega arith) (omega arith) (none_of high x c.in-9-to-13.rest.1)
+    white_gap 0x202A (2 ^ 32) high refl x (omega arith) (omega arith) (none_of high x c.in_default.in_default-own.rest.1)
 
 pub returns-in-8232 : goal.returns-in-8232
 unfolding white whites
-returns-in-8232 c = white_of high refl c.args.c c.in-9-to-13.keys2
+returns-in-8232 c = white_of high refl c.args.c c.in-8232.is
 
 pub returns-in-8232-2 : goal.returns-in-8232-2
 unfolding white whites
@@ -39,7 +39,7 @@ returns-in-8232-2 c = white_span 0x2028 2 refl c.args.c (omega arith) (omega ari
 
 pub returns-in-9-to-13 : goal.returns-in-9-to-13
 unfolding white whites
-returns-in-9-to-13 c = white_of low refl c.args.c c.in-9-to-13.keys1
+returns-in-9-to-13 c = white_of low refl c.args.c c.in-9-to-13.in-9-to-13-own.keys1
 
 pub returns-in-9-to-13-2 : goal.returns-in-9-to-13-2
 unfolding white whites

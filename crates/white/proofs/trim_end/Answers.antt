@@ -1,4 +1,4 @@
-use Rattle.white.proofs.Names.{◌≡◌, ◌∙◌, ◌≤◌, arith, rules, length, take, take-length, trim}
+use Rattle.white.proofs.Names.{◌∙◌, arith}
 use Rattle.white.proofs.Trim.{left_fits, left-next, left-stop, left-none}
 use Rattle.white.proofs.trim_end.Goals as goal
 

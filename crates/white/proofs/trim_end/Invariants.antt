@@ -1,5 +1,4 @@
-use Rattle.white.proofs.Names.{◌≡◌, ◌∙◌, ◌≤◌, arith, rules, length, take, take-length, trim}
-use Rattle.white.proofs.Trim.{left_fits, left-next, left-stop, left-none}
+use Rattle.white.proofs.Names.{◌≡◌, ◌≤◌, length, take, trim}
 use Rattle.white.proofs.trim_end.Given as goal
 
 -- Invariant: trimming the first e bytes gives what trimming all of them gives.

@@ -1,5 +1,4 @@
 use Rattle.white.proofs.WhiteBytes.{e281, e19a, e380, not_e2, not_e1, not_e3, not_three}
-use borrow.Author.Rules.{rules}
 use Rattle.white.proofs.white3.Goals as goal
 
 pub returns-then-b-eq129 : goal.returns-then-b-eq129

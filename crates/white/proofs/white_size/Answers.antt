@@ -1,11 +1,9 @@
-use Rattle.white.proofs.Names.{◌≡◌, ◌∙◌, arith, take, length-take-le, white_bytes, last, rules}
+use Rattle.white.proofs.Names.{◌≡◌, ◌∙◌, arith, take, length-take-le, white_bytes, last}
 use Rattle.white.proofs.Ends.{got1, got2, got3, size_1, size_2, size_3, none_0, none_1, none_2, none_3}
 use Rattle.white.proofs.white_size.Goals.{After-white1, After-white2, After-white3}
 use Rattle.white.proofs.white_size.Goals as goal
 
 -- From where one, two and three bytes were looked at, back to the start.
-
-
 
 -- what is known of the end of the first e bytes after each call
 known1 : (c : After-white1) → white_bytes (last 1 (take c.args.e c.args.s.now)) ≡ c.white1.result

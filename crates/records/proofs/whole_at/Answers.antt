@@ -1,0 +1,21 @@
+use Rattle.records.proofs.Names.{ap, ◌∙◌, false≢true, arith, rules, kind_of, size}
+use Rattle.records.proofs.Reading.{fits_short, read_fits}
+use Rattle.records.proofs.whole_at.Goals as goal
+
+pub returns-then-document-at : goal.returns-then-document-at
+returns-then-document-at c =
+    let a = c.args in
+    λ f. absurd (false≢true (fits_short (a.document.now) a.at (omega arith) ∙ f))
+
+pub returns-then-document-at-lt6 : goal.returns-then-document-at-lt6
+returns-then-document-at-lt6 c =
+    let a = c.args in
+    λ f. absurd (false≢true (fits_short (a.document.now) a.at (omega arith) ∙ f))
+
+pub returns : goal.returns
+unfolding size
+returns c =
+    let after-if1 = c in
+    let a = after-if1.args in
+    let k = c.kind_of-kind.ensures ∙ ap kind_of c.whole_two.ensures.0 in
+    read_fits (a.document.now) a.at _ after-if1.if-document-at.false k _ c.whole_four.ensures.0 (omega arith)

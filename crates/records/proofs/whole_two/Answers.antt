@@ -1,0 +1,10 @@
+use Rattle.records.proofs.Names.{arith, rules}
+use Rattle.records.proofs.Reading.{little-two}
+use Rattle.records.proofs.whole_two.Goals as goal
+
+pub returns : goal.returns
+returns c =
+    let args = c.args in (
+      omega (arith, little-two (args.bytes.now) args.at, c.usize_from.ensures, c.usize_from-2.ensures),
+      omega (arith, c.usize_from.ensures, c.usize_from-2.ensures),
+    )

@@ -1,0 +1,12 @@
+use Rattle.runs.proofs.Names.{sym, ◌∙◌, ◌-◌, arith, rules, length, among, Reached}
+use Rattle.runs.proofs.Runs.{reached_start, reached_one, reached_stop, reached_end, run_none}
+use Rattle.runs.proofs.run_end.Given as goal
+
+-- Invariant: the run goes on at least up to i.
+-- What falls: the bytes after i.
+
+abbrev pub invariant-loop-i : goal.invariant-loop-i
+invariant-loop-i l = Reached (among l.a l.b l.c l.d) l.s l.at l.i
+
+abbrev pub decreases-loop-i : goal.decreases-loop-i
+decreases-loop-i l = length l.s - l.i

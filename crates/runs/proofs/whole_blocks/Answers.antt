@@ -1,0 +1,9 @@
+use Rattle.runs.proofs.Names.{sym, ◌∙◌, ◌-◌, arith, rules, length, among, Reached}
+use Rattle.runs.proofs.Runs.{reached_start, reached_block}
+use Rattle.runs.proofs.whole_blocks.Goals as goal
+
+pub loop-i-preserved : goal.loop-i-preserved
+loop-i-preserved c =
+    let l = c.loop-i in
+    reached_block _ _ _ l.invariant 16 (omega (arith, l.invariant.within, c.loop-i-test.true))
+    (sym c.marked.ensures ∙ c.if-marked.false)
