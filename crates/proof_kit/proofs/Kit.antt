@@ -5,7 +5,7 @@ pub use base.Logic.{SProp, ent, sep, id⊢, emp, snd∗, ex_e, via, fst∗}
 pub use contract.BorrowLft.{meet_⊑_right}
 pub use contract.Lifetimes.{AllOutlive, Lfts}
 pub use contract.Monad.{fact, Fun}
-pub use contract.Running.{given_of, tables}
+pub use contract.Running.{tables}
 unfoldable pub use contract.Running.{tables_of}
 pub use denote.Builtin.{usize, unit, u8, bool}
 pub use denote.Exit.{yes}
@@ -31,23 +31,22 @@ pub use denote.Triple.Statement.{Contract, Triple}
 pub use denote.Triple.Table.{entered, cited}
 pub use denote.Triple.Walked.{says, Stays, stay_none, walk_of, Goes-none, Walks, ends_at, walked, walk_Meets, stay_ref, Goes-ref, stay_none_slice}
 pub use denote.Triple.Walked.{Goes-none_slice}
-pub use ghost.Atoms.{Atoms, sem}
-pub use seplogic.Ra.TreeShare.PosShare.{left as share_left}
-pub use seplogic.Ra.TreeShare.PosShare.{right as share_right}
-pub use seplogic.Ra.TreeShare.{full_share}
+pub use ghost.Atoms.{Atoms}
+pub use base.Fraction.{full_share, left as share_left, right as share_right}
 pub use seplogic.Ra.Ura.{Ura}
 pub use lib.Dec.{lit<}
 pub use lib.ListN.{length}
 pub use mathlib.Core.List.{List, [], ◌∷◌}
 pub use mathlib.Core.Path.{◌≡◌, refl, sym, subst, ap, ◌∙◌}
-pub use mir.Syntax.{Name, Fn, Ty, named, erased, imm, mut, w8, w64, ty_int, ty_ref, ty_unit, ty_bool, field, place, copy, local, value_local, assign}
+pub use mir.Syntax.{Callee, Fn, Ty, named, erased, imm, mut, w8, w64, ty_int, ty_ref, ty_unit, ty_bool, field, place, copy, local, value_local, assign}
 pub use mir.Syntax.{rv_opd, seq, call, return, deref, opd_unit}
 pub use mir.Val.{Val, WT, has_ty, vint, vbool, vptr, vunit, vstruct, vnil, vcons}
 pub use prog.Memory.{Memory}
 pub use prog.Routine.{Routine}
 pub use prog.Wp.{Heap, Calls, Loops, WpFn, Tables, Env}
 pub use sound.WpLaws.{FmC, fm_of, WpFn-mono}
-pub use types.Kit.{Given, ‵, ◌$◌, ◌∵◌, !, qed, move, use1, fsplit, fjoin, fpick, fpack, done, raw, ◌⊛◌, ⋆, some, later, by, keep, drop, use2, use3}
+pub use types.Logic.{Logic, sem}
+pub use types.Kit.{‵, ◌$◌, ◌∵◌, !, qed, move, use1, fsplit, fjoin, fpick, fpack, done, raw, ◌⊛◌, ⋆, some, later, by, keep, drop, use2, use3}
 pub use types.Kit.{split, join, pick, feq_l, suffices, frame, await, fsplit3, fjoin3, feq_i, given, learn, Item, Post, runs, lands, Seq, rewrite, use0}
 pub use types.Part.{whole, sub, look_in, agg, store_in}
 pub use types.Run.{bin, assigns_last, look, init, forget, stop, fld, from, load, addr, of_opd, and_then, no_more, assigns, land, returns, enter}

@@ -30,7 +30,7 @@ module _ {M : Type 1} {𝓤 : Ura M} {𝓛 : Logic 𝓤} {K : Type 0} {E : Env �
       let After : Out → SProp 𝓤 = after_block 𝓤 H (after_seq 𝓤 H (Wp 𝓤 H 𝓣.C 𝓣.Λ E rest (post 𝓤 H q)) (post 𝓤 H q)) in
       record {
         prf = loop_rule 𝓤 H 𝓛.laws 𝓣 ≺ wf E turn After (λ u. ⋆ 𝓛 (I u))
-            (λ u. (each u (after_turn 𝓤 H (Below 𝓛 ≺ I u) After) (λ t' less. record { prf = (again {W = 𝓛} k ≺ I u t' less).prf })
+            (λ u. (each u (after_turn 𝓤 H (Below 𝓛 ≺ I u) After) (λ t' less. record { prf = (again {𝓛 = 𝓛} k ≺ I u t' less).prf })
             (λ _ _. step (λ s. record { prf = s.prf }))).prf) t;
       }
 

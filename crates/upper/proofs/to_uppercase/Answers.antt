@@ -1,0 +1,27 @@
+use Rattle.upper.proofs.Names.{sym, ap, ◌∙◌, arith, encode_all, read_character}
+use Rattle.upper.proofs.Names.{character_encoded}
+use Rattle.upper.proofs.Writing.{scalar_most}
+use Rattle.upper.proofs.Going.{going_more, going_none}
+use Rattle.upper.proofs.to_uppercase.Goals as goal
+
+pub maps_to-requires : goal.maps_to-requires
+maps_to-requires c = scalar_most _ (character_encoded c.args.text.now c.loop-len.next _ _ (sym c.decode-d.ensures ∙ c.in-Char.is)).0
+
+pub loop-len-smaller : goal.loop-len-smaller
+loop-len-smaller c =
+    let r = read_character c.args.text.now c.loop-len.next _ _ (sym c.decode-d.ensures ∙ c.in-Char.is) in
+    omega (arith, r.later, r.room)
+
+pub loop-len-preserved : goal.loop-len-preserved
+loop-len-preserved c =
+    let i = c.loop-len.invariant in
+    let w = c.put_all-len in (
+      w.auto.out ∙ i.0,
+      omega (arith, w.ensures.within),
+      λ q. going_more _ _ (i.2 q) (sym c.decode-d.ensures ∙ c.in-Char.is) w.ensures (ap encode_all (c.maps_to.ensures.characters q)),
+    )
+
+pub returns-in-Nothing : goal.returns-in-Nothing
+returns-in-Nothing c =
+    let i = c.loop-len.invariant in
+    record { size = omega (arith, i.0, i.1); text = λ q. going_none _ _ (i.2 q) (sym c.decode-d.ensures ∙ c.in-Nothing.is) }
