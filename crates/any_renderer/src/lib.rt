@@ -11,7 +11,7 @@ use console_rules::{MAX_WIDTH, Settings};
 use renderer::Rendered;
 
 // What is asked for: the console, HTML and strict HTML (`full`, then the style sheet), Markdown (`full`), roff.
-#[derive(Drop)]
+#[derive(Clone, Copy)]
 pub enum Asked {
     Console(Settings),
     Html(bool, bool),

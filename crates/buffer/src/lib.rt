@@ -19,7 +19,7 @@ use records::{Block, Kind, Style};
 use refusal::Refusal;
 
 // The document's new length, or why it was left as it was.
-#[derive(Drop)]
+#[derive(Clone, Copy)]
 pub enum Built {
     Length(usize),
     Refused(Refusal),

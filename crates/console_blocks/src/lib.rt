@@ -17,7 +17,7 @@ use records::Block;
 
 // A mark in the text, and how many margins there are. The margins are columns, in an array of plain numbers: a slice of structs is not
 // covered. They are taken out of it by `top_margin` and put into it by `indent_by` alone.
-#[derive(Drop)]
+#[derive(Clone, Copy)]
 pub struct Stand {
     pub mark: Mark,
     pub count: usize,

@@ -12,7 +12,7 @@ use records::Kind;
 use refusal::Refusal;
 
 // The bytes that are enough for the console's text at any moment, or the refusal.
-#[derive(Drop)]
+#[derive(Clone, Copy)]
 pub enum Lend {
     Bound(usize),
     Refused(Refusal),

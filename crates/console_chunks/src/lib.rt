@@ -18,14 +18,14 @@ use splitter::Piece;
 
 // How far the text in a room has come, in bytes, and what is kept beside it. A length past the room says that the text was longer than the
 // room. Bytes and columns are kept apart by their types; the functions of `room`, which know no columns, take the number of bytes alone.
-#[derive(Drop)]
+#[derive(Clone, Copy)]
 pub struct Mark {
     pub len: Bytes,
     pub lay: Lay,
 }
 
 // Where a chunk leaves the text, or the place of refusal 10.
-#[derive(Drop)]
+#[derive(Clone, Copy)]
 pub enum Placed {
     At(Mark),
     Deep(usize),

@@ -15,14 +15,14 @@ pub const MAX_WIDTH: usize = 10_000;
 pub const MAX_MISSING: usize = 50;
 
 // What a chunk counts for in the fold test: its bytes, as in the source, or the characters that it holds.
-#[derive(Drop)]
+#[derive(Clone, Copy)]
 pub enum Measure {
     Bytes,
     Characters,
 }
 
 // What the console is asked for: the width, '`full`' and the measure, as one record.
-#[derive(Drop)]
+#[derive(Clone, Copy)]
 pub struct Settings {
     pub width: usize,
     pub full: bool,
@@ -30,14 +30,14 @@ pub struct Settings {
 }
 
 // Columns used, and bytes used.
-#[derive(Drop)]
+#[derive(Clone, Copy)]
 pub struct Columns(pub usize);
 
-#[derive(Drop)]
+#[derive(Clone, Copy)]
 pub struct Bytes(pub usize);
 
 // What the console keeps from one chunk to the next, beside the text and the margins.
-#[derive(Drop)]
+#[derive(Clone, Copy)]
 pub struct Lay {
     pub column: Columns,
     // text is skipped while this is over 0

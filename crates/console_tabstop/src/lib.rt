@@ -68,7 +68,7 @@ pub fn look_ahead(document: &[u8], next: usize, b: Block, known: usize) -> usize
 // The tabstop.
 
 // The widest term so far, whether a term is being counted (1 where it is), and its characters so far.
-#[derive(Drop)]
+#[derive(Clone, Copy)]
 struct Terms {
     widest: usize,
     counting: usize,
@@ -140,7 +140,7 @@ fn settles(t: Terms, code: usize) -> bool
 }
 
 // The tabstop, and the start of the record that settles it, or the document's length.
-#[derive(Drop)]
+#[derive(Clone, Copy)]
 pub struct Tabstop {
     pub columns: Columns,
     pub at: usize,
@@ -220,7 +220,7 @@ pub fn tabstop_of(document: &[u8]) -> Columns
 }
 
 // What the search answers in any bytes: what it finds in an accepted document, or the refusal.
-#[derive(Drop)]
+#[derive(Clone, Copy)]
 pub enum Searched {
     Found(Tabstop),
     Refused(Refusal),

@@ -11,7 +11,7 @@ use console_rules::{Bytes, Columns, Lay, Settings};
 use splitter::Code;
 
 // How far the text, the column and the walk of a body have come.
-#[derive(Drop)]
+#[derive(Clone, Copy)]
 struct LineFilled {
     len: Bytes,
     column: Columns,
@@ -83,7 +83,7 @@ fn follows(room: &[u8], m: Mark, margin: Columns, code: Code) -> bool
 }
 
 // A mark in the text, and how far the walk of a body has come.
-#[derive(Drop)]
+#[derive(Clone, Copy)]
 pub struct Run {
     pub mark: Mark,
     pub at: usize,

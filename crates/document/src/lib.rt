@@ -17,14 +17,14 @@ pub const MAX_BYTES: usize = 32_768;
 pub const MAX_OPEN: usize = 32;
 
 // Whether a document is accepted.
-#[derive(Drop)]
+#[derive(Clone, Copy)]
 pub enum Checked {
     Accepted,
     Refused(Refusal),
 }
 
 // The verdict on a document whose blocks may be open, and the indices of its open blocks, the innermost last.
-#[derive(Drop)]
+#[derive(Clone, Copy)]
 pub struct Opened {
     pub verdict: Checked,
     pub stack: [u8; MAX_OPEN],
@@ -32,7 +32,7 @@ pub struct Opened {
 }
 
 // What a record leaves open: so many blocks of the stack, or its refusal.
-#[derive(Drop)]
+#[derive(Clone, Copy)]
 pub enum Turn {
     Open(usize),
     Refused(Refusal),

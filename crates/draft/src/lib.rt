@@ -22,7 +22,7 @@ use refusal::Refusal;
 // What a check would find out about a document: its length, where its last record stands and that record's style (its kind, or 0 where it
 // is no text), how many blocks are open, and their indices, four bits each, the 16 innermost in `inner`, the innermost lowest. A document
 // with no record has zeros.
-#[derive(Drop)]
+#[derive(Clone, Copy)]
 pub struct Draft {
     pub length: usize,
     pub last: usize,
@@ -33,7 +33,7 @@ pub struct Draft {
 }
 
 // The draft after a call, or why the document was left as it was.
-#[derive(Drop)]
+#[derive(Clone, Copy)]
 pub enum Drafted {
     Next(Draft),
     Refused(Refusal),

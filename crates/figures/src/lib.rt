@@ -12,7 +12,7 @@ use refusal::Refusal;
 use renderer::Rendered;
 
 // Bodies seen, those with a text, the others, and the printing characters of the texts.
-#[derive(Drop)]
+#[derive(Clone, Copy)]
 pub struct Figures {
     pub documents: usize,
     pub accepted: usize,
@@ -21,14 +21,14 @@ pub struct Figures {
 }
 
 // The figures of a bundle, or its refusal.
-#[derive(Drop)]
+#[derive(Clone, Copy)]
 pub enum Shelf {
     Counted(Figures),
     Refused(Refusal),
 }
 
 // How many characters a text prints, or its refusal.
-#[derive(Drop)]
+#[derive(Clone, Copy)]
 enum Printed {
     Characters(usize),
     Refused(Refusal),

@@ -11,7 +11,7 @@ ghost use Rattle.html_rules.specs.Markdown.{bracket};
 ghost use Rattle.html_escape.specs.InnerParts.{entity_of};
 
 // How the bytes of a chunk are escaped: as HTML, as strict HTML, as Markdown inside Mono.
-#[derive(Drop)]
+#[derive(Clone, Copy)]
 pub enum Escape {
     Html,
     Strict,

@@ -13,7 +13,7 @@ ghost use Rattle.html_lines.specs.InnerLines.{plain_line};
 use splitter::{Code, Cursor};
 
 // The length of the text after a line, and where in the body the line ends.
-#[derive(Drop)]
+#[derive(Clone, Copy)]
 pub struct LineWritten {
     pub len: usize,
     pub at: usize,

@@ -11,7 +11,7 @@ ghost use Rattle.html_marks.specs.InnerParts.{spanned, is_meta};
 use records::Kind;
 
 // Where a text lies in a table of texts: from a place up to another.
-#[derive(Drop)]
+#[derive(Clone, Copy)]
 pub struct Span(pub usize, pub usize);
 
 // A text out of a table.

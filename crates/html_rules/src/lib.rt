@@ -5,14 +5,14 @@
 use records::Style;
 
 // What HTML keeps from one record to the next, beside the text and the open blocks: the open style, and the skip counter.
-#[derive(Drop)]
+#[derive(Clone, Copy)]
 pub struct Html {
     pub style: Style,
     pub skip: usize,
 }
 
 // What Markdown keeps from one record to the next, beside the text.
-#[derive(Drop)]
+#[derive(Clone, Copy)]
 pub struct Markdown {
     pub style: Style,
     pub skip: usize,

@@ -29,7 +29,7 @@ use roff_escape::roff::{Font, Roff};
 use roff_escape::{escape, roff};
 
 // The captured text as it was written: the length of the text then, whether a line starts there, and whether any was captured.
-#[derive(Drop)]
+#[derive(Clone, Copy)]
 struct Captured {
     len: usize,
     fresh: bool,
@@ -37,7 +37,7 @@ struct Captured {
 }
 
 // Text as far as it was written: the length then, whether a line starts there, and the place up to which it was read.
-#[derive(Drop)]
+#[derive(Clone, Copy)]
 struct Cased {
     len: usize,
     fresh: bool,

@@ -131,7 +131,7 @@ pub fn fence_after(piece: Piece, fenced: bool) -> bool
 }
 
 // How far the text and the walk of a body have come.
-#[derive(Drop)]
+#[derive(Clone, Copy)]
 pub struct Run {
     pub len: usize,
     pub at: usize,

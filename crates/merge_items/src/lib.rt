@@ -15,14 +15,14 @@ use merge_rules::Order;
 use records::Kind;
 
 // How many blocks are open in a block, or that it ends.
-#[derive(Drop)]
+#[derive(Clone, Copy)]
 enum Deep {
     Open(usize),
     Ends,
 }
 
 // Of an item: where what its term holds stands, where the term's end record stands, and where the item ends.
-#[derive(Drop)]
+#[derive(Clone, Copy)]
 pub struct Place {
     pub from: usize,
     pub stop: usize,
@@ -30,7 +30,7 @@ pub struct Place {
 }
 
 // Of an item: where it ends, and the length of its term's text, which stands in a lent key.
-#[derive(Drop)]
+#[derive(Clone, Copy)]
 pub struct Entry {
     pub next: usize,
     pub len: usize,

@@ -3,7 +3,7 @@
 #![tactic(auto)]
 
 // How one text stands to another by their bytes.
-#[derive(Drop)]
+#[derive(Clone, Copy)]
 pub enum Order {
     Less,
     Same,

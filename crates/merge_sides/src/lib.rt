@@ -15,7 +15,7 @@ use records::{Block, Kind};
 use shape::Shape;
 
 // A document as a side: whether it is a list of items, whatever their order, and whether their terms ascend.
-#[derive(Drop)]
+#[derive(Clone, Copy)]
 pub struct Side {
     pub list: bool,
     pub ordered: bool,

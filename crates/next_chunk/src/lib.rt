@@ -10,7 +10,7 @@ use splitter::{Code, Cursor, Piece, Step};
 
 // What a chunk is (0 none, 1 a part of the body, 2 a paragraph, 3 a line break, 4 a line end's space), the cursor after it, and where it
 // begins, its length and its width.
-#[derive(Drop)]
+#[derive(Clone, Copy)]
 pub struct Next {
     pub number: u32,
     pub at: usize,

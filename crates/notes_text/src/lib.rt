@@ -10,7 +10,7 @@ ghost use Rattle.notes_rules.specs.Notes.{ticked, styled, text_records};
 ghost use Rattle.notes_text.specs.InnerParts.{Last, Tick, lead, Runs, kind_number};
 
 // Bytes of one style: how many, where they end, and whether a pair of backticks is open there.
-#[derive(Drop)]
+#[derive(Clone, Copy)]
 struct Run {
     size: usize,
     at: usize,

@@ -12,14 +12,14 @@ ghost use Rattle.pages.specs.InnerParts.{Fed, bytes_of};
 use refusal::Refusal;
 
 // Where a page stands in its text, its start and its size; or why there is none.
-#[derive(Drop)]
+#[derive(Clone, Copy)]
 pub enum Paged {
     Part(usize, usize),
     Refused(Refusal),
 }
 
 // How many pages there are.
-#[derive(Drop)]
+#[derive(Clone, Copy)]
 pub enum Counted {
     Pages(usize),
     Refused(Refusal),

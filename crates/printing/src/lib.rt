@@ -10,14 +10,14 @@ ghost use Rattle.printing.specs.InnerParts.{ascii_prints, ascii_count, Ran};
 use utf8::Decoded;
 
 // 64 bytes: the largest of them, and how many print where all are ASCII.
-#[derive(Drop)]
+#[derive(Clone, Copy)]
 struct Block {
     top: u8,
     prints: u8,
 }
 
 // A part of a text that was counted: the place after it, 0 where no character stands, and how many of its characters print.
-#[derive(Drop)]
+#[derive(Clone, Copy)]
 struct Run {
     at: usize,
     prints: usize,

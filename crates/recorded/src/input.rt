@@ -1,7 +1,7 @@
 // Standard input: of what is read no contract can say anything.
 
 // The next case of standard input is in a buffer and has so many bytes; or the list ends here, or is faulty.
-#[derive(Drop)]
+#[derive(Clone, Copy)]
 pub enum Next {
     Case(usize),
     End,

@@ -47,7 +47,7 @@ pub fn past<'a>(bytes: &'a [u8]) -> &'a [u8]
 
 // A call: its number in a list, its setting (width, style, block or place of a cursor), its flags, of which the first may be the ticks of a
 // cursor, and the length of its room.
-#[derive(Drop)]
+#[derive(Clone, Copy)]
 pub struct Call {
     pub number: u8,
     pub setting: usize,

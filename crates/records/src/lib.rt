@@ -9,7 +9,7 @@ ghost use Rattle.records.specs.declared.Style.TheVariants as style;
 ghost use Rattle.records.specs.declared.Block.TheVariants as block;
 
 // Style of a text record, in the order of its kind.
-#[derive(Drop)]
+#[derive(Clone, Copy)]
 pub enum Style {
     Text,
     Emphasis,
@@ -19,7 +19,7 @@ pub enum Style {
 }
 
 // A block, in the order of its index.
-#[derive(Drop)]
+#[derive(Clone, Copy)]
 pub enum Block {
     Header,
     Section2,
@@ -36,7 +36,7 @@ pub enum Block {
 }
 
 // What a record's kind says.
-#[derive(Drop)]
+#[derive(Clone, Copy)]
 pub enum Kind {
     Text(Style),
     Start(Block),
@@ -45,7 +45,7 @@ pub enum Kind {
 }
 
 // The record at a place: its kind, where its body starts and where that ends, and where the next record stands.
-#[derive(Drop)]
+#[derive(Clone, Copy)]
 pub struct Head {
     pub kind: Kind,
     pub start: usize,
@@ -54,7 +54,7 @@ pub struct Head {
 }
 
 // The record at a place with its kind as a number: that, where its body starts, and where that ends and the next record stands.
-#[derive(Drop)]
+#[derive(Clone, Copy)]
 pub struct Raw {
     pub code: usize,
     pub start: usize,

@@ -13,7 +13,7 @@ use refusal::Refusal;
 use splitter::Piece;
 
 // The length of the text that stands in the room, or the refusal.
-#[derive(Drop)]
+#[derive(Clone, Copy)]
 pub enum Rendered {
     Text(usize),
     Refused(Refusal),

@@ -114,7 +114,7 @@ fn agrees(case: &[u8]) -> bool {
 }
 
 // How many calls there were by their number, how many differ, the first that does, and whether the list was whole.
-#[derive(Drop)]
+#[derive(Clone, Copy)]
 struct Tally {
     counts: [u64; CALLS],
     differences: u64,

@@ -10,7 +10,7 @@ ghost use Rattle.roff_escape.specs.Escape.{guard, backslash, replaced, special_b
 ghost use Rattle.roff_escape.specs.InnerParts.{text_mode, plain, Copies};
 
 // Escaping rules.
-#[derive(Drop)]
+#[derive(Clone, Copy)]
 pub enum Escape {
     // a line end first, unless a line starts here already
     UnescapedAtNewline,
@@ -25,7 +25,7 @@ pub enum Escape {
 }
 
 // The length of the text so far, and whether a line starts there.
-#[derive(Drop)]
+#[derive(Clone, Copy)]
 pub struct Payload {
     pub len: usize,
     pub fresh: bool,

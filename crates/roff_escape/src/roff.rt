@@ -10,7 +10,7 @@ ghost use Rattle.roff_escape.specs.InnerParts.{Pushed, control_name};
 use crate::escape::{Escape, Payload};
 
 // `Roff`: the length of the text so far and whether a line starts there, which stand for its payload, and `strip_newlines`.
-#[derive(Drop)]
+#[derive(Clone, Copy)]
 pub struct Roff {
     pub len: usize,
     pub fresh: bool,
@@ -18,7 +18,7 @@ pub struct Roff {
 }
 
 // Font selector.
-#[derive(Drop)]
+#[derive(Clone, Copy)]
 pub enum Font {
     Roman,
     Bold,

@@ -16,7 +16,7 @@ use document::Checked;
 use renderer::Rendered;
 
 // The wanted answer: a refusal's number and place, or 0 and the size of a text, with roff's preamble before it.
-#[derive(Drop)]
+#[derive(Clone, Copy)]
 pub struct Wanted {
     pub number: usize,
     pub place: usize,

@@ -19,7 +19,7 @@ mod documents;
 pub use documents::add;
 
 // How many answers were compared, and how many of them differ.
-#[derive(Drop)]
+#[derive(Clone, Copy)]
 pub struct Tally {
     pub compared: u64,
     pub differ: u64,
@@ -43,7 +43,7 @@ pub fn tallied(t: Tally, same: bool) -> Tally
 }
 
 // A decimal number, and the place after its last digit.
-#[derive(Drop)]
+#[derive(Clone, Copy)]
 pub struct Number {
     pub value: usize,
     pub next: usize,
@@ -98,7 +98,7 @@ fn hex_digit(b: u8) -> u8
 }
 
 // A byte of a text, and the place after what stands for it.
-#[derive(Drop)]
+#[derive(Clone, Copy)]
 struct Written {
     byte: u8,
     next: usize,

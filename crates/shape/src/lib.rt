@@ -14,7 +14,7 @@ use records::{Block, Kind, index_of, record_at};
 use refusal::Refusal;
 
 // Whether a document has the house shape, with the place of the first record that is out of place, or its refusal.
-#[derive(Drop)]
+#[derive(Clone, Copy)]
 pub enum Shape {
     Shaped,
     Unshaped(usize),
@@ -23,7 +23,7 @@ pub enum Shape {
 
 // Where a run of records stops: after the end record of the block around it, or at the document's end. Or the place of the first record
 // that is out of place.
-#[derive(Drop)]
+#[derive(Clone, Copy)]
 enum Way {
     Stops(usize),
     Out(usize),

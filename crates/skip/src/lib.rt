@@ -10,7 +10,7 @@ ghost use Rattle.records.specs.Records.{index};
 
 use records::Block;
 
-#[derive(Drop)]
+#[derive(Clone, Copy)]
 pub struct Skip(pub usize);
 
 impl Skip {

@@ -16,7 +16,7 @@ pub const CODE: usize = 1_000_000;
 pub const TICKED_CODE: usize = 1_000_001;
 
 // Whether a place in a body is in ticks: outside them, at their first line, at a later one.
-#[derive(Drop)]
+#[derive(Clone, Copy)]
 pub enum Code {
     No,
     First,
@@ -24,7 +24,7 @@ pub enum Code {
 }
 
 // A place in a body, and how the body stands there.
-#[derive(Drop)]
+#[derive(Clone, Copy)]
 pub struct Cursor {
     pub at: usize,
     pub code: Code,
@@ -32,7 +32,7 @@ pub struct Cursor {
 
 // A chunk and where in the body it begins: a part of the body from a place up to another with its width; the chunk of one space, for the space or
 // the line end at a place; a paragraph, a line break.
-#[derive(Drop)]
+#[derive(Clone, Copy)]
 pub enum Piece {
     Raw(usize, usize, usize),
     Space(usize),
@@ -41,7 +41,7 @@ pub enum Piece {
 }
 
 // A chunk with the cursor after it, or that there is none.
-#[derive(Drop)]
+#[derive(Clone, Copy)]
 pub enum Step {
     Take(Piece, Cursor),
     Done,
@@ -62,7 +62,7 @@ fn line_end(body: &[u8], at: usize) -> usize
 }
 
 // Where a word ends, and how many characters it has.
-#[derive(Drop)]
+#[derive(Clone, Copy)]
 struct Word {
     to: usize,
     width: usize,

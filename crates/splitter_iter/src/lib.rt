@@ -11,7 +11,7 @@ ghost use Rattle.splitter_iter.specs.InnerStruct.{splitter as splitter_at, body_
 use splitter::{Code, Cursor, Step};
 
 // A body, the place in it up to which chunks were taken, and whether that is in ticks.
-#[derive(Drop)]
+#[derive(Clone, Copy)]
 pub struct Splitter<'a> {
     pub input: &'a [u8],
     pub at: usize,

@@ -11,7 +11,7 @@ use splitter::{Code, Cursor, Step};
 mod output;
 
 // Where the list stands.
-#[derive(Drop)]
+#[derive(Clone, Copy)]
 struct State {
     line: u64,
     // the document so far: its length, and the cursor after the chunks of it that were compared

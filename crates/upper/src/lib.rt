@@ -13,7 +13,7 @@ use table::{ALL, FAR, FROM, LONG, LONGER, NEAR, TO};
 use utf8::Decoded;
 
 // The characters that one maps to: a second and a third where these are not 0.
-#[derive(Drop)]
+#[derive(Clone, Copy)]
 pub struct Mapped {
     pub first: u32,
     pub second: u32,
@@ -21,7 +21,7 @@ pub struct Mapped {
 }
 
 // The bytes of a character, as many as `size` says.
-#[derive(Drop)]
+#[derive(Clone, Copy)]
 pub struct Encoded {
     pub size: usize,
     pub first: u8,
@@ -31,7 +31,7 @@ pub struct Encoded {
 }
 
 // Some of a text in upper case, and the place up to which it was read.
-#[derive(Drop)]
+#[derive(Clone, Copy)]
 pub struct Uppercased {
     pub bytes: [u8; 64],
     pub len: usize,

@@ -447,7 +447,7 @@ pub fn count(s: &[u8]) -> usize
 }
 
 // What stands at a place: a character with the place after it, or none.
-#[derive(Drop)]
+#[derive(Clone, Copy)]
 pub enum Decoded {
     Char(u32, usize),
     Nothing,

@@ -9,7 +9,7 @@ ghost use Rattle.splitter.specs.Split.{is_line_end_or_space};
 ghost use Rattle.words.specs.InnerCopies.{NoLineEnd, Copying, Stopped, Whole, Copies};
 
 // Where a run ends, and its width.
-#[derive(Drop)]
+#[derive(Clone, Copy)]
 pub struct Run {
     pub to: usize,
     pub width: usize,

@@ -8,7 +8,7 @@ pub returns-in-Take : goal.returns-in-Take
 returns-in-Take c =
     let s = c.step_at-step in
     let after-code-of = c in
-    let code_of_lem = after-code-of.code_of_lem in
+    let code_of_lem = after-code-of.code_of-code in
     let a = after-code-of.args in
     next_taken a.body.now a.at a.ticks _ code_of_lem.ensures s.result s.ensures.chunk c.in-Take.is _
     c.hand.ensures
@@ -17,4 +17,4 @@ pub returns-in-Done : goal.returns-in-Done
 returns-in-Done c =
     let a = c.args in
     let s = c.step_at-step in
-    next-done a.body.now a.at a.ticks _ c.code_of_lem.ensures s.result s.ensures.chunk c.in-Done.is
+    next-done a.body.now a.at a.ticks _ c.code_of-code.ensures s.result s.ensures.chunk c.in-Done.is
