@@ -1,6 +1,3 @@
 mod Names
 pub mod Counter
-pub mod InPlace
-pub mod Lent
-pub mod Through
 pub mod Blocks

@@ -1,7 +1,5 @@
 -- Names of other crates and libraries that the proofs of this crate cite, by where they are from.
 pub use Rattle.base.proofs.Choice.{if_false, if_true, pick}
-pub use Rattle.proof_kit.proofs.Kit.{cited, entered, given_of, tables, triple_of, ℕ}
-unfoldable pub use Rattle.proof_kit.proofs.Kit.{tables_of}
 pub use Rattle.records.specs.declared.Block.{Block}
 pub use Rattle.records.specs.declared.Block.TheVariants.{InlineBlock}
 unfoldable pub use Rattle.skip.specs.Answers.{new_if_fits}

@@ -1,0 +1,11 @@
+use Rattle.buffer.proofs.Names.{sym, ◌∙◌, ◌-◌, arith, rules, length, inl, inr}
+use Rattle.buffer.proofs.Written.{Going, going_0, going_last, going_next, going_done}
+use Rattle.buffer.proofs.last_text.Given as goal
+
+-- Text goes into the record that the records from the place on give; none before it takes it.
+-- The distance from the place to the document's end falls.
+abbrev pub invariant-loop-at : goal.invariant-loop-at
+invariant-loop-at l = Going l.style l.document l.at
+
+abbrev pub decreases-loop-at : goal.decreases-loop-at
+decreases-loop-at l = length l.document - l.at

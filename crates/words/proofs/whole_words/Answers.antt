@@ -1,0 +1,52 @@
+use mathlib.Core.Path.{◌≡◌, sym, ◌∙◌}
+use mathlib.Core.Bool.{false}
+use mathlib.Core.Logic.{⊎_elim}
+use mathlib.Core.List.{List}
+use Prim.Native.Nat.{ℕ, ◌+◌, ◌-◌, ◌≤◌, ◌<◌}
+use native.Mathlib.Omega.{arith}
+use borrow.Author.Rules.{rules}
+use lib.ListN.{length, get_or}
+use Rattle.base.specs.Bytes.{part}
+use Rattle.utf8.specs.Utf8.{characters}
+use Rattle.utf8.proofs.Laws.{adds-by, adds-not}
+use Rattle.splitter.specs.Split.{is_line_end_or_space}
+use Rattle.splitter.proofs.Before.{neither_ends}
+use Rattle.words.specs.InnerCopies.{NoWordCut}
+use Rattle.words.proofs.Copying.{counts_back, cut_back, whole-end, whole-stop, whole_space, whole-none}
+use Rattle.words.proofs.whole_words.Invariants.{Within}
+use Rattle.words.proofs.whole_words.Goals.{else-x-ne2, then-x-ne2}
+use Rattle.words.proofs.whole_words.Goals as goal
+
+pub overflow_sub-width : goal.overflow_sub-width
+overflow_sub-width c =
+    let loop-test = c.loop-to-test in
+    let turn = c in
+    let l = turn.loop-to in
+    let a = turn.args in
+    let x = a.body.now in
+    let back = counts_back x a.at a.run.to l.to l.width l.invariant.order l.invariant.near l.invariant.counts l.invariant.last loop-test.true
+    (omega (arith, l.invariant.near, l.invariant.inside)) in
+    omega (arith, back, adds-by (get_or x (l.to - 1) 0) c.if-x-ne2.true)
+
+pub loop-to-preserved : goal.loop-to-preserved
+loop-to-preserved c =
+    let loop-test = c.loop-to-test in
+    let turn = c in
+    let l = turn.loop-to in
+    let a = turn.args in
+    let x = a.body.now in
+    let b = get_or x (l.to - 1) 0 in
+    let back = counts_back x a.at a.run.to l.to l.width l.invariant.order l.invariant.near l.invariant.counts l.invariant.last loop-test.true
+    (omega (arith, l.invariant.near, l.invariant.inside)) in
+    let n = c.if-x-eq32.false in
+    let plain = turn.requires.3 in
+    record {
+      order = omega (arith, loop-test.true);
+      near = omega (arith, l.invariant.near);
+      inside = l.invariant.inside;
+      counts =
+          elim c.if-x-ne2.branch [ then-x-ne2 w ↦ omega (arith, back, w.width-is, adds-by b w.if-x-ne2.true)
+    | else-x-ne2 w ↦ omega (arith, back, w.width-is, adds-not b w.if-x-ne2.false) ];
+      inner = neither_ends b (plain (l.to - 1) (omega (arith, loop-test.true)) (omega (arith, l.invariant.near, loop-test.true))) n;
+      last = cut_back x a.run.to l.to (omega (arith, l.invariant.near, l.invariant.inside)) l.invariant.inner n l.invariant.last;
+    }
