@@ -257,6 +257,7 @@ module _ (measure : List ℕ → ℕ) (set : Settings) (room : ℕ) where
 
     body-far : {q : ℕ} (cs : List Placed) (s : State) → FarChunk measure set room margin start q cs s → Chunks cs s ≡ refused 10 q
     unfolding body chunk ◌>>=◌
+    body-far {q = q} [] s x' = elim x' [ ]
     body-far (c ∷ cs) s (far.here {x = x} {w = w} e f g h) =
         rw h
         (ap (λ (r : Result State). r >>= λ t. if last set.full c.chunk then gives t else Chunks cs t)
@@ -300,6 +301,7 @@ module _ (measure : List ℕ → ℕ) (set : Settings) (room : ℕ) where
 
     walk-far : {q : ℕ} (ts : List Token) (s : State) → FarRecord measure set room tab q ts s → Records ts s ≡ refused 10 q
     unfolding walk turn ◌>>=◌
+    walk-far {q = q} [] s x' = elim x' [ ]
     walk-far (t ∷ ts) s (far.here {st = st} e f g) =
         ap (λ (r : Result State). r >>= Records ts)
         (ap (λ (k : Kind). turn measure set room tab t.place t.start k t.body ts s) e ∙ if_false _ _ f

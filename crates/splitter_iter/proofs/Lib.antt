@@ -1,4 +1,2 @@
 mod Names
-pub mod Parts
-pub mod Lent
 pub mod Left

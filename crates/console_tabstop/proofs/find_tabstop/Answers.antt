@@ -1,0 +1,68 @@
+use mathlib.Core.Path.{◌≡◌, refl, sym, ap, ◌∙◌}
+use mathlib.Core.Bool.{false}
+use Prim.Native.Nat.{◌+◌, ◌-◌}
+use native.Mathlib.Omega.{arith}
+use borrow.Author.Rules.{rules}
+use borrow.Author.Tests.{not-false}
+use lib.ListN.{length}
+use Rattle.records.specs.Records.{tokens}
+use Rattle.records.specs.Answers.{head_of, Read}
+use Rattle.console_rules.specs.Console.{Terms, terms, tabstop, settled_from, settled_at}
+use Rattle.console_tabstop.specs.InnerCounted.{terms_of}
+use Rattle.console_tabstop.proofs.Searching.{On, on-done, on_few, on-settled, on-next}
+use Rattle.console_tabstop.proofs.find_tabstop.Invariants.{none}
+use Rattle.console_tabstop.proofs.find_tabstop.Goals.{After-whole_raw_at-h}
+use Rattle.console_tabstop.proofs.find_tabstop.Goals as goal
+
+-- the record at `at`, which lies whole
+read : (c : After-whole_raw_at-h)
+    → Read c.args.document.now c.loop-at.at
+    (head_of c.whole_raw_at-h.result)
+read c = c.whole_raw_at-h.ensures (sym c.fits_at.ensures ∙ c.if-not-fits_at.false)
+
+-- OLD GOAL slice-bounds-term-on-start
+-- part-term-on-start : tie.Need-slice-bounds-term-on-start invariant-loop decreases-loop
+-- part-term-on-start c = let r = read c.before.before in omega (arith, r.order)
+-- 
+
+-- OLD GOAL slice-bounds-term-on-end
+-- part-term-on-end : tie.Need-slice-bounds-term-on-end invariant-loop decreases-loop
+-- part-term-on-end c = let r = read c.before.before in omega (arith, r.high)
+-- 
+
+pub loop-at-preserved : goal.loop-at-preserved
+loop-at-preserved c =
+    let w = c in
+    let l = w.loop-at in
+    let later = sym c.settles.ensures ∙ c.if-settles.false in
+    on-next _ _ _ l.at (terms_of l.t) l.invariant (head_of w.whole_raw_at-h.result) (read (goal.at.loop-at-preserved c).After-whole_raw_at-h) w.loop-at-test.true later _
+    c.term_on-t.ensures
+
+pub returns-then-not-fits_at : goal.returns-then-not-fits_at
+unfolding tabstop settled_at
+returns-then-not-fits_at c =
+    let o = c.loop-at.invariant in
+    let e = c.find_from.ensures in record {
+      tabstop = (e.tabstop.0 ∙ ap (λ (u : Terms). u.widest + 4) o.counts, e.tabstop.1);
+      settled = e.settled ∙ o.settled;
+    }
+
+pub returns-then-settles : goal.returns-then-settles
+unfolding tabstop settled_at
+returns-then-settles c =
+    let w = c in
+    let l = w.loop-at in
+    let here = sym c.settles.ensures ∙ c.if-settles.true in
+    let e = on-settled _ _ _ l.at (terms_of l.t) l.invariant (head_of w.whole_raw_at-h.result) (read (goal.at.returns-then-settles c).After-whole_raw_at-h) w.loop-at-test.true here in record {
+      tabstop = (e.0, omega arith);
+      settled = e.1;
+    }
+
+pub returns : goal.returns
+unfolding tabstop settled_at
+returns c =
+    let l = c.loop-at in
+    let e = on-done _ _ _ l.at (terms_of l.t) l.invariant c.loop-at-test.false in record {
+      tabstop = (e.0, omega (arith, l.invariant.narrow));
+      settled = e.1;
+    }

@@ -1,0 +1,9 @@
+use borrow.Author.Rules.{rules}
+use Rattle.records.proofs.Codes.{text-low, text-high}
+use Rattle.console_tabstop.proofs.is_text.Goals as goal
+
+pub returns-then-code-le5 : goal.returns-then-code-le5
+returns-then-code-le5 c = text-low c.args.code c.if-code-le5.true
+
+pub returns : goal.returns
+returns c = text-high c.args.code c.if-code-le5.false

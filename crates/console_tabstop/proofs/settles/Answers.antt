@@ -1,0 +1,18 @@
+use mathlib.Core.Path.{sym, ap, ◌∙◌}
+use mathlib.Core.Bool.{Bool, ◌&&◌}
+use borrow.Author.Rules.{rules}
+use lib.Dec.{eqb}
+use Rattle.records.specs.Records.{is_end}
+use Rattle.records.specs.declared.Block.TheVariants as block
+use Rattle.records.proofs.Codes.{end-by-code, no-end-code}
+use Rattle.console_tabstop.proofs.settles.Goals as goal
+
+pub returns-then-code-eq516 : goal.returns-then-code-eq516
+returns-then-code-eq516 c =
+    let a = c.args in
+    ap (λ (b : Bool). b && eqb a.t.counted 24) (sym (ap (is_end 4) (end-by-code a.code block.ItemTerm c.if-code-eq516.true)))
+
+pub returns : goal.returns
+returns c =
+    let a = c.args in
+    ap (λ (b : Bool). b && eqb a.t.counted 24) (sym (no-end-code a.code 4 c.if-code-eq516.false))

@@ -1,0 +1,57 @@
+use mathlib.Core.Path.{sym, ap, ◌∙◌}
+use mathlib.Core.Bool.{false≢true}
+use native.Mathlib.Omega.{arith}
+use borrow.Author.Rules.{rules}
+use borrow.Author.Tests.{eq-eqb, ne_eqb}
+use Rattle.records.specs.Records.{kind_of}
+use Rattle.records.specs.declared.Block.TheVariants as block
+use Rattle.records.specs.declared.Kind.{Kind}
+use Rattle.records.proofs.Codes.{start-by-code, end-by-code, no-start-code, no-end-code}
+use Rattle.splitter.proofs.Answers.{count_short}
+use Rattle.console_rules.specs.Console.{term}
+use Rattle.console_tabstop.specs.InnerCounted.{terms_of}
+use Rattle.console_tabstop.proofs.Scans.{text-counted, term-passed}
+use Rattle.console_tabstop.proofs.term_on.Goals as goal
+
+pub returns-then-code-eq260 : goal.returns-then-code-eq260
+unfolding term
+returns-then-code-eq260 c =
+    let a = c.args in
+    let k = start-by-code a.code block.ItemTerm c.if-code-eq260.true in
+    c.term_start.ensures ∙ sym (ap (λ (k : Kind). term k a.body.now (terms_of a.t)) k)
+
+pub returns-then-code-eq516 : goal.returns-then-code-eq516
+unfolding term
+returns-then-code-eq516 c =
+    let a = c.args in
+    let k = end-by-code a.code block.ItemTerm c.if-code-eq516.true in
+    c.term_end.ensures ∙ sym (ap (λ (k : Kind). term k a.body.now (terms_of a.t)) k)
+
+pub overflow_add-r : goal.overflow_add-r
+overflow_add-r c =
+    let start = c in
+    omega (arith, c.count.ensures, count_short start.args.body.now, start.requires)
+
+pub returns-then-is_text : goal.returns-then-is_text
+returns-then-is_text c =
+    let after-is-text = c in
+    let text = sym after-is-text.is_text.ensures ∙ c.if-is_text.true in
+    let counting = eq-eqb _ _ after-is-text.if-t-eq1.true in
+    let a = after-is-text.args in
+    text-counted a.body.now (terms_of a.t) (kind_of a.code) _ text counting c.count.ensures
+
+-- a record that is no text, where a term is being counted, and any record where none is
+pub returns-else-is_text : goal.returns-else-is_text
+returns-else-is_text c =
+    let after-if2 = c in
+    let a = after-if2.args in
+    let no_text = sym c.is_text.ensures ∙ c.if-is_text.false in
+    term-passed a.body.now (terms_of a.t) (kind_of a.code) (no-start-code a.code 4 after-if2.if-code-eq260.false)
+    (no-end-code a.code 4 after-if2.if-code-eq516.false) (λ e. absurd (false≢true (sym no_text ∙ e)))
+
+pub returns-else-t-eq1 : goal.returns-else-t-eq1
+returns-else-t-eq1 c =
+    let after-if2 = c in
+    let a = after-if2.args in
+    term-passed a.body.now (terms_of a.t) (kind_of a.code) (no-start-code a.code 4 after-if2.if-code-eq260.false)
+    (no-end-code a.code 4 after-if2.if-code-eq516.false) (λ e. ne_eqb _ _ c.if-t-eq1.false)
