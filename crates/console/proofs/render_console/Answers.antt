@@ -1,0 +1,25 @@
+use mathlib.Core.Path.{ap, ◌∙◌}
+use borrow.Author.Rules.{rules}
+use lib.ListN.{length}
+use Rattle.base.specs.Result.{measured}
+use Rattle.renderer.proofs.Clearing.{standing-measured}
+use Rattle.console_rules.specs.Console.{console}
+use Rattle.console.proofs.Order.{cleared_room, demand3}
+use Rattle.console.proofs.render_console.Goals as goal
+
+pub returns : goal.returns
+returns c =
+    let clear-after = c.clear_after in
+    let after-rendered = c in
+    let s = after-rendered.rendered-answer in
+    let a = after-rendered.args in
+    let answer =
+    standing-measured s.new.room s.result (console a.set (length a.room.now) a.document.now) s.ensures.same
+    s.ensures.fits in
+    let room =
+    cleared_room a.room.now s.new.room clear-after.new.room s.result (console a.set (length a.room.now) a.document.now)
+    s.ensures s.auto.room clear-after.ensures in record {
+      answer = answer;
+      room = room;
+      demand3 = demand3 a.set a.document.now a.room.now clear-after.new.room _ (λ text e. answer ∙ ap measured e) room;
+    }

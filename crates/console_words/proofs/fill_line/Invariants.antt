@@ -1,0 +1,18 @@
+use mathlib.Core.Path.{◌∙◌}
+use Prim.Native.Nat.{◌+◌, ◌-◌, ◌^◌, ◌≤◌, ◌<◌}
+use native.Mathlib.Omega.{arith}
+use borrow.Author.Rules.{rules}
+use lib.ListN.{length}
+use Rattle.words.proofs.Copying.{part-narrow}
+use Rattle.console_words.specs.InnerAdvance.{LineAdvance}
+use Rattle.console_words.proofs.Advance.{line_advance_start, onward_run}
+use Rattle.console_words.proofs.fill_line.Given as goal
+
+-- Invariant: the words up to `at` stand in the room, and from there on the rule goes on as it does from `from` (LineAdvance).
+-- What falls: the bytes of the body after `at`.
+
+abbrev pub invariant-loop-at : goal.invariant-loop-at
+invariant-loop-at l = LineAdvance l.set l.body l.initial.room l.initial.len.0 l.initial.column.0 l.from l.room l.len.0 l.column.0 l.at
+
+abbrev pub decreases-loop-at : goal.decreases-loop-at
+decreases-loop-at l = length l.body - l.at

@@ -1,0 +1,16 @@
+use borrow.Author.Rules.{rules}
+use borrow.Author.Tests.{not-false}
+use Rattle.console_words.proofs.Advance.{ready, moves_none, moves_on}
+use Rattle.console_words.proofs.put_words.Goals as goal
+
+pub returns : goal.returns
+returns c =
+    let after-fill-line = c in
+    let f = after-fill-line.fill_line-line in
+    let if1 = after-fill-line.if-not-follows in
+    let after-follows = after-fill-line in
+    let follows = after-follows.follows in
+    let a = after-follows.args in
+    moves_on a.set a.margin.0 a.body.now a.code a.room.now a.m a.from
+    (ready a.room.now a.m a.margin.0 a.code follows.result if1.false follows.ensures) f.new.room
+    f.result.len.0 f.result.column.0 f.result.at f.ensures
