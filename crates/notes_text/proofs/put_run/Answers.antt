@@ -3,16 +3,6 @@ use Rattle.notes_text.proofs.Runs.{styles_differ, styles-same, pair-on, lead-on,
 use Rattle.notes_text.proofs.Writes.{Puts, puts_start, puts_as, puts_more, puts_all}
 use Rattle.notes_text.proofs.put_run.Goals as goal
 
--- OLD GOAL slice-bounds-put-all-start
--- part-put-all-start : tie.Need-slice-bounds-put-all-start invariant-loop decreases-loop
--- part-put-all-start c = omega (arith, c.before.next-tick.ensures.order, c.before.next-tick.ensures.inside)
--- 
-
--- OLD GOAL slice-bounds-put-all-end
--- part-put-all-end : tie.Need-slice-bounds-put-all-end invariant-loop decreases-loop
--- part-put-all-end c = omega (arith, c.before.next-tick.ensures.order, c.before.next-tick.ensures.inside)
--- 
-
 pub loop-i-preserved-then-paired : goal.loop-i-preserved-then-paired
 loop-i-preserved-then-paired c =
     let a = c.args in
