@@ -163,6 +163,7 @@ pub data In (x : Item) : List Item → Type 0 where
 pub each_in : {Q : Item → Type 0} {x : Item} {is : List Item} → Each Q is → In x is → Q x
 each_in (merge.also h k) here = h
 each_in (merge.also h k) (there m) = each_in k m
+each_in {Q = Q} merge.none m = elim m [ ]
 
 in_none : {x : Item} → In x [] → ⊥
 in_none = elim [ ]
@@ -229,6 +230,7 @@ no-other-term k is js h =
 
 -- 'once': in a list that ascends a term stands in one place
 pub once : (x y : Item) (is : List Item) → Ascends is → In x is → In y is → key x ≡ key y → x ≡ y
+once x y [] a m n e = elim m [ ]
 once x y (i ∷ is) a here here e = refl
 once x y (i ∷ is) a here (there n) e = absurd (not-before_itself (key y) (ap (λ (k : List ℕ). compared k (key y)) (sym e) ∙ each_in (first_under x is a) n))
 once x y (i ∷ is) a (there m) here e = absurd (not-before_itself (key x) (ap (λ (k : List ℕ). compared k (key x)) e ∙ each_in (first_under y is a) m))

@@ -1,0 +1,15 @@
+use Rattle.draft.proofs.Names.{refl, rules}
+use Rattle.draft.proofs.Calls.{turned-text, turned_unknown, turned-start, turned-end}
+use Rattle.draft.proofs.after_record.Goals as goal
+
+pub returns-in-Text : goal.returns-in-Text
+returns-in-Text c = turned-text c.in-Text.is refl refl c.number_of.ensures refl refl refl
+
+pub returns-in-Start : goal.returns-in-Start
+returns-in-Start c = turned-start c.opened.ensures.long c.in-Start.is c.opened.ensures.«open»
+
+pub returns-in-End : goal.returns-in-End
+returns-in-End c = turned-end c.closed.ensures.long c.in-End.is c.closed.ensures.«open»
+
+pub returns-in-Unknown : goal.returns-in-Unknown
+returns-in-Unknown c = turned_unknown c.in-Unknown.is refl refl refl

@@ -1,0 +1,12 @@
+use Rattle.draft.proofs.Names.{rules, closes_block}
+use Rattle.draft.proofs.Calls.{of_drafted, call-refused, call-on}
+use Rattle.draft.proofs.close_block.Goals as goal
+
+pub returns-in-Refused : goal.returns-in-Refused
+unfolding closes_block
+returns-in-Refused c =
+    let settled = c.settled-s in
+    let a = c.args in record {
+      numbers = of_drafted c.in-Refused.is settled.ensures.numbers;
+      does = λ s'. call-refused (a.room.now) a.d.length _ c.in-Refused.is (settled.ensures.does s');
+    }
