@@ -2,28 +2,9 @@
 use Rattle.manpage.proofs.Names.{ℕ, ◌≡◌, refl, sym, Bool, true, false, false≢true, or-true, ⊎_elim, List, [], ◌∷◌, eqb, eq-eqb, if◌then◌else◌, gives}
 use Rattle.manpage.proofs.Names.{refused, if_true, if_false, bytes, index, Block, Style, Roff, Piece, Followed, pushed_none, Locals, Outcome}
 use Rattle.manpage.proofs.Names.{subsection, heading, started, ended, locals, Follows, is_heading, is_term_ref, opening, closing, closed}
-use types.Run.{OneOf}
-use denote.Enum.Declared as declared
-use Rattle.white.specs.White.{any}
 use Rattle.records.specs.declared.Block.TheVariants as block
 use Rattle.records.specs.declared.Kind.TheVariants as kind
 use Rattle.records.specs.declared.Style.TheVariants as style
-use Rattle.records.specs.contracts.Block as blockType
-use Rattle.records.specs.contracts.Style as styleType
-
--- where a block or a style stands among the variants of its type
-abbrev pub place : Block → ℕ
-place b = declared.tag_of blockType.the_type b
-
-abbrev pub style_at : Style → ℕ
-style_at st = declared.tag_of styleType.the_type st
-
--- one of some numbers, as a `match` says it
-some_of : (keys : List ℕ) (c : ℕ) → OneOf keys c → any (eqb c) keys ≡ true
-some_of [] c h = absurd h
-some_of (k ∷ []) c h = rw (eq-eqb c k h)
-some_of (k ∷ l ∷ keys) c h =
-    ⊎_elim (λ (e : c ≡ k). rw (eq-eqb c k e)) (λ (r : OneOf (l ∷ keys) c). rw (some_of (l ∷ keys) c r) (or-true (eqb c k))) h
 
 -- Capture
 
@@ -47,53 +28,53 @@ module _ (b : Block) (on : Bool) where
 -- What is pushed
 
 -- before text without emphasis nothing is
-pub subsection-nothing : (st : Style) → OneOf (0 ∷ 2 ∷ 3 ∷ 4 ∷ []) (style_at st) → subsection st ≡ []
+pub subsection-nothing : (st : Style) → (st ≡ style.Emphasis → ⊥) → subsection st ≡ []
 unfolding subsection
 subsection-nothing style.Text h = refl
-subsection-nothing style.Emphasis h = absurd (false≢true (some_of (0 ∷ 2 ∷ 3 ∷ 4 ∷ []) 1 h))
+subsection-nothing style.Emphasis h = absurd (h refl)
 subsection-nothing style.Literal h = refl
 subsection-nothing style.Metavar h = refl
 subsection-nothing style.Invalid h = refl
 
 module _ (p : ℕ) (kept : List ℕ) (capture : Bool) (room : List ℕ) (m : Roff) where
   -- nothing, at the start of these blocks and at the end of those
-  pub started-nothing : (b : Block) → OneOf (0 ∷ 1 ∷ 2 ∷ 3 ∷ 5 ∷ 6 ∷ 8 ∷ 9 ∷ 11 ∷ []) (place b)
+  pub started-nothing : (b : Block) → (b ≡ block.ItemTerm → ⊥) → (b ≡ block.Block → ⊥) → (b ≡ block.Meta → ⊥)
       → Follows (started p b (locals m kept capture)) room m room m
   unfolding started
-  started-nothing block.Header h = pushed_none room m
-  started-nothing block.Section2 h = pushed_none room m
-  started-nothing block.Section3 h = pushed_none room m
-  started-nothing block.Section4 h = pushed_none room m
-  started-nothing block.ItemTerm h = absurd (false≢true (some_of (0 ∷ 1 ∷ 2 ∷ 3 ∷ 5 ∷ 6 ∷ 8 ∷ 9 ∷ 11 ∷ []) 4 h))
-  started-nothing block.ItemBody h = pushed_none room m
-  started-nothing block.DefinitionList h = pushed_none room m
-  started-nothing block.Block h = absurd (false≢true (some_of (0 ∷ 1 ∷ 2 ∷ 3 ∷ 5 ∷ 6 ∷ 8 ∷ 9 ∷ 11 ∷ []) 7 h))
-  started-nothing block.InlineBlock h = pushed_none room m
-  started-nothing block.TermRef h = tt
-  started-nothing block.Meta h = absurd (false≢true (some_of (0 ∷ 1 ∷ 2 ∷ 3 ∷ 5 ∷ 6 ∷ 8 ∷ 9 ∷ 11 ∷ []) 10 h))
-  started-nothing block.Mono h = pushed_none room m
+  started-nothing block.Header h0 h1 h2 = pushed_none room m
+  started-nothing block.Section2 h0 h1 h2 = pushed_none room m
+  started-nothing block.Section3 h0 h1 h2 = pushed_none room m
+  started-nothing block.Section4 h0 h1 h2 = pushed_none room m
+  started-nothing block.ItemTerm h0 h1 h2 = absurd (h0 refl)
+  started-nothing block.ItemBody h0 h1 h2 = pushed_none room m
+  started-nothing block.DefinitionList h0 h1 h2 = pushed_none room m
+  started-nothing block.Block h0 h1 h2 = absurd (h1 refl)
+  started-nothing block.InlineBlock h0 h1 h2 = pushed_none room m
+  started-nothing block.TermRef h0 h1 h2 = tt
+  started-nothing block.Meta h0 h1 h2 = absurd (h2 refl)
+  started-nothing block.Mono h0 h1 h2 = pushed_none room m
 
-  pub ended-nothing : (b : Block) → is_heading b ≡ false → OneOf (0 ∷ 1 ∷ 2 ∷ 3 ∷ 6 ∷ 7 ∷ 8 ∷ 9 ∷ 11 ∷ []) (place b)
+  pub ended-nothing : (b : Block) → is_heading b ≡ false → (b ≡ block.ItemTerm → ⊥) → (b ≡ block.ItemBody → ⊥) → (b ≡ block.Meta → ⊥)
       → Follows (ended p b (locals m kept capture)) room m room m
   unfolding ended
-  ended-nothing block.Header e h = absurd (false≢true (sym e))
-  ended-nothing block.Section2 e h = absurd (false≢true (sym e))
-  ended-nothing block.Section3 e h = absurd (false≢true (sym e))
-  ended-nothing block.Section4 e h = absurd (false≢true (sym e))
-  ended-nothing block.ItemTerm e h = absurd (false≢true (some_of (0 ∷ 1 ∷ 2 ∷ 3 ∷ 6 ∷ 7 ∷ 8 ∷ 9 ∷ 11 ∷ []) 4 h))
-  ended-nothing block.ItemBody e h = absurd (false≢true (some_of (0 ∷ 1 ∷ 2 ∷ 3 ∷ 6 ∷ 7 ∷ 8 ∷ 9 ∷ 11 ∷ []) 5 h))
-  ended-nothing block.DefinitionList e h = pushed_none room m
-  ended-nothing block.Block e h = pushed_none room m
-  ended-nothing block.InlineBlock e h = pushed_none room m
-  ended-nothing block.TermRef e h = tt
-  ended-nothing block.Meta e h = absurd (false≢true (some_of (0 ∷ 1 ∷ 2 ∷ 3 ∷ 6 ∷ 7 ∷ 8 ∷ 9 ∷ 11 ∷ []) 10 h))
-  ended-nothing block.Mono e h = pushed_none room m
+  ended-nothing block.Header e h0 h1 h2 = absurd (false≢true (sym e))
+  ended-nothing block.Section2 e h0 h1 h2 = absurd (false≢true (sym e))
+  ended-nothing block.Section3 e h0 h1 h2 = absurd (false≢true (sym e))
+  ended-nothing block.Section4 e h0 h1 h2 = absurd (false≢true (sym e))
+  ended-nothing block.ItemTerm e h0 h1 h2 = absurd (h0 refl)
+  ended-nothing block.ItemBody e h0 h1 h2 = absurd (h1 refl)
+  ended-nothing block.DefinitionList e h0 h1 h2 = pushed_none room m
+  ended-nothing block.Block e h0 h1 h2 = pushed_none room m
+  ended-nothing block.InlineBlock e h0 h1 h2 = pushed_none room m
+  ended-nothing block.TermRef e h0 h1 h2 = tt
+  ended-nothing block.Meta e h0 h1 h2 = absurd (h2 refl)
+  ended-nothing block.Mono e h0 h1 h2 = pushed_none room m
 
 -- a heading that is no Header
 pub ended-section : (p : ℕ) (l : Locals) (b : Block) → is_heading b ≡ true
-    → OneOf (1 ∷ 2 ∷ 3 ∷ 4 ∷ 5 ∷ 6 ∷ 7 ∷ 8 ∷ 9 ∷ 10 ∷ 11 ∷ []) (place b) → ended p b l ≡ heading (bytes "SS") l
+    → (b ≡ block.Header → ⊥) → ended p b l ≡ heading (bytes "SS") l
 unfolding ended
-ended-section p l block.Header e h = absurd (false≢true (some_of (1 ∷ 2 ∷ 3 ∷ 4 ∷ 5 ∷ 6 ∷ 7 ∷ 8 ∷ 9 ∷ 10 ∷ 11 ∷ []) 0 h))
+ended-section p l block.Header e h = absurd (h refl)
 ended-section p l block.Section2 e h = refl
 ended-section p l block.Section3 e h = refl
 ended-section p l block.Section4 e h = refl

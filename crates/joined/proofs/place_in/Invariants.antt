@@ -1,0 +1,12 @@
+use Rattle.joined.proofs.Names.{◌-◌, arith, rules, length}
+use Rattle.joined.proofs.Placing.{Placing, placing_start, placing_end, placing_here, placing_next}
+use Rattle.joined.proofs.place_in.Given as goal
+
+-- The loop over the records: the record at `q` stands at `at` in the document, and from there on the rules find what they find from the start. The bytes
+-- from `q` on fall.
+
+abbrev pub invariant-loop-q : goal.invariant-loop-q
+invariant-loop-q l = Placing l.joined l.p l.q l.at
+
+abbrev pub decreases-loop-q : goal.decreases-loop-q
+decreases-loop-q l = length l.joined - l.q

@@ -1,0 +1,30 @@
+use Rattle.joined.proofs.Names.{refl, ◌-◌, arith, rules, length, unjoined}
+use Rattle.joined.proofs.Writing.{Putting, putting_start, putting_more, putting_done}
+use Rattle.joined.proofs.Writing.{Sharing, unjoined_from, sharing_start, sharing_six, sharing_fits, sharing_next}
+use Rattle.joined.proofs.Writing.{unjoined-start, unjoined-step, unjoined-end}
+use Rattle.joined.proofs.put_records.Goals as goal
+
+pub loop-at-init : goal.loop-at-init
+loop-at-init c =
+    let a = c.args in
+    let e = c.requires in
+    let f = c.four-to.ensures.0 in
+    (sharing_start (a.joined.now) e _ f, putting_start (a.room.now) a.len (unjoined-start (a.joined.now) e _ f))
+
+pub slice_bounds-put_all-end : goal.slice_bounds-put_all-end
+slice_bounds-put_all-end c = omega (arith, sharing_six c.loop-at.invariant.0 c.loop-at-test.true)
+
+pub loop-at-preserved : goal.loop-at-preserved
+loop-at-preserved c =
+    let w = c.loop-at.invariant.0 in
+    let t = c.loop-at-test.true in
+    let e = c.four.ensures.0 in
+    let p = c.put_all-reached in
+    let q = c.put_all-reached-in-loop-at in
+    let one = putting_more _ p.new.room p.result
+    c.loop-at.invariant.1 (unjoined-step w t e) refl p.auto.room
+    p.ensures in
+    (sharing_next w t e, putting_more _ q.new.room q.result one refl c.get.ensures q.auto.room q.ensures)
+
+pub returns : goal.returns
+returns c = putting_done c.loop-at.invariant.1 (unjoined-end c.loop-at.invariant.0 c.loop-at-test.false)

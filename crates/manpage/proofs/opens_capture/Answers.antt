@@ -1,0 +1,9 @@
+use Rattle.manpage.proofs.Names.{sym, ◌∙◌, rules}
+use Rattle.manpage.proofs.Blocks.{opens-heading, opens-other}
+use Rattle.manpage.proofs.opens_capture.Goals as goal
+
+pub returns-then-is_heading : goal.returns-then-is_heading
+returns-then-is_heading c = opens-heading c.args.b c.args.capture (sym c.is_heading.ensures ∙ c.if-is_heading.true)
+
+pub returns-else-is_heading : goal.returns-else-is_heading
+returns-else-is_heading c = opens-other c.args.b c.args.capture (sym c.is_heading.ensures ∙ c.if-is_heading.false)

@@ -1,0 +1,12 @@
+use Rattle.manpage.proofs.Names.{ap, rules, if◌then◌else◌, encode, bytes, pushed_none, pushed-same, subsection}
+use Rattle.manpage.proofs.Blocks.{subsection-nothing}
+use Rattle.manpage.proofs.put_subsection.Goals as goal
+
+pub returns-in-Emphasis : goal.returns-in-Emphasis
+unfolding subsection bytes encode if◌then◌else◌
+returns-in-Emphasis c = pushed-same (ap subsection c.in-Emphasis.is) c.control0.ensures
+
+pub returns-in_default : goal.returns-in_default
+returns-in_default c =
+    let a = c.args in
+    pushed-same (subsection-nothing a.style c.in_default.not-Emphasis) (pushed_none (a.room.now) a.m)

@@ -1,0 +1,13 @@
+use Rattle.printing.proofs.Names.{sym, ◌∙◌, ◌-◌, arith, rules, length, get_or, read_character, no_character}
+use borrow.Author.Tests.{not-true, not-false}
+use Rattle.printing.proofs.Laws.{Reached, reached_none, reached_byte, reached_one, reached_white, ran_none, ran_on, prints_small}
+use Rattle.printing.proofs.chars.Given as goal
+
+-- Whole characters stand from the start to here, and so many of them print.
+-- The bytes that are left fall.
+
+abbrev pub invariant-loop-i : goal.invariant-loop-i
+invariant-loop-i l = Reached l.s l.a l.i l.n
+
+abbrev pub decreases-loop-i : goal.decreases-loop-i
+decreases-loop-i l = length l.s - l.i

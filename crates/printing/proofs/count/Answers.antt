@@ -1,0 +1,14 @@
+use Rattle.printing.proofs.Names.{◌∙◌, ◌-◌, arith, rules, length}
+use Rattle.printing.proofs.Laws.{Reached, reached_none, reached_on}
+use Rattle.white.proofs.Counting.{counted_none, counted_all}
+use Rattle.printing.proofs.count.Goals as goal
+
+pub returns-then-run-eq0 : goal.returns-then-run-eq0
+returns-then-run-eq0 c =
+    let l = c.loop-i in
+    counted_none (c.args.s.now) (l.invariant.text ∙ c.some-run.ensures.none c.if-run-eq0.true)
+
+pub returns : goal.returns
+returns c =
+    let l = c.loop-i in
+    counted_all (c.args.s.now) l.i l.n (omega arith) l.invariant.text l.invariant.prints

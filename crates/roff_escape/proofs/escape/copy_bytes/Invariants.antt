@@ -1,0 +1,13 @@
+use Rattle.roff_escape.proofs.Names.{◌≡◌, refl, sym, ap, ◌∙◌, ℕ, ◌+◌, ◌-◌, arith, rules, not-false, length, take, get_or, set, length-set}
+use Rattle.roff_escape.proofs.Names.{length-take-le, get_or-take, plain, Copies}
+use Rattle.roff_escape.proofs.Plain.{copies_start, copies_more}
+use Rattle.roff_escape.proofs.escape.copy_bytes.Given as goal
+
+-- Invariant: the plain bytes from `at` up to i stand in the room after the first `len`, and n counts both.
+-- What falls: the bytes from i up to `stop`.
+
+abbrev pub invariant-loop-i : goal.invariant-loop-i
+invariant-loop-i l = Copies (take l.stop l.bytes) l.at l.len l.initial.room l.room l.i × (length l.room ≡ length l.initial.room) × (l.n ≡ l.len + (l.i - l.at))
+
+abbrev pub decreases-loop-i : goal.decreases-loop-i
+decreases-loop-i l = l.stop - l.i

@@ -1,0 +1,11 @@
+use Rattle.roff_escape.proofs.Names.{refl, rules, if◌then◌else◌, encode, bytes, preamble}
+use Rattle.roff_escape.proofs.Composing.{first_made}
+use Rattle.roff_escape.proofs.roff.put_preamble.Goals as goal
+
+pub returns : goal.returns
+unfolding preamble bytes encode if◌then◌else◌
+returns c =
+    let g = c.put_all-len in record {
+      text = first_made (c.args.room.now) g.new.room g.result preamble g.ensures;
+      flags = (refl, refl);
+    }
