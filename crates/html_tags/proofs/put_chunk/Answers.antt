@@ -1,0 +1,24 @@
+use Rattle.html_tags.proofs.Names.{rules, wrote_same}
+use Rattle.html_tags.proofs.Blocks.{chunk-raw, chunk_space, chunk-paragraph, chunk_break}
+use Rattle.html_tags.proofs.put_chunk.Goals as goal
+
+pub returns-in-Space : goal.returns-in-Space
+returns-in-Space c =
+    wrote_same _ _ _ _ _ _ _ (chunk_space c.args.strict
+    (c.args.body.now)
+    c.args.piece c.in-Space.is)
+    c.put.ensures
+
+pub returns-in-Paragraph : goal.returns-in-Paragraph
+returns-in-Paragraph c =
+    wrote_same _ _ _ _ _ _ _ (chunk-paragraph c.args.strict
+    (c.args.body.now)
+    c.args.piece
+    c.in-Paragraph.is) c.put_all.ensures
+
+pub returns-in-LineBreak : goal.returns-in-LineBreak
+returns-in-LineBreak c =
+    wrote_same _ _ _ _ _ _ _ (chunk_break c.args.strict
+    (c.args.body.now)
+    c.args.piece
+    c.in-LineBreak.is) c.put_all-in-LineBreak.ensures
