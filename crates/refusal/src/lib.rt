@@ -1,9 +1,11 @@
 // The refusals: one case for each number.
+#![tactic(auto)]
+
 ghost use Rattle.std.specs.Prelude.{◌≡◌};
 ghost use Rattle.refusal.specs.Numbers.{refusalNumber, refusalPlace};
 
 // A refusal, in the order of its number, with its place. 12 is not used again.
-#[derive(Drop)]
+#[derive(Clone, Copy)]
 pub enum Refusal {
     TooLong,
     CutShort(usize),
