@@ -13,10 +13,10 @@ pub enum Input {
 }
 
 // Reads until the buffer is full or the input ends, in pieces of any size.
-pub fn read_input<R: Read>(input: &mut R, buffer: &mut [u8]) -> Input {
+pub fn read_input<R: Read>(reader: &mut R, buffer: &mut [u8]) -> Input {
     let mut done: usize = 0;
     while done < buffer.len() {
-        let Ok(n) = input.read(&mut buffer[done..]) else {
+        let Ok(n) = reader.read(&mut buffer[done..]) else {
             return Input::Failed;
         };
         if n == 0 {
@@ -28,13 +28,13 @@ pub fn read_input<R: Read>(input: &mut R, buffer: &mut [u8]) -> Input {
 }
 
 // What is said of a failure. Where that fails too, nothing more can be said.
-pub fn complain<W: Write>(errors: &mut W, message: &[u8]) {
-    let _ = errors.write_all(message);
+pub fn complain<W: Write>(writer: &mut W, message: &[u8]) {
+    let _ = writer.write_all(message);
 }
 
 // `refused 6 at 0` and a line end: the number, then the place.
-pub fn print_refusal<W: Write>(output: &mut W, a: Refusal) -> io::Result<()> {
+pub fn print_refusal<W: Write>(writer: &mut W, a: Refusal) -> io::Result<()> {
     let number = refusal::refusal_number(a);
     let place = refusal::refusal_place(a);
-    writeln!(output, "refused {number} at {place}")
+    writeln!(writer, "refused {number} at {place}")
 }
