@@ -1,4 +1,6 @@
 // Reads a bundle from standard input and prints its figures as one line, or one refusal line.
+#![tactic(auto)]
+
 use figures::{Figures, Shelf};
 use program::Input;
 use std::io;

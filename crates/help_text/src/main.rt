@@ -1,4 +1,6 @@
 // Reads a document from standard input and prints its full console text for width 100, or one refusal line.
+#![tactic(auto)]
+
 use program::Input;
 use renderer::Rendered;
 use std::io;

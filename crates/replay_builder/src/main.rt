@@ -1,5 +1,7 @@
 // Reads a list of the builder's calls with the oracle's answers from standard input, makes each call and compares, and prints one line
 // with the counts.
+#![tactic(auto)]
+
 use buffer::Built;
 use recorded::input::Next;
 use recorded::{CALLS, Call};

@@ -1,5 +1,7 @@
 // Reads a list of calls with the oracle's answers from standard input, makes each call and compares, and prints one line with the counts:
 // the joined form of a document, moved, checked and rendered, and one option list from two.
+#![tactic(auto)]
+
 ghost use Rattle.std.specs.Prelude.{◌<◌, ◌≤◌};
 
 use console_rules::{Measure, Settings};

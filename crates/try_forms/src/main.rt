@@ -1,5 +1,7 @@
 // Functions that hand back a part of a slice or lend a struct, run: some texts without a prefix, how many chunks some bodies have, and a skip
 // counter's number after a paragraph, an InlineBlock's start and its end.
+#![tactic(auto)]
+
 use std::io;
 use std::io::Write;
 
@@ -29,7 +31,10 @@ fn main(rt: HostRuntime) -> io::Result<()> {
     digit(&mut writer, splitter_iter::count_chunks(b""))?;
     digit(&mut writer, splitter_iter::count_chunks(b"a b"))?;
     digit(&mut writer, splitter_iter::count_chunks(b"a\n b\n\n"))?;
-    digit(&mut writer, splitter_iter::count_chunks(b"\n\n```\n\nx\n```\n"))?;
+    digit(
+        &mut writer,
+        splitter_iter::count_chunks(b"\n\n```\n\nx\n```\n"),
+    )?;
     digit(&mut writer, skip::enable_number(3))?;
     digit(&mut writer, skip::push_number(0))?;
     digit(&mut writer, skip::push_number(3))?;

@@ -1,5 +1,7 @@
 // Runs the samples of 01 and the examples of its refusal table. They stand in a list on standard input, whose first lines tell its
 // form. Prints the number of each line with an answer that differs, and one line with the counts.
+#![tactic(auto)]
+
 use compared::byte_or;
 use sample_calls::Wanted;
 use sample_lines::Tally;
