@@ -29,17 +29,18 @@ fn print_answer<W: Write>(writer: &mut W, answer: Shelf) -> io::Result<()> {
     }
 }
 
-fn show(rt: &HostRuntime, bundle: &[u8]) {
+fn show(rt: &HostRuntime, bundle: &[u8]) -> io::Result<()> {
     if print_answer(&mut rt.stdout(), figures::figures_of(bundle)).is_err() {
-        program::complain(
+        return program::complain(
             &mut rt.stderr(),
             b"help_figures: writing to standard output failed\n",
         );
     }
+    Ok(())
 }
 
 // One byte more than a bundle may have is read, so that a longer one is refused.
-fn main(rt: HostRuntime) {
+fn main(rt: HostRuntime) -> io::Result<()> {
     let mut space = [0u8; 65537];
     let input = program::read_input(&mut rt.stdin(), &mut space);
     match input {

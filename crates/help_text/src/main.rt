@@ -15,19 +15,20 @@ fn print_answer<W: Write>(writer: &mut W, answer: Rendered, room: &[u8]) -> io::
 }
 
 // The text of a document in a room of 65,536 bytes.
-fn show(rt: &HostRuntime, document: &[u8]) {
+fn show(rt: &HostRuntime, document: &[u8]) -> io::Result<()> {
     let mut room = [0u8; 65536];
     let answer = console::monochrome(document, true, &mut room);
     if print_answer(&mut rt.stdout(), answer, &room).is_err() {
-        program::complain(
+        return program::complain(
             &mut rt.stderr(),
             b"help_text: writing to standard output failed\n",
         );
     }
+    Ok(())
 }
 
 // One byte more than a document may have is read, so that a longer one is refused.
-fn main(rt: HostRuntime) {
+fn main(rt: HostRuntime) -> io::Result<()> {
     let mut space = [0u8; 32769];
     let input = program::read_input(&mut rt.stdin(), &mut space);
     match input {

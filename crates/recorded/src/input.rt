@@ -1,5 +1,6 @@
 // Reads a list of cases, from standard input or another reader.
-ghost use Rattle.std.specs.Prelude.{◌≤◌, IfOk, length};
+ghost use Rattle.std.specs.Prelude.{IfOk};
+ghost use Rattle.recorded.specs.Spoken.{ReadsFull, ReadsCase};
 
 use std::io;
 use std::io::Read;
@@ -14,7 +15,7 @@ pub enum Next {
 
 // Reads until the buffer is full or the input ends, and says how many bytes were read.
 fn read_full<R: Read>(reader: &mut R, buffer: &mut [u8]) -> io::Result<usize>
-    ensures { IfOk result (λ n. n ≤ length buffer.new) }
+    ensures { IfOk result (λ n. ReadsFull (R.remaining reader.old) (R.remaining reader.new) buffer.new n) }
 {
     let mut done: usize = 0;
     while done < buffer.len() {
@@ -28,7 +29,9 @@ fn read_full<R: Read>(reader: &mut R, buffer: &mut [u8]) -> io::Result<usize>
 }
 
 // Reads the next case into a buffer. An `Err` is a read that failed.
-pub fn next_case<R: Read>(reader: &mut R, buffer: &mut [u8]) -> io::Result<Next> {
+pub fn next_case<R: Read>(reader: &mut R, buffer: &mut [u8]) -> io::Result<Next>
+    ensures { IfOk result (λ next. ReadsCase (R.remaining reader.old) (R.remaining reader.new) buffer.new next) }
+{
     let mut short = [0u8; 1];
     if read_full(reader, &mut short)? == 0 {
         return Ok(Next::End);

@@ -1,6 +1,7 @@
 // The line with the counts, on standard output or another writer.
 ghost use Rattle.std.specs.Prelude.{◌++◌, OnOk, decimal};
 ghost use Rattle.std.specs.Io.KnownBytes.{Appends};
+ghost use Rattle.recorded.specs.Spoken.{differences_line};
 
 use std::io;
 use std::io::Write;
@@ -14,7 +15,9 @@ pub fn print_count<W: Write>(writer: &mut W, name: &[u8], n: u64) -> io::Result<
 }
 
 // Writes how many cases differ, and which is the first of them, counted from 1.
-pub fn print_differences<W: Write>(writer: &mut W, differences: u64, first: u64) -> io::Result<()> {
+pub fn print_differences<W: Write>(writer: &mut W, differences: u64, first: u64) -> io::Result<()>
+    ensures { OnOk result (Appends (W.contents writer.old) (W.contents writer.new) (differences_line differences first)) }
+{
     print_count(writer, b"differences ", differences)?;
     if differences != 0 {
         print_count(writer, b", the first is case ", first)?;
