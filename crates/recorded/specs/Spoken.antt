@@ -1,5 +1,5 @@
 -- What is read of a list and written of it, where the bytes of the reader and the writer are known.
-use Rattle.std.specs.Prelude.{ℕ, ◌<◌, ◌≤◌, ◌≡◌, List, [], ◌++◌, length, take, Option, ⊤, codes, decimal, nat_eq}
+use Rattle.std.specs.Prelude.{ℕ, ◌<◌, ◌≤◌, ◌≡◌, List, [], ◌++◌, length, take, Option, ⊤, codes, decimal}
 use Rattle.std.specs.Io.KnownBytes.{Consumes, IsAtEnd}
 use Rattle.recorded.specs.InnerCases.{number_in, numberSize}
 use Rattle.recorded.specs.declared.input.Next.{Next}
@@ -17,7 +17,10 @@ ReadsCase old new buffer (Case n) =
 ReadsCase old new buffer End = Consumes old new [] × IsAtEnd new
 ReadsCase old new buffer Faulty = ⊤
 
+-- `differences 0` and a line end
+abbrev pub same_line : List ℕ
+same_line = codes "differences 0\n"
+
 -- `differences 2, the first is case 5` and a line end
 abbrev pub differences_line : ℕ → ℕ → List ℕ
-differences_line 0 first = codes "differences 0\n"
-differences_line (suc n) first = codes "differences " ++ (decimal (suc n) ++ (codes ", the first is case " ++ (decimal first ++ codes "\n")))
+differences_line n first = codes "differences " ++ (decimal n ++ (codes ", the first is case " ++ (decimal first ++ codes "\n")))

@@ -37,7 +37,7 @@ pub fn next_case<R: Read>(reader: &mut R, buffer: &mut [u8]) -> io::Result<Next>
         return Ok(Next::End);
     }
     let mut n = crate::number(&short);
-    if short[0] == 255 {
+    if crate::number_size(&short) == 5 {
         let mut four = [0u8; 4];
         if read_full(reader, &mut four)? < 4 {
             return Ok(Next::Faulty);
