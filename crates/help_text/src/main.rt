@@ -1,33 +1,41 @@
 // Reads a document from standard input and prints its full console text for width 100, or one refusal line.
-
 #![tactic(auto)]
 
 use program::Input;
 use renderer::Rendered;
+use std::io;
+use std::io::Write;
 
-// Prints the answer, and says whether all of it was written.
-fn print_answer(answer: Rendered, room: &[u8]) -> bool {
+// Prints the answer. An `Err` says that not all of it was written.
+fn print_answer<W: Write>(writer: &mut W, answer: Rendered, room: &[u8]) -> io::Result<()> {
     match answer {
-        Rendered::Text(n) => io::write_all(libc::STDOUT_FILENO, base::get(room, 0, n)),
-        Rendered::Refused(a) => program::print_refusal(a),
+        Rendered::Text(n) => writer.write_all(base::get(room, 0, n)),
+        Rendered::Refused(a) => program::print_refusal(writer, a),
     }
 }
 
 // The text of a document in a room of 65,536 bytes.
-fn show(document: &[u8]) {
-    let mut room = io::large_buffer();
+fn show(rt: &HostRuntime, document: &[u8]) -> io::Result<()> {
+    let mut room = [0u8; 65536];
     let answer = console::monochrome(document, true, &mut room);
-    if !print_answer(answer, &room) {
-        program::complain(b"help_text: writing to standard output failed\n");
+    if print_answer(&mut rt.stdout(), answer, &room).is_err() {
+        return program::complain(
+            &mut rt.stderr(),
+            b"help_text: writing to standard output failed\n",
+        );
     }
+    Ok(())
 }
 
 // One byte more than a document may have is read, so that a longer one is refused.
-fn main() {
+fn main(rt: HostRuntime) -> io::Result<()> {
     let mut space = [0u8; 32769];
-    let input = program::read_input(&mut space);
+    let input = program::read_input(&mut rt.stdin(), &mut space);
     match input {
-        Input::Bytes(n) => show(base::get(&space, 0, n)),
-        Input::Failed => program::complain(b"help_text: reading standard input failed\n"),
+        Input::Bytes(n) => show(&rt, base::get(&space, 0, n)),
+        Input::Failed => program::complain(
+            &mut rt.stderr(),
+            b"help_text: reading standard input failed\n",
+        ),
     }
 }

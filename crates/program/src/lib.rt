@@ -1,8 +1,13 @@
-// What the programs share: standard input read whole, what is said of a failure, and the refusal line. No contract can say what is read or written.
-
+// What the programs share: standard input read whole, what is said of a failure, and the refusal line.
 #![tactic(auto)]
 
+ghost use Rattle.std.specs.Prelude.{OnOk};
+ghost use Rattle.std.specs.Io.KnownBytes.{Appends};
+ghost use Rattle.program.specs.Spoken.{ReadsInput, refusal_line};
+
 use refusal::Refusal;
+use std::io;
+use std::io::{Read, Write};
 
 // How many bytes were read, or that a read failed.
 #[derive(Clone, Copy)]
@@ -12,14 +17,14 @@ pub enum Input {
 }
 
 // Reads until the buffer is full or the input ends, in pieces of any size.
-pub fn read_input(buffer: &mut [u8]) -> Input {
+pub fn read_input<R: Read>(reader: &mut R, buffer: &mut [u8]) -> Input
+    ensures { ReadsInput (R.remaining reader.old) (R.remaining reader.new) buffer.new result }
+{
     let mut done: usize = 0;
     while done < buffer.len() {
-        let got = libc::read(libc::STDIN_FILENO, &mut buffer[done..]);
-        if got < 0 {
+        let Ok(n) = reader.read(&mut buffer[done..]) else {
             return Input::Failed;
-        }
-        let n = io::count(got, &buffer[done..]);
+        };
         if n == 0 {
             return Input::Bytes(done);
         }
@@ -28,23 +33,18 @@ pub fn read_input(buffer: &mut [u8]) -> Input {
     Input::Bytes(done)
 }
 
-pub fn complain(message: &[u8]) {
-    io::write_all(libc::STDERR_FILENO, message);
+// What is said of a failure, in bytes. It may fail too.
+pub fn complain<W: Write>(writer: &mut W, message: &[u8]) -> io::Result<()>
+    ensures { OnOk result (Appends (W.contents writer.old) (W.contents writer.new) message.now) }
+{
+    writer.write_all(message)
 }
 
 // `refused 6 at 0` and a line end: the number, then the place.
-pub fn print_refusal(a: Refusal) -> bool {
-    if !io::write_all(libc::STDOUT_FILENO, b"refused ") {
-        return false;
-    }
-    if !io::print_decimal(libc::STDOUT_FILENO, refusal::refusal_number(a) as u64) {
-        return false;
-    }
-    if !io::write_all(libc::STDOUT_FILENO, b" at ") {
-        return false;
-    }
-    if !io::print_decimal(libc::STDOUT_FILENO, refusal::refusal_place(a) as u64) {
-        return false;
-    }
-    io::write_all(libc::STDOUT_FILENO, b"\n")
+pub fn print_refusal<W: Write>(writer: &mut W, a: Refusal) -> io::Result<()>
+    ensures { OnOk result (Appends (W.contents writer.old) (W.contents writer.new) (refusal_line a)) }
+{
+    let number = refusal::refusal_number(a);
+    let place = refusal::refusal_place(a);
+    writeln!(writer, "refused {number} at {place}")
 }

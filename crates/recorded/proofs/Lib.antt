@@ -1,2 +1,3 @@
 mod Names
 pub mod Cases
+pub mod Lengths

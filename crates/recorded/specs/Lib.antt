@@ -1,1 +1,2 @@
 pub mod InnerCases
+pub mod Spoken

@@ -1,6 +1,11 @@
-// Standard input: of what is read no contract can say anything.
+// Reads a list of cases, from standard input or another reader.
+ghost use Rattle.std.specs.Prelude.{IfOk};
+ghost use Rattle.recorded.specs.Spoken.{ReadsFull, ReadsCase};
 
-// The next case of standard input is in a buffer and has so many bytes; or the list ends here, or is faulty.
+use std::io;
+use std::io::Read;
+
+// The next case is in a buffer and has so many bytes; or the list ends here, or is faulty.
 #[derive(Clone, Copy)]
 pub enum Next {
     Case(usize),
@@ -8,26 +13,43 @@ pub enum Next {
     Faulty,
 }
 
-// Reads the next case into a buffer.
-pub fn next_case(buffer: &mut [u8]) -> Next {
+// Reads until the buffer is full or the input ends, and says how many bytes were read.
+fn read_full<R: Read>(reader: &mut R, buffer: &mut [u8]) -> io::Result<usize>
+    ensures { IfOk result (λ n. ReadsFull (R.remaining reader.old) (R.remaining reader.new) buffer.new n) }
+{
+    let mut done: usize = 0;
+    while done < buffer.len() {
+        let n = reader.read(&mut buffer[done..])?;
+        if n == 0 {
+            return Ok(done);
+        }
+        done += n;
+    }
+    Ok(done)
+}
+
+// Reads the next case into a buffer. An `Err` is a read that failed.
+pub fn next_case<R: Read>(reader: &mut R, buffer: &mut [u8]) -> io::Result<Next>
+    ensures { IfOk result (λ next. ReadsCase (R.remaining reader.old) (R.remaining reader.new) buffer.new next) }
+{
     let mut short = [0u8; 1];
-    if io::read_full(libc::STDIN_FILENO, &mut short) == 0 {
-        return Next::End;
+    if read_full(reader, &mut short)? == 0 {
+        return Ok(Next::End);
     }
     let mut n = crate::number(&short);
-    if short[0] == 255 {
+    if crate::number_size(&short) == 5 {
         let mut four = [0u8; 4];
-        if io::read_full(libc::STDIN_FILENO, &mut four) < 4 {
-            return Next::Faulty;
+        if read_full(reader, &mut four)? < 4 {
+            return Ok(Next::Faulty);
         }
         n = records::four(&four, 0);
     }
     if buffer.len() < n {
-        return Next::Faulty;
+        return Ok(Next::Faulty);
     }
     let from: usize = 0;
-    if io::read_full(libc::STDIN_FILENO, &mut buffer[from..n]) < n {
-        return Next::Faulty;
+    if read_full(reader, &mut buffer[from..n])? < n {
+        return Ok(Next::Faulty);
     }
-    Next::Case(n)
+    Ok(Next::Case(n))
 }

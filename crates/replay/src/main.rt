@@ -1,6 +1,5 @@
 // Reads a list of calls with the oracle's answers from standard input, makes each call and compares, and prints one line with the counts:
 // check, the renderers, the splitter and its step, the tabstop.
-
 #![tactic(auto)]
 
 ghost use Rattle.std.specs.Prelude.{◌<◌, ◌≤◌};
@@ -11,6 +10,8 @@ use recorded::input::Next;
 use recorded::{CALLS, Call};
 use renderer::Rendered;
 use splitter::{Code, Cursor, Piece, Step};
+use std::io;
+use std::io::{Read, Write};
 
 // Whether `check` answers as a case says.
 fn checks(document: &[u8], answer: &[u8]) -> bool {
@@ -219,7 +220,7 @@ fn render(call: Call, document: &[u8], room: &mut [u8]) -> Rendered {
 // Whether a renderer answers as a case says.
 fn renders(call: Call, document: &[u8], answer: &[u8]) -> bool {
     let size = call.room;
-    let mut space = io::large_buffer();
+    let mut space = [0u8; 65536];
     if space.len() < size {
         return false;
     }
@@ -269,14 +270,14 @@ struct Tally {
     whole: bool,
 }
 
-fn replay_all(buffer: &mut [u8]) -> Tally {
+fn replay_all<R: Read>(reader: &mut R, buffer: &mut [u8]) -> io::Result<Tally> {
     let mut counts = [0u64; CALLS];
     let mut cases: u64 = 0;
     let mut differences: u64 = 0;
     let mut first: u64 = 0;
     let mut whole = true;
     while cases < 1_000_000 {
-        let next = recorded::input::next_case(buffer);
+        let next = recorded::input::next_case(reader, buffer)?;
         match next {
             Next::End => {
                 break;
@@ -298,35 +299,39 @@ fn replay_all(buffer: &mut [u8]) -> Tally {
             }
         }
     }
-    Tally {
+    Ok(Tally {
         counts,
         differences,
         first,
         whole,
-    }
+    })
 }
 
-fn print_counts(counts: &[u64; CALLS]) {
-    recorded::output::print_count(b"check ", counts[0]);
-    recorded::output::print_count(b", console ", counts[1]);
-    recorded::output::print_count(b", html ", counts[2]);
-    recorded::output::print_count(b", html_strict ", counts[3]);
-    recorded::output::print_count(b", markdown ", counts[4]);
-    recorded::output::print_count(b", roff ", counts[5]);
-    recorded::output::print_count(b", split ", counts[11]);
-    recorded::output::print_count(b", next_chunk ", counts[12]);
-    recorded::output::print_count(b", tabstop ", counts[13]);
+fn print_counts<W: Write>(writer: &mut W, counts: &[u64; CALLS]) -> io::Result<()> {
+    recorded::output::print_count(writer, b"check ", counts[0])?;
+    recorded::output::print_count(writer, b", console ", counts[1])?;
+    recorded::output::print_count(writer, b", html ", counts[2])?;
+    recorded::output::print_count(writer, b", html_strict ", counts[3])?;
+    recorded::output::print_count(writer, b", markdown ", counts[4])?;
+    recorded::output::print_count(writer, b", roff ", counts[5])?;
+    recorded::output::print_count(writer, b", split ", counts[11])?;
+    recorded::output::print_count(writer, b", next_chunk ", counts[12])?;
+    recorded::output::print_count(writer, b", tabstop ", counts[13])
 }
 
-fn main() {
-    let mut space = io::large_buffer();
-    let tally = replay_all(&mut space);
+// The line with the counts, or that the list is faulty.
+fn print_tally<W: Write>(writer: &mut W, tally: &Tally) -> io::Result<()> {
     if !tally.whole {
-        io::write_all(libc::STDOUT_FILENO, b"the list is faulty\n");
-        return;
+        return writer.write_all(b"the list is faulty\n");
     }
-    let counts = tally.counts;
-    print_counts(&counts);
-    io::write_all(libc::STDOUT_FILENO, b"; ");
-    recorded::output::print_differences(tally.differences, tally.first);
+    print_counts(writer, &tally.counts)?;
+    writer.write_all(b"; ")?;
+    recorded::output::print_differences(writer, tally.differences, tally.first)
+}
+
+// A read or a write that fails ends the program with its error.
+fn main(rt: HostRuntime) -> io::Result<()> {
+    let mut space = [0u8; 65536];
+    let tally = replay_all(&mut rt.stdin(), &mut space)?;
+    print_tally(&mut rt.stdout(), &tally)
 }

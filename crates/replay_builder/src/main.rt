@@ -1,6 +1,5 @@
 // Reads a list of the builder's calls with the oracle's answers from standard input, makes each call and compares, and prints one line
 // with the counts.
-
 #![tactic(auto)]
 
 use buffer::Built;
@@ -8,6 +7,8 @@ use recorded::input::Next;
 use recorded::{CALLS, Call};
 use records::Kind;
 use refusal::Refusal;
+use std::io;
+use std::io::{Read, Write};
 
 // A style or block that does not exist, which no list has.
 fn no_such() -> Built {
@@ -92,7 +93,7 @@ fn is_built(built: Built, room: &[u8], before: &[u8], answer: &[u8]) -> bool {
 // Whether the builder answers as a case says; `listed` begins with the length so far and what the room holds of the document so far.
 fn builds(call: Call, argument: &[u8], listed: &[u8]) -> bool {
     let size = call.room;
-    let mut space = io::large_buffer();
+    let mut space = [0u8; 65536];
     if space.len() < size {
         return false;
     }
@@ -132,14 +133,14 @@ struct Tally {
     whole: bool,
 }
 
-fn replay_all(buffer: &mut [u8]) -> Tally {
+fn replay_all<R: Read>(reader: &mut R, buffer: &mut [u8]) -> io::Result<Tally> {
     let mut counts = [0u64; CALLS];
     let mut cases: u64 = 0;
     let mut differences: u64 = 0;
     let mut first: u64 = 0;
     let mut whole = true;
     while cases < 1_000_000 {
-        let next = recorded::input::next_case(buffer);
+        let next = recorded::input::next_case(reader, buffer)?;
         match next {
             Next::End => {
                 break;
@@ -161,31 +162,35 @@ fn replay_all(buffer: &mut [u8]) -> Tally {
             }
         }
     }
-    Tally {
+    Ok(Tally {
         counts,
         differences,
         first,
         whole,
-    }
+    })
 }
 
-fn print_counts(counts: &[u64; CALLS]) {
-    recorded::output::print_count(b"write ", counts[6]);
-    recorded::output::print_count(b", open ", counts[7]);
-    recorded::output::print_count(b", close ", counts[8]);
-    recorded::output::print_count(b", doc ", counts[9]);
-    recorded::output::print_count(b", em_doc ", counts[10]);
+fn print_counts<W: Write>(writer: &mut W, counts: &[u64; CALLS]) -> io::Result<()> {
+    recorded::output::print_count(writer, b"write ", counts[6])?;
+    recorded::output::print_count(writer, b", open ", counts[7])?;
+    recorded::output::print_count(writer, b", close ", counts[8])?;
+    recorded::output::print_count(writer, b", doc ", counts[9])?;
+    recorded::output::print_count(writer, b", em_doc ", counts[10])
 }
 
-fn main() {
-    let mut space = io::large_buffer();
-    let tally = replay_all(&mut space);
+// The line with the counts, or that the list is faulty.
+fn print_tally<W: Write>(writer: &mut W, tally: &Tally) -> io::Result<()> {
     if !tally.whole {
-        io::write_all(libc::STDOUT_FILENO, b"the list is faulty\n");
-        return;
+        return writer.write_all(b"the list is faulty\n");
     }
-    let counts = tally.counts;
-    print_counts(&counts);
-    io::write_all(libc::STDOUT_FILENO, b"; ");
-    recorded::output::print_differences(tally.differences, tally.first);
+    print_counts(writer, &tally.counts)?;
+    writer.write_all(b"; ")?;
+    recorded::output::print_differences(writer, tally.differences, tally.first)
+}
+
+// A read or a write that fails ends the program with its error.
+fn main(rt: HostRuntime) -> io::Result<()> {
+    let mut space = [0u8; 65536];
+    let tally = replay_all(&mut rt.stdin(), &mut space)?;
+    print_tally(&mut rt.stdout(), &tally)
 }

@@ -1,12 +1,13 @@
 // Runs the samples of 01 and the examples of its refusal table. They stand in a list on standard input, whose first lines tell its
 // form. Prints the number of each line with an answer that differs, and one line with the counts.
-
 #![tactic(auto)]
 
 use compared::byte_or;
 use sample_calls::Wanted;
 use sample_lines::Tally;
 use splitter::{Code, Cursor, Step};
+use std::io;
+use std::io::{Read, Write};
 
 mod output;
 
@@ -52,48 +53,64 @@ fn begun() -> State {
 }
 
 // One answer was compared. Writes the number of the line where it differs.
-fn counted(state: State, same: bool) -> State {
+fn counted<W: Write>(writer: &mut W, state: State, same: bool) -> io::Result<State> {
     let mut s = state;
     let before = s.tally;
     let tally = sample_lines::tallied(before, same);
     s.tally = tally;
     if !same {
-        output::report(s.line);
+        output::report(writer, s.line)?;
     }
-    s
+    Ok(s)
 }
 
 // The line `>`: a call for each letter.
-fn compare_calls(line: &[u8], state: State, document: &[u8], text: &[u8]) -> State {
+fn compare_calls<W: Write>(
+    writer: &mut W,
+    line: &[u8],
+    state: State,
+    document: &[u8],
+    text: &[u8],
+) -> io::Result<State> {
     let mut s = state;
     let mut i: usize = 2;
     while i < line.len() {
         let wanted = s.wanted;
         let same = sample_calls::agrees(line[i], s.width, s.room, document, wanted, text);
-        s = counted(s, same);
+        s = counted(writer, s, same)?;
         i += 1;
     }
-    s
+    Ok(s)
 }
 
 // The line `@`: where the next chunk begins.
-fn compare_place(line: &[u8], s: State, body: &[u8]) -> State {
+fn compare_place<W: Write>(
+    writer: &mut W,
+    line: &[u8],
+    s: State,
+    body: &[u8],
+) -> io::Result<State> {
     let Step::Take(piece, _) = splitter::step_at(body, s.cursor) else {
-        return counted(s, false);
+        return counted(writer, s, false);
     };
     let place = sample_lines::number_at(line, 2);
-    counted(s, splitter::place_of(piece) == place.value)
+    counted(writer, s, splitter::place_of(piece) == place.value)
 }
 
 // The lines `~`, `P` and `B`, a chunk, and `.`, which says that there is no further one.
-fn compare_chunk(line: &[u8], state: State, body: &[u8]) -> State {
+fn compare_chunk<W: Write>(
+    writer: &mut W,
+    line: &[u8],
+    state: State,
+    body: &[u8],
+) -> io::Result<State> {
     let mut s = state;
     let c = s.cursor;
     let Step::Take(piece, next) = splitter::step_at(body, c) else {
-        return counted(s, byte_or(line, 0, 0) == b'.');
+        return counted(writer, s, byte_or(line, 0, 0) == b'.');
     };
     s.cursor = next;
-    counted(s, sample_lines::is_chunk(line, body, piece))
+    counted(writer, s, sample_lines::is_chunk(line, body, piece))
 }
 
 // The lines `w` and `r`: the width and the room's size.
@@ -150,31 +167,50 @@ fn added(line: &[u8], state: State, document: &mut [u8]) -> State {
 }
 
 // A line that changes the document or what a call is given. One with a letter that has no meaning counts as an answer that differs.
-fn prepare(line: &[u8], s: State, document: &mut [u8], text: &mut [u8]) -> State {
+fn prepare<W: Write>(
+    writer: &mut W,
+    line: &[u8],
+    s: State,
+    document: &mut [u8],
+    text: &mut [u8],
+) -> io::Result<State> {
     match byte_or(line, 0, 0) {
-        b'D' => emptied(s),
-        b'T' | b'E' | b'L' | b'M' | b'I' | b'(' | b')' | b'+' | b'Z' => added(line, s, document),
-        b'w' | b'r' => set(line, s),
-        b'!' => want_refusal(line, s),
-        b'=' => want_text(line, s, text),
-        _ => counted(s, false),
+        b'D' => Ok(emptied(s)),
+        b'T' | b'E' | b'L' | b'M' | b'I' | b'(' | b')' | b'+' | b'Z' => {
+            Ok(added(line, s, document))
+        }
+        b'w' | b'r' => Ok(set(line, s)),
+        b'!' => Ok(want_refusal(line, s)),
+        b'=' => Ok(want_text(line, s, text)),
+        _ => counted(writer, s, false),
     }
 }
 
 // Does what a line says.
-fn obey(line: &[u8], s: State, document: &mut [u8], text: &mut [u8]) -> State {
+fn obey<W: Write>(
+    writer: &mut W,
+    line: &[u8],
+    s: State,
+    document: &mut [u8],
+    text: &mut [u8],
+) -> io::Result<State> {
     let n = s.length;
     match byte_or(line, 0, 0) {
-        0 | b'#' => s,
-        b'>' => compare_calls(line, s, base::get(document, 0, n), text),
-        b'@' => compare_place(line, s, base::get(document, 0, n)),
-        b'~' | b'P' | b'B' | b'.' => compare_chunk(line, s, base::get(document, 0, n)),
-        _ => prepare(line, s, document, text),
+        0 | b'#' => Ok(s),
+        b'>' => compare_calls(writer, line, s, base::get(document, 0, n), text),
+        b'@' => compare_place(writer, line, s, base::get(document, 0, n)),
+        b'~' | b'P' | b'B' | b'.' => compare_chunk(writer, line, s, base::get(document, 0, n)),
+        _ => prepare(writer, line, s, document, text),
     }
 }
 
 // Runs a list.
-fn run(list: &[u8], document: &mut [u8], text: &mut [u8]) -> State {
+fn run<W: Write>(
+    writer: &mut W,
+    list: &[u8],
+    document: &mut [u8],
+    text: &mut [u8],
+) -> io::Result<State> {
     let mut s = begun();
     let mut from: usize = 0;
     let mut i: usize = 0;
@@ -183,21 +219,24 @@ fn run(list: &[u8], document: &mut [u8], text: &mut [u8]) -> State {
             i += 1;
             continue;
         }
-        s.line = std::num::wrapping_add_u64(s.line, 1);
-        s = obey(base::get(list, from, i), s, document, text);
+        s.line = s.line.wrapping_add(1);
+        s = obey(writer, base::get(list, from, i), s, document, text)?;
         i += 1;
         from = i;
     }
-    s
+    Ok(s)
 }
 
-// Reads the list from standard input, and runs it.
-fn main() {
-    let mut list = io::large_buffer();
-    let n = io::read_full(libc::STDIN_FILENO, &mut list);
+// The list has at most so many bytes; what follows them is not read.
+const LIST: u64 = 65536;
+
+// Reads the list from standard input, and runs it. A read or a write that fails ends the program with its error.
+fn main(rt: HostRuntime) -> io::Result<()> {
+    let mut list = Vec::new(rt.alloc());
+    rt.stdin().take(LIST).read_to_end(&mut list)?;
     let mut document = [0u8; 33000];
     let mut text = [0u8; 512];
-    let s = run(base::get(&list, 0, n), &mut document, &mut text);
-    let tally = s.tally;
-    output::print_tally(tally);
+    let mut writer = rt.stdout();
+    let s = run(&mut writer, &list, &mut document, &mut text)?;
+    output::print_tally(&mut writer, s.tally)
 }

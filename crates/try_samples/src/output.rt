@@ -1,17 +1,16 @@
-// Standard output: of what is written no contract can say anything.
+// What is written, to standard output or another writer.
 use sample_lines::Tally;
+use std::io;
+use std::io::Write;
 
 // Writes the number of a line whose answer differs.
-pub(crate) fn report(line: u64) {
-    io::write_all(libc::STDOUT_FILENO, b"line ");
-    io::print_decimal(libc::STDOUT_FILENO, line);
-    io::write_all(libc::STDOUT_FILENO, b" differs\n");
+pub(crate) fn report<W: Write>(writer: &mut W, line: u64) -> io::Result<()> {
+    writeln!(writer, "line {line} differs")
 }
 
 // Writes how many answers were compared, and how many of them differ.
-pub(crate) fn print_tally(tally: Tally) {
-    io::print_decimal(libc::STDOUT_FILENO, tally.compared);
-    io::write_all(libc::STDOUT_FILENO, b" answers compared, ");
-    io::print_decimal(libc::STDOUT_FILENO, tally.differ);
-    io::write_all(libc::STDOUT_FILENO, b" differ\n");
+pub(crate) fn print_tally<W: Write>(writer: &mut W, tally: Tally) -> io::Result<()> {
+    let compared = tally.compared;
+    let differ = tally.differ;
+    writeln!(writer, "{compared} answers compared, {differ} differ")
 }
