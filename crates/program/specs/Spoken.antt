@@ -4,7 +4,7 @@ use Rattle.std.specs.Io.KnownBytes.{Consumes, IsAtEnd}
 use Rattle.program.specs.declared.Input.{Input}
 use Rattle.program.specs.declared.Input.TheVariants.{Bytes, Failed}
 use Rattle.refusal.specs.declared.Refusal.{Refusal}
-use Rattle.refusal.specs.Numbers.{refusalNumber, refusalPlace}
+use Rattle.refusal.specs.Numbers.{refusal_number, refusal_place}
 
 -- The bytes that were read stand at the start of the buffer, as the input had them, and they are all that the input has unless the buffer is
 -- full. Where a read failed nothing is said.
@@ -14,4 +14,4 @@ ReadsInput old new buffer Failed = ⊤
 
 -- `refused 6 at 0` and a line end: the number, then the place
 abbrev pub refusal_line : Refusal → List ℕ
-refusal_line a = codes "refused " ++ (decimal (refusalNumber a) ++ (codes " at " ++ (decimal (refusalPlace a) ++ codes "\n")))
+refusal_line a = codes "refused " ++ (decimal (refusal_number a) ++ (codes " at " ++ (decimal (refusal_place a) ++ codes "\n")))

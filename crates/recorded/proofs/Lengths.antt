@@ -9,7 +9,7 @@ use Rattle.std.proofs.Common.{subst, take_all, ◌≡◌, ◌≢◌, ℕ, ◌≤
 use Rattle.std.specs.Prelude.{ltb}
 use Rattle.base.specs.Choice.{if◌then◌else◌}
 use Rattle.records.specs.Records.{little}
-use Rattle.recorded.specs.InnerCases.{number_in, numberSize}
+use Rattle.recorded.specs.InnerCases.{number_in, number_size}
 
 -- one byte or five, by a test
 size_by : Bool → ℕ
@@ -26,12 +26,12 @@ unfolding if◌then◌else◌ size_by
 is_false true h = absurd (omega (arith, h))
 is_false false h = refl
 
-pub size_one : (s : List ℕ) → numberSize s ≢ 5 → numberSize s ≡ 1
-unfolding numberSize size_by
+pub size_one : (s : List ℕ) → number_size s ≢ 5 → number_size s ≡ 1
+unfolding number_size size_by
 size_one s h = one_or_five (ltb (get_or s 0 0) 255) h
 
-pub long_number : (s t : List ℕ) → length s ≡ 1 → length t ≡ 4 → numberSize s ≡ 5 → number_in (s ++ t) ≡ little t
-unfolding number_in numberSize if◌then◌else◌ size_by
+pub long_number : (s t : List ℕ) → length s ≡ 1 → length t ≡ 4 → number_size s ≡ 5 → number_in (s ++ t) ≡ little t
+unfolding number_in number_size if◌then◌else◌ size_by
 long_number [] t h k five = absurd (omega (arith, h))
 long_number (b ∷ c ∷ s) t h k five = absurd (omega (arith, h))
 long_number (b ∷ []) [] h k five = absurd (omega (arith, k))
@@ -41,16 +41,16 @@ long_number (b ∷ []) (w ∷ x ∷ y ∷ []) h k five = absurd (omega (arith, k
 long_number (b ∷ []) (w ∷ x ∷ y ∷ z ∷ u ∷ t) h k five = absurd (omega (arith, k))
 long_number (b ∷ []) (w ∷ x ∷ y ∷ z ∷ []) h k five = rw (is_false (ltb b 255) five) refl
 
-pub long_size : (s t : List ℕ) → length s ≡ 1 → numberSize s ≡ 5 → numberSize (s ++ t) ≡ 5
-unfolding numberSize
+pub long_size : (s t : List ℕ) → length s ≡ 1 → number_size s ≡ 5 → number_size (s ++ t) ≡ 5
+unfolding number_size
 long_size [] t h five = absurd (omega (arith, h))
 long_size (b ∷ c ∷ s) t h five = absurd (omega (arith, h))
 long_size (b ∷ []) t h five = five
 
 -- A number and the bytes after it, read one after the other.
-pub case_read : (old mid new : Option (List ℕ)) (number part rest : List ℕ) (n : ℕ) → number_in number ≡ n → numberSize number ≡ length number
+pub case_read : (old mid new : Option (List ℕ)) (number part rest : List ℕ) (n : ℕ) → number_in number ≡ n → number_size number ≡ length number
     → length part ≡ n → Consumes old mid number → Consumes mid new part
-    → (x : List ℕ) × (number_in x ≡ n) × (numberSize x ≡ length x) × (n ≤ length (part ++ rest)) × Consumes old new (x ++ take n (part ++ rest))
+    → (x : List ℕ) × (number_in x ≡ n) × (number_size x ≡ length x) × (n ≤ length (part ++ rest)) × Consumes old new (x ++ take n (part ++ rest))
 case_read old mid new number part rest n is size long first second = (
   number,
   is,

@@ -2,7 +2,7 @@ use Rattle.std.proofs.Common.{◌≡◌, ◌≤◌, ◌++◌, sym, ap, ◌∙◌
 use Rattle.std.specs.Io.KnownBytes.{Consumes}
 use Rattle.std.proofs.KnownBytes.{Consumes-trans}
 use lib.ListN.{length-append}
-use Rattle.recorded.specs.InnerCases.{number_in, numberSize}
+use Rattle.recorded.specs.InnerCases.{number_in, number_size}
 use Rattle.records.specs.Records.{little}
 use Rattle.recorded.proofs.Lengths.{size_one, long_number, long_size, case_read, whole_read}
 use Rattle.recorded.proofs.input.next_case.Goals as goal
@@ -23,7 +23,7 @@ returns g c =
     elim c.if-number_size-eq5.branch [
       | then-number_size-eq5+in_ok-read_full-2+else-branch-lt4 w ↦
           (let four = w.read_full-then-number_size-eq5.new.buffer in
-          let size : numberSize short ≡ 5 = sym c.number_size.ensures.0 ∙ w.if-number_size-eq5.true in
+          let size : number_size short ≡ 5 = sym c.number_size.ensures.0 ∙ w.if-number_size-eq5.true in
           let has_four : length four ≡ 4 = search rules in
           let second : Consumes (left c.read_full.new.reader) (left w.read_full-then-number_size-eq5.new.reader) four = whole_read _ _ four _ w.in_ok-read_full-2.ensures (search rules) in
           let is : number_in (short ++ four) ≡ c.if-number_size-eq5.n =
@@ -32,7 +32,7 @@ returns g c =
           (long_size short four one size ∙ sym (length-append short four ∙ search rules)) long
           (subst (λ r. Consumes (left c.args.reader.now) (left r) (short ++ four)) (sym w.reader-is) (Consumes-trans _ _ _ short four first second)) last)
       | else-number_size-eq5 w ↦
-          (let size : numberSize short ≡ 1 = size_one short (λ e. w.if-number_size-eq5.false (c.number_size.ensures.0 ∙ e)) in
+          (let size : number_size short ≡ 1 = size_one short (λ e. w.if-number_size-eq5.false (c.number_size.ensures.0 ∙ e)) in
           case_read _ (left c.if-number_size-eq5.reader) _ short part _ c.if-number_size-eq5.n (sym (w.n-is ∙ c.number-n.ensures.0)) (size ∙ sym one) long
           (subst (λ r. Consumes (left c.args.reader.now) (left r) short) (sym w.reader-is) first) last)
     ]

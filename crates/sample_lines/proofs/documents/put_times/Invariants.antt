@@ -1,0 +1,15 @@
+use Rattle.sample_lines.proofs.Names.{◌≡◌, refl, sym, ap, ◌∙◌, ℕ, ◌-◌, ◌≤◌, arith, rules, length, ◌>>=◌, seen, extended, repeated}
+use native.Mathlib.Nat.{sub-zero}
+use Rattle.sample_lines.proofs.Adding.{repeated-more, repeated-none}
+use Rattle.sample_lines.proofs.Writing.{wrote_on, wrote_last}
+use Rattle.sample_lines.proofs.documents.put_times.Given as goal
+
+-- What stands in `d`, and the bytes as often as they are still to be put, give what all of them give from the start.
+-- How often they are still to be put falls.
+
+abbrev pub invariant-loop-i : goal.invariant-loop-i
+invariant-loop-i l = (length l.d ≡ length l.initial.d) × (l.i ≤ l.times) ×
+    ((seen l.d l.n >>= extended (length l.initial.d) (repeated (l.times - l.i) l.bytes)) ≡ (seen l.initial.d l.len >>= extended (length l.initial.d) (repeated l.times l.bytes)))
+
+abbrev pub decreases-loop-i : goal.decreases-loop-i
+decreases-loop-i l = l.times - l.i
