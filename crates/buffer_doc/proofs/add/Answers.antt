@@ -1,4 +1,4 @@
-use Rattle.buffer_doc.proofs.Names.{rules, arith, [], verdict_gives, made_of}
+use Rattle.buffer_doc.proofs.Names.{[], verdict_gives, made_of}
 use Rattle.buffer_doc.proofs.Adding.{joins-refused, joins_added, joins_made, joins_numbers}
 use Rattle.buffer_doc.proofs.add.Goals as goal
 

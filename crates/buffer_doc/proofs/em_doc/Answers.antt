@@ -1,9 +1,9 @@
-use Rattle.buffer_doc.proofs.Names.{rules, adds_em_doc}
+use Rattle.buffer_doc.proofs.Names.{adds_em_doc}
 use Rattle.buffer_doc.proofs.em_doc.Goals as goal
 
 pub returns : goal.returns
 unfolding adds_em_doc
 returns c = record {
-    answer = c.joined.ensures.answer;
-    room = c.joined.ensures.room;
-  }
+  answer = c.joined.ensures.answer;
+  room = c.joined.ensures.room;
+}

@@ -1,4 +1,4 @@
-use Rattle.buffer_doc.proofs.Names.{rules, made_of}
+use Rattle.buffer_doc.proofs.Names.{made_of}
 use Rattle.buffer_doc.proofs.Adding.{adds-refused, adds-joined}
 use Rattle.buffer_doc.proofs.joined.Goals as goal
 

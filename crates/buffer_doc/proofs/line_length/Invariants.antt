@@ -1,5 +1,4 @@
-use Rattle.buffer_doc.proofs.Names.{◌≡◌, ap, ◌+◌, ◌-◌, arith, rules, eq-eqb, ne_eqb, length, drop, is_line_end, line}
-use Rattle.splitter.proofs.Before.{before-stop, before-go, before-none}
+use Rattle.buffer_doc.proofs.Names.{◌≡◌, ◌+◌, ◌-◌, length, drop, line}
 use Rattle.buffer_doc.proofs.line_length.Given as goal
 
 -- Invariant: no line end stands before i, so the first line of the body is i bytes and the first line of what is after them.

@@ -1,4 +1,4 @@
-use Rattle.buffer_doc.proofs.Names.{◌≡◌, sym, ◌∙◌, subst, [], ◌++◌, ℕ, ◌+◌, arith, rules, not-true, not-false, length, length-append, reads}
+use Rattle.buffer_doc.proofs.Names.{◌≡◌, sym, ◌∙◌, subst, [], ◌++◌, ℕ, ◌+◌, arith, length, length-append, reads}
 use Rattle.buffer_doc.proofs.Names.{open_blocks, start, end, around, check-gives, gives, refused, room_there}
 use native.Mathlib.Nat.{add-zero}
 use Rattle.records.specs.declared.Block.TheVariants as block

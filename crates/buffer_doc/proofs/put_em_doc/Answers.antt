@@ -1,4 +1,4 @@
-use Rattle.buffer_doc.proofs.Names.{sym, ◌∙◌, arith, rules, not-true, not-false}
+use Rattle.buffer_doc.proofs.Names.{sym, ◌∙◌, arith}
 use Rattle.buffer_doc.proofs.Adding.{adds_same}
 use Rattle.buffer_doc.proofs.Titles.{em_not, em_next, em_valid, em_short, em_line, em_lines, em_parts}
 use Rattle.buffer_doc.proofs.put_em_doc.Goals as goal

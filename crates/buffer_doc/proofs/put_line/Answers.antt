@@ -1,4 +1,4 @@
-use Rattle.buffer_doc.proofs.Names.{◌≡◌, sym, ◌∙◌, ◌++◌, ◌+◌, arith, rules, not-true, not-false, length, length-append, text, start, end, around}
+use Rattle.buffer_doc.proofs.Names.{◌≡◌, sym, ◌∙◌, ◌++◌, ◌+◌, arith, length, length-append, text, start, end, around}
 use Rattle.buffer_doc.proofs.Names.{room_there}
 use Rattle.records.specs.declared.Style.TheVariants as style
 use Rattle.records.specs.declared.Block.TheVariants as block

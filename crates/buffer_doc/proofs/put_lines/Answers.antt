@@ -1,5 +1,5 @@
-use Rattle.buffer_doc.proofs.Names.{◌≡◌, sym, ap, ◌∙◌, ◌++◌, ℕ, ◌+◌, ◌-◌, arith, rules, not-true, not-false, length, drop, length-append}
-use Rattle.buffer_doc.proofs.Names.{length-drop, length-take-le, part, pasted, refused, text, start, section, titled, room_there}
+use Rattle.buffer_doc.proofs.Names.{◌≡◌, sym, ap, ◌∙◌, ◌++◌, ℕ, ◌+◌, ◌-◌, arith, length, length-append}
+use Rattle.buffer_doc.proofs.Names.{part, pasted, refused, text, start, section, titled}
 use Rattle.records.specs.declared.Style.TheVariants as style
 use Rattle.records.specs.declared.Block.TheVariants as block
 use Rattle.buffer_doc.proofs.Adding.{adds_shut, adds-deep, adds_full, adds-written, pasted_then, length-start, length-around}

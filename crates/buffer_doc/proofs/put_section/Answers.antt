@@ -1,4 +1,3 @@
-use Rattle.buffer_doc.proofs.Names.{rules}
 use Rattle.buffer_doc.proofs.Titles.{section-pasted}
 use Rattle.buffer_doc.proofs.put_section.Goals as goal
 

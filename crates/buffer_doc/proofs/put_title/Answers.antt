@@ -1,4 +1,3 @@
-use Rattle.buffer_doc.proofs.Names.{rules}
 use Rattle.buffer_doc.proofs.Titles.{title_pasted}
 use Rattle.buffer_doc.proofs.put_title.Goals as goal
 

@@ -1,5 +1,4 @@
-use Rattle.buffer_doc.proofs.Names.{◌-◌, ◌≤◌, arith, rules, length}
-use Rattle.buffer_doc.proofs.Nesting.{Reached, reached_0, reached_next, reached_deep, reached_end}
+use Rattle.buffer_doc.proofs.Nesting.{reached_next, reached_deep, reached_end}
 use Rattle.buffer_doc.proofs.too_deep.Goals as goal
 
 pub returns-then-count-gt-MAX_OPEN : goal.returns-then-count-gt-MAX_OPEN

@@ -1,5 +1,5 @@
-use Rattle.buffer_doc.proofs.Names.{◌-◌, ◌≤◌, arith, rules, length}
-use Rattle.buffer_doc.proofs.Nesting.{Reached, reached_0, reached_next, reached_deep, reached_end}
+use Rattle.buffer_doc.proofs.Names.{◌-◌, ◌≤◌, length}
+use Rattle.buffer_doc.proofs.Nesting.{Reached}
 use Rattle.buffer_doc.proofs.too_deep.Given as goal
 
 -- Invariant: the records from `from` up to `at` are whole and nest, and leave `count` blocks open, at most 32, over any `depth` open before.

@@ -1,4 +1,3 @@
-use Rattle.draft.proofs.Names.{rules}
 use Rattle.draft.proofs.Calls.{of_built}
 use Rattle.draft.proofs.Documents.{doc_refused, doc_given}
 use Rattle.draft.proofs.add_doc.Goals as goal

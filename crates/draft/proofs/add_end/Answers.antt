@@ -1,4 +1,4 @@
-use Rattle.draft.proofs.Names.{rules, ℕ, ◌+◌, sym, ap, ◌∙◌, arith}
+use Rattle.draft.proofs.Names.{ℕ, ◌+◌, sym, ap, ◌∙◌, arith}
 use Rattle.refusal.specs.declared.Refusal.TheVariants as refusal
 use Rattle.draft.proofs.Holding.{closes-none, closes-other}
 use Rattle.draft.proofs.Calls.{does_refused, of_built, end_refused, end-given}

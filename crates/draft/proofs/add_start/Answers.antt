@@ -1,4 +1,4 @@
-use Rattle.draft.proofs.Names.{rules, ℕ, ◌+◌, ap, arith, index_small}
+use Rattle.draft.proofs.Names.{ℕ, ◌+◌, ap, arith}
 use Rattle.refusal.specs.declared.Refusal.TheVariants as refusal
 use Rattle.draft.proofs.Holding.{opens-refused}
 use Rattle.draft.proofs.Calls.{does_refused, of_built, start-refused, start-given}

@@ -1,4 +1,4 @@
-use Rattle.draft.proofs.Names.{rules, sym, ◌∙◌, arith, not-true, not-false}
+use Rattle.draft.proofs.Names.{sym, ◌∙◌, arith}
 use Rattle.refusal.specs.declared.Refusal.TheVariants as refusal
 use Rattle.draft.proofs.Calls.{does_refused, of_built, text-not, text-refused, text-given}
 use Rattle.draft.proofs.add_text.Goals as goal

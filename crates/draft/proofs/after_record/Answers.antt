@@ -1,4 +1,4 @@
-use Rattle.draft.proofs.Names.{refl, rules}
+use Rattle.draft.proofs.Names.{refl}
 use Rattle.draft.proofs.Calls.{turned-text, turned_unknown, turned-start, turned-end}
 use Rattle.draft.proofs.after_record.Goals as goal
 

@@ -1,5 +1,5 @@
-use Rattle.draft.proofs.Names.{rules, closes_block}
-use Rattle.draft.proofs.Calls.{of_drafted, call-refused, call-on}
+use Rattle.draft.proofs.Names.{closes_block}
+use Rattle.draft.proofs.Calls.{of_drafted, call-refused}
 use Rattle.draft.proofs.close_block.Goals as goal
 
 pub returns-in-Refused : goal.returns-in-Refused

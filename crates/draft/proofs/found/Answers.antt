@@ -1,5 +1,4 @@
-use Rattle.draft.proofs.Names.{◌-◌, arith, rules, length}
-use Rattle.draft.proofs.Holding.{Found, found_0, found_next, found_done}
+use Rattle.draft.proofs.Holding.{found_0, found_next, found_done}
 use Rattle.draft.proofs.found.Goals as goal
 
 pub loop-at-init : goal.loop-at-init

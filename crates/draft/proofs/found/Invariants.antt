@@ -1,5 +1,5 @@
-use Rattle.draft.proofs.Names.{◌-◌, arith, rules, length}
-use Rattle.draft.proofs.Holding.{Found, found_0, found_next, found_done}
+use Rattle.draft.proofs.Names.{◌-◌, length}
+use Rattle.draft.proofs.Holding.{Found}
 use Rattle.draft.proofs.found.Given as goal
 
 -- The draft is that of the records before the place, and nothing is refused from there on.

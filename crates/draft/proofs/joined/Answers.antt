@@ -1,5 +1,5 @@
-use Rattle.draft.proofs.Names.{rules, adds_as, made_of}
-use Rattle.draft.proofs.Calls.{of_drafted, call-refused, call-on}
+use Rattle.draft.proofs.Names.{adds_as}
+use Rattle.draft.proofs.Calls.{of_drafted, call-refused}
 use Rattle.draft.proofs.joined.Goals as goal
 
 pub returns-in-Refused : goal.returns-in-Refused

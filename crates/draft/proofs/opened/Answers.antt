@@ -1,4 +1,4 @@
-use Rattle.draft.proofs.Names.{rules, ℕ, ◌+◌, ◌*◌, ◌%◌, refl, ap, arith, mod-lt, index, index_small}
+use Rattle.draft.proofs.Names.{ℕ, ◌+◌, ◌*◌, ◌%◌, refl, ap, arith, index, index_small}
 use Rattle.draft.proofs.Packing.{opens-length, opens-more}
 use Rattle.draft.proofs.opened.Goals as goal
 

@@ -1,4 +1,4 @@
-use Rattle.draft.proofs.Names.{rules, arith}
+use Rattle.draft.proofs.Names.{arith}
 use Rattle.draft.proofs.Calls.{quick_past, quick_long, quick_deep, quick_none, quick_short, quick_one}
 use Rattle.draft.proofs.plausible.Goals as goal
 

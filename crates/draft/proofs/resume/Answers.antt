@@ -1,4 +1,4 @@
-use Rattle.draft.proofs.Names.{rules, sym, length-take-le, verdict_refused, so_far_accepted, so_far-document}
+use Rattle.draft.proofs.Names.{sym, length-take-le, verdict_refused, so_far_accepted, so_far-document}
 use Rattle.buffer.proofs.Numbers.{low_so_far, low-number}
 use Rattle.draft.proofs.Calls.{resumed_next}
 use Rattle.draft.proofs.resume.Goals as goal

@@ -1,4 +1,4 @@
-use Rattle.draft.proofs.Names.{rules, refl, sym, ◌∙◌}
+use Rattle.draft.proofs.Names.{refl, sym, ◌∙◌}
 use Rattle.draft.proofs.settled.Goals as goal
 
 pub returns-then-plausible : goal.returns-then-plausible

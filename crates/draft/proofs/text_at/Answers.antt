@@ -1,4 +1,4 @@
-use Rattle.draft.proofs.Names.{sym, ◌∙◌, rules, eq-eqb, ne_eqb, if_true, if_false}
+use Rattle.draft.proofs.Names.{sym, ◌∙◌, eq-eqb, ne_eqb, if_true, if_false}
 use Rattle.draft.proofs.text_at.Goals as goal
 
 pub returns-then-kind-number_of : goal.returns-then-kind-number_of

@@ -1,5 +1,5 @@
-use Rattle.draft.proofs.Names.{rules, writes}
-use Rattle.draft.proofs.Calls.{of_drafted, call-refused, call-on}
+use Rattle.draft.proofs.Names.{writes}
+use Rattle.draft.proofs.Calls.{of_drafted, call-refused}
 use Rattle.draft.proofs.write_str.Goals as goal
 
 pub returns-in-Refused : goal.returns-in-Refused

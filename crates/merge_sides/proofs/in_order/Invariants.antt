@@ -1,0 +1,13 @@
+use Rattle.merge_sides.proofs.Names.{◌≡◌, sym, ◌∙◌, ◌-◌, arith, rules, not-true, not-false, length, length-take-le, holding}
+use Rattle.merge_sides.proofs.Sides.{list_length, keyed_inside, Climbing, climbing_0, climbed}
+use Rattle.merge_sides.proofs.Sides.{climbed_one, climbing_taken, climbing_second, climbs_not, climbing_next}
+use Rattle.merge_sides.proofs.in_order.Given as goal
+
+-- The items from one on ascend as all do, and the first key has its term.
+-- What is left of the document falls.
+
+abbrev pub invariant-loop-at : goal.invariant-loop-at
+invariant-loop-at l = Climbing l.document l.key l.at l.next l.len × (length l.key ≡ 32768) × (length l.other ≡ 32768)
+
+abbrev pub decreases-loop-at : goal.decreases-loop-at
+decreases-loop-at l = length l.document - l.at
