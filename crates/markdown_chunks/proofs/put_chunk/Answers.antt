@@ -1,0 +1,12 @@
+use Prim.Native.Nat.{◌-◌}
+use borrow.Author.Rules.{rules}
+use Rattle.html_rules.specs.Markdown.{paragraph_text}
+use Rattle.markdown_marks.proofs.Texts.{span_is}
+use Rattle.markdown_chunks.proofs.Texts.{by_rule, piece-raw, piece_space, piece-paragraph, piece_break}
+use Rattle.markdown_chunks.proofs.put_chunk.Goals as goal
+
+pub returns-in-LineBreak : goal.returns-in-LineBreak
+returns-in-LineBreak c =
+    let a = c.args in
+    λ e. by_rule _ _ _ _ _ _ (piece_break _ a.l a.body.now a.piece c.in-LineBreak.is)
+    c.put.ensures
