@@ -7,7 +7,6 @@ use Rattle.buffer.proofs.Names.{bodiless, accept, first, reads, little_bytes, st
 use Rattle.base.proofs.Results.{refused-gives, bind_end}
 use Rattle.records.specs.Records.{little, kind_of, record_fits}
 use Rattle.records.specs.declared.Style.TheVariants as style
-use Rattle.records.specs.declared.Kind.TheVariants as kind
 use Rattle.records.proofs.Tables.{kind_style, kind_opens, kind_closes}
 use Rattle.records.proofs.Reading.{fits_room}
 use Rattle.document.proofs.Refusals.{reads-some}

@@ -1,6 +1,6 @@
 -- Refusal 10 is given where a chunk to be printed misses more than 50 columns to its margin when its turn comes, at that chunk's place, and nowhere
 -- else; for every measure of the fold test. Assumes nothing.
-use Prim.Native.Nat.{ℕ, zero, suc, ◌+◌, ◌-◌, ◌≤◌}
+use Prim.Native.Nat.{ℕ, zero, suc, ◌+◌, ◌≤◌}
 use mathlib.Core.Path.{◌≡◌, refl, sym, ap, ◌∙◌}
 use mathlib.Core.Bool.{Bool, true, false}
 use mathlib.Core.List.{List, [], ◌∷◌}
@@ -12,7 +12,7 @@ use Rattle.base.specs.Choice.{if◌then◌else◌}
 use Rattle.base.specs.Stack.{top}
 use Rattle.base.specs.Result.{Result, gives, refused, ◌>>=◌}
 use Rattle.base.proofs.Choice.{if_true, if_false}
-use Rattle.base.proofs.Results.{bind_assoc, bind_same, bind_gives, refused-gives}
+use Rattle.base.proofs.Results.{bind_assoc, bind_same, refused-gives}
 use Rattle.white.specs.White.{trim}
 use Rattle.room.specs.Room.{extended}
 use Rattle.records.specs.Records.{Token, tokens}
@@ -23,10 +23,10 @@ use Rattle.records.specs.declared.Kind.TheVariants as kind
 use Rattle.document.specs.Document.{opens, closes, bodiless, accept, first, reads, open_blocks, closed, check, short}
 use Rattle.document.proofs.Walks.{check-gives}
 use Rattle.splitter.specs.Split.{Chunk, raw, paragraph, line_break, is_space, Placed, split}
-use Rattle.renderer.specs.Walk.{with_out, with_lay, write, empty, last, walk, body}
+use Rattle.renderer.specs.Walk.{with_out, write, empty, last, walk, body}
 use Rattle.skip.specs.Counter.{hides}
-use Rattle.console_rules.specs.Console.{State, initial, folds, line_end, due_line, due_blank, pad_gutter, place, missing, reach, pad, put, fold, tick}
-use Rattle.console_rules.specs.Console.{outdent, started, ended, finish, narrow, raw_chunk, chunk, body_chunk, turn, gap_ahead, tabstop, measure_of}
+use Rattle.console_rules.specs.Console.{State, initial, line_end, due_line, due_blank, pad_gutter, place, missing, reach, pad, put, fold, tick}
+use Rattle.console_rules.specs.Console.{started, ended, finish, narrow, raw_chunk, chunk, body_chunk, turn, gap_ahead, tabstop, measure_of}
 use Rattle.console_rules.specs.Console.{console_by, console}
 use Rattle.console_rules.specs.Margin.{Ready, printed, dropped, too_far, ready, FarChunk, FarRecord, Far}
 use Rattle.console_rules.specs.Margin as far

@@ -1,6 +1,6 @@
 -- With the places of chunks in place of the records' nothing moves but refusal 10's place. Assumes nothing.
 use Prim.Native.Nat.{ℕ, ◌+◌, ◌≤◌}
-use mathlib.Core.Path.{◌≡◌, refl}
+use mathlib.Core.Path.{refl}
 use mathlib.Core.Bool.{Bool, true, false}
 use mathlib.Core.List.{List, [], ◌∷◌}
 use lib.ListN.{length}
@@ -11,14 +11,13 @@ use Rattle.base.specs.Result.{Result, gives, refused, ◌>>=◌}
 use Rattle.records.specs.Records.{Token, tokens}
 use Rattle.records.specs.declared.Kind.{Kind}
 use Rattle.records.specs.declared.Kind.TheVariants as kind
-use Rattle.document.specs.Document.{check, short}
 use Rattle.splitter.specs.Split.{Chunk, raw, paragraph, line_break, Placed, split}
 use Rattle.splitter.proofs.Fits.{extent}
 use Rattle.splitter.proofs.Places.{Each, none, also, split-within}
 use Rattle.renderer.specs.Walk.{anywhere, last, walk, body}
-use Rattle.console_rules.specs.Console.{State, initial, pad, put, fold, raw_chunk, chunk, body_chunk, turn, tabstop, finish, narrow, measure_of}
-use Rattle.console_rules.specs.Console.{console_by, console}
-use Rattle.console_rules.specs.RecordPlaces.{record_turn, record_console, Among, here, further, InBody, SameBut10, same, both10}
+use Rattle.console_rules.specs.Console.{State, initial, pad, put, fold, raw_chunk, chunk, body_chunk, turn, tabstop}
+use Rattle.console_rules.specs.Console.{console_by}
+use Rattle.console_rules.specs.RecordPlaces.{record_turn, record_console, here, further, InBody, SameBut10, same, both10}
 use Rattle.console_rules.specs.declared.Settings.{Settings}
 
 -- one rule after another

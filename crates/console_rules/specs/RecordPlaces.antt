@@ -1,6 +1,6 @@
 -- The console's rules with the place of refusal 10 as 01 has it: 'the record', where 02's point 2 has the chunk. What moved with that point, and
 -- what stayed, is said in these words by the law `only_places_moved`.
-use Rattle.std.specs.Prelude.{ℕ, ◌+◌, ◌≤◌, ◌≡◌, List, [], ◌∷◌, length}
+use Rattle.std.specs.Prelude.{ℕ, ◌+◌, ◌≤◌, ◌≡◌, List, ◌∷◌, length}
 use Rattle.base.specs.Choice.{if◌then◌else◌}
 use Rattle.base.specs.Stack.{top}
 use Rattle.base.specs.Result.{Result, gives, refused, ◌>>=◌}

@@ -25,7 +25,7 @@ use Rattle.console_rules.specs.declared.Measure.{Measure}
 use Rattle.console_rules.specs.declared.Measure.TheVariants as measure
 use Rattle.console_chunks.proofs.Chunks.{line_idle, blank_idle, gap_no, put-near, empty-some}
 use Rattle.console_chunks.specs.declared.Mark.{Mark}
-use Rattle.console_words.specs.InnerAdvance.{Quiet, Task, full_of, rule_of, Plain, LineAdvance, Ready, Ahead, Moves}
+use Rattle.console_words.specs.InnerAdvance.{Quiet, full_of, rule_of, Plain, LineAdvance, Ready, Ahead, Moves}
 use Rattle.words.specs.InnerCopies.{Copies}
 use Rattle.words.proofs.Follow.{write_in}
 use Rattle.words.proofs.Copying.{characters-join, part-short, part-narrow}

@@ -5,7 +5,6 @@ use Rattle.base.specs.Result.{Result, gives, ◌>>=◌}
 use Rattle.room.specs.Room.{extended, seen}
 use Rattle.records.specs.Records.{Token}
 use Rattle.records.specs.declared.Kind.{Kind}
-use Rattle.records.specs.declared.Kind.TheVariants as kind
 use Rattle.splitter.specs.Split.{Chunk, raw, paragraph, line_break, Placed}
 
 -- The text so far, what a renderer keeps as a list (margins, open blocks or a captured heading), and its numbers and flags.

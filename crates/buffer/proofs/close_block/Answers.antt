@@ -1,4 +1,4 @@
-use Rattle.buffer.proofs.Names.{sym, ap, ◌∙◌, ℕ, ◌+◌, arith, rules, index_small, closes_block}
+use Rattle.buffer.proofs.Names.{sym, ap, ◌∙◌, ℕ, ◌+◌, arith, closes_block}
 use Rattle.refusal.specs.declared.Refusal.TheVariants as refusal
 use Rattle.buffer.proofs.Answering.{says-refused, says_same, so_far_accepted, so_far-refused}
 use Rattle.buffer.proofs.Blocks.{closes-not_open, closes_another, closes_in}

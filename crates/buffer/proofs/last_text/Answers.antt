@@ -1,5 +1,5 @@
-use Rattle.buffer.proofs.Names.{sym, ◌∙◌, ◌-◌, arith, rules, length, inl, inr}
-use Rattle.buffer.proofs.Written.{Going, going_0, going_last, going_next, going_done}
+use Rattle.buffer.proofs.Names.{sym, ◌∙◌, inl, inr}
+use Rattle.buffer.proofs.Written.{going_0, going_last, going_next, going_done}
 use Rattle.buffer.proofs.last_text.Goals as goal
 
 pub loop-at-init : goal.loop-at-init

@@ -1,5 +1,5 @@
-use Rattle.buffer.proofs.Names.{sym, ◌∙◌, ◌-◌, arith, rules, length, inl, inr}
-use Rattle.buffer.proofs.Written.{Going, going_0, going_last, going_next, going_done}
+use Rattle.buffer.proofs.Names.{◌-◌, length}
+use Rattle.buffer.proofs.Written.{Going}
 use Rattle.buffer.proofs.last_text.Given as goal
 
 -- Text goes into the record that the records from the place on give; none before it takes it.

@@ -1,4 +1,4 @@
-use Rattle.buffer.proofs.Names.{ap, ℕ, ◌+◌, arith, rules, index_small, opens_block}
+use Rattle.buffer.proofs.Names.{ap, ℕ, ◌+◌, opens_block}
 use Rattle.refusal.specs.declared.Refusal.TheVariants as refusal
 use Rattle.buffer.proofs.Answering.{says-refused, says_same, so_far_accepted, so_far-refused}
 use Rattle.buffer.proofs.Blocks.{opens_too_deep, opens_in}

@@ -1,7 +1,7 @@
-use Rattle.buffer.proofs.Names.{◌≡◌, sym, ap, ◌∙◌, [], ◌+◌, arith, rules, not-true, not-false, length, stored, pasted}
+use Rattle.buffer.proofs.Names.{◌≡◌, sym, ap, ◌∙◌, [], ◌+◌, arith, length, stored, pasted}
 use Rattle.refusal.specs.declared.Refusal.TheVariants as refusal
 use Rattle.buffer.proofs.Pasting.{length-stored, stored-none, set_fits}
-use Rattle.buffer.proofs.Answering.{says-refused, says-length, fit_in, fit-out, room_there, room_small}
+use Rattle.buffer.proofs.Answering.{says-refused, says-length, fit_in, fit-out, room_there}
 use Rattle.buffer.proofs.put_block.Goals as goal
 
 pub returns-then-not-has_room : goal.returns-then-not-has_room

@@ -1,7 +1,7 @@
-use Rattle.buffer.proofs.Names.{◌≡◌, sym, ap, ◌∙◌, ◌++◌, ◌+◌, ◌≤◌, max, arith, rules, not-true, not-false, length, take, drop, stored, fit}
+use Rattle.buffer.proofs.Names.{◌≡◌, sym, ap, ◌∙◌, ◌++◌, ◌+◌, ◌≤◌, arith, length, take, drop, stored, fit}
 use Rattle.refusal.specs.declared.Refusal.TheVariants as refusal
 use Rattle.buffer.proofs.Pasting.{longer-is, longer_ends, put-longer}
-use Rattle.buffer.proofs.Answering.{says-refused, says-length, says_same, fit_in, fit-out, room_there, room_small}
+use Rattle.buffer.proofs.Answering.{says-refused, says-length, says_same, fit_in, fit-out, room_there}
 use Rattle.buffer.proofs.put_text.Goals as goal
 
 pub returns-then-not-has_room : goal.returns-then-not-has_room

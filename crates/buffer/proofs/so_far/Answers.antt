@@ -1,12 +1,12 @@
-use Rattle.buffer.proofs.Names.{refl, sym, ◌∙◌, arith, rules, length-take-le}
+use Rattle.buffer.proofs.Names.{refl, ◌∙◌, arith}
 use Rattle.buffer.proofs.Answering.{so_far-past, so_far_long, so_far_in}
 use Rattle.buffer.proofs.so_far.Goals as goal
 
 pub returns-then-room-len : goal.returns-then-room-len
 returns-then-room-len c = record {
-      «open» = so_far-past (c.args.room.now) c.args.len c.if-room-len.true;
-      shallow = (omega arith, refl);
-    }
+  «open» = so_far-past (c.args.room.now) c.args.len c.if-room-len.true;
+  shallow = (omega arith, refl);
+}
 
 pub returns-then-len-gt-MAX_BYTES : goal.returns-then-len-gt-MAX_BYTES
 returns-then-len-gt-MAX_BYTES c =

@@ -1,4 +1,4 @@
-use Rattle.buffer.proofs.Names.{sym, ◌∙◌, arith, rules, not-true, not-false, length-take-le, writes}
+use Rattle.buffer.proofs.Names.{sym, ◌∙◌, arith, length-take-le, writes}
 use Rattle.refusal.specs.declared.Refusal.TheVariants as refusal
 use Rattle.buffer.proofs.Answering.{says-refused, says_same, so_far_accepted, so_far-refused, so_far-document, writes-not, writes_in}
 use Rattle.buffer.proofs.write_str.Goals as goal

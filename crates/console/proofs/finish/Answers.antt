@@ -1,4 +1,3 @@
-use borrow.Author.Rules.{rules}
 use Rattle.console.proofs.Standing.{finish_over, finish-text}
 use Rattle.console.proofs.finish.Goals as goal
 

@@ -1,14 +1,13 @@
-use mathlib.Core.Path.{sym, ap, ap₂, ◌∙◌}
+use mathlib.Core.Path.{sym, ap₂, ◌∙◌}
 use mathlib.Core.List.{List}
 use Prim.Native.Nat.{ℕ, ◌+◌}
 use native.Mathlib.Omega.{arith}
-use borrow.Author.Rules.{rules}
 use lib.ListN.{length}
 use Rattle.splitter.specs.Split.{raw}
-use Rattle.splitter.specs.Answers.{chunk_of, place_of}
+use Rattle.splitter.specs.Answers.{chunk_of}
 use Rattle.console_rules.specs.Console.{measure_of}
 use Rattle.console_chunks.proofs.Chunks.{near_same, near_on}
-use Rattle.console_chunks.proofs.Bodies.{chunk-raw, piece-raw, piece-narrow, piece_inside}
+use Rattle.console_chunks.proofs.Bodies.{chunk-raw, piece-raw, piece-narrow}
 use Rattle.console.proofs.put_piece.Goals as goal
 
 pub returns-then-is_text : goal.returns-then-is_text

@@ -1,5 +1,4 @@
 use mathlib.Core.Path.{ap, ◌∙◌}
-use borrow.Author.Rules.{rules}
 use lib.ListN.{length}
 use Rattle.base.specs.Result.{measured}
 use Rattle.renderer.proofs.Clearing.{standing-measured}

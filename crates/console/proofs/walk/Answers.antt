@@ -1,14 +1,12 @@
 use mathlib.Core.Path.{refl, sym, ◌∙◌}
-use Prim.Native.Nat.{◌+◌, ◌-◌}
 use native.Mathlib.Omega.{arith}
-use borrow.Author.Rules.{rules}
 use borrow.Author.Tests.{ltb-true, ltb-false}
-use lib.ListN.{length, take, set}
+use lib.ListN.{length, take}
 use Rattle.refusal.specs.declared.Refusal.TheVariants as refusal
 use Rattle.splitter.specs.Answers.{cursor}
 use Rattle.splitter.proofs.Steps.{first-none, placed-done}
-use Rattle.splitter.proofs.Answers.{took, ended}
-use Rattle.console.proofs.Standing.{Standing, Writing, stand_first, zeros_shallow, stand_over, stand_known, stand_startable, stand_less}
+use Rattle.splitter.proofs.Answers.{took}
+use Rattle.console.proofs.Standing.{stand_first, zeros_shallow, stand_over, stand_known, stand_startable, stand_less}
 use Rattle.console.proofs.Standing.{stand_count, stand_column, stand_started, stand_ended, stand_hidden, write_words, stands-refused}
 use Rattle.console.proofs.Standing.{stands-done, margin_low, body_few, body-first, column_low, body-done, body-stop, body-on, body-deep}
 use Rattle.console.proofs.Standing.{stand_read, placed-deep, placed_at, nearby_at}

@@ -1,6 +1,5 @@
 use mathlib.Core.Path.{refl}
 use native.Mathlib.Omega.{arith}
-use borrow.Author.Rules.{rules}
 use borrow.Author.Tests.{eq-eqb, ne_eqb}
 use Rattle.base.specs.Choice.{if◌then◌else◌}
 use Rattle.records.specs.declared.Block.TheVariants as block
@@ -11,16 +10,16 @@ use Rattle.console_blocks.proofs.end_lay.Goals as goal
 pub returns-then-i-eq3 : goal.returns-then-i-eq3
 unfolding end_lay if◌then◌else◌
 returns-then-i-eq3 c = record {
-      value = rw (eq-eqb _ _ c.if-i-eq3.true);
-      moved = (refl, omega arith);
-    }
+  value = rw (eq-eqb _ _ c.if-i-eq3.true);
+  moved = (refl, omega arith);
+}
 
 pub returns-then-i-eq5 : goal.returns-then-i-eq5
 unfolding end_lay if◌then◌else◌
 returns-then-i-eq5 c = record {
-      value = rw (ne_eqb _ _ c.if-i-eq3.false, eq-eqb _ _ c.if-i-eq5.true);
-      moved = (refl, omega arith);
-    }
+  value = rw (ne_eqb _ _ c.if-i-eq3.false, eq-eqb _ _ c.if-i-eq5.true);
+  moved = (refl, omega arith);
+}
 
 pub returns-then-l : goal.returns-then-l
 unfolding end_lay if◌then◌else◌

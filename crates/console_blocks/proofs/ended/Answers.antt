@@ -1,5 +1,4 @@
 use native.Mathlib.Omega.{arith}
-use borrow.Author.Rules.{rules}
 use lib.ListN.{length, take}
 use Rattle.console_blocks.proofs.Blocks.{end-done, pop_one}
 use Rattle.console_blocks.proofs.ended.Goals as goal

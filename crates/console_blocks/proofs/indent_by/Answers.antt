@@ -1,8 +1,5 @@
-use mathlib.Core.Path.{refl}
 use native.Mathlib.Omega.{arith}
-use borrow.Author.Rules.{rules}
-use Prim.Native.Nat.{◌^◌}
-use Rattle.console_blocks.proofs.Margins.{push-is, push_shallow, shallow_on}
+use Rattle.console_blocks.proofs.Margins.{push-is, push_shallow}
 use Rattle.console_blocks.proofs.indent_by.Goals as goal
 
 pub returns : goal.returns

@@ -2,7 +2,6 @@ use mathlib.Core.Path.{ap}
 use mathlib.Core.List.{[], ◌∷◌}
 use Prim.Native.Nat.{◌+◌}
 use native.Mathlib.Omega.{arith}
-use borrow.Author.Rules.{rules}
 use Rattle.console_rules.specs.Console.{with_column, tick}
 use Rattle.console_rules.specs.declared.Lay.{Lay}
 use Rattle.console_chunks.proofs.Pages.{wrote}

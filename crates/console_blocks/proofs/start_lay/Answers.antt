@@ -1,11 +1,8 @@
 use mathlib.Core.Path.{refl, ap}
 use Prim.Native.Nat.{ℕ}
 use native.Mathlib.Omega.{arith}
-use borrow.Author.Rules.{rules}
 use borrow.Author.Tests.{lt-ltb, le-ltb, eq-eqb, ne_eqb}
 use Rattle.base.specs.Choice.{if◌then◌else◌}
-use Rattle.records.specs.declared.Block.TheVariants as block
-use Rattle.skip.proofs.Counter.{skip-start_most}
 use Rattle.console_blocks.specs.InnerBlocks.{start_lay}
 use Rattle.console_blocks.proofs.Blocks.{skip_fits, skip_most}
 use Rattle.console_rules.specs.Console.{with_skip}
@@ -14,30 +11,30 @@ use Rattle.console_blocks.proofs.start_lay.Goals as goal
 pub returns-then-g : goal.returns-then-g
 unfolding start_lay if◌then◌else◌
 returns-then-g c = record {
-      value = (λ fits. rw (eq-eqb _ _ c.if-i-eq3.true, c.if-g.true));
-      moved = (refl, omega arith);
-    }
+  value = (λ fits. rw (eq-eqb _ _ c.if-i-eq3.true, c.if-g.true));
+  moved = (refl, omega arith);
+}
 
 pub returns-else-g : goal.returns-else-g
 unfolding start_lay if◌then◌else◌
 returns-else-g c = record {
-      value = (λ fits. rw (eq-eqb _ _ c.if-i-eq3.true, c.if-g.false));
-      moved = (refl, omega arith);
-    }
+  value = (λ fits. rw (eq-eqb _ _ c.if-i-eq3.true, c.if-g.false));
+  moved = (refl, omega arith);
+}
 
 pub returns-then-i-lt5 : goal.returns-then-i-lt5
 unfolding start_lay if◌then◌else◌
 returns-then-i-lt5 c = record {
-      value = (λ fits. rw (ne_eqb _ _ c.if-i-eq3.false, lt-ltb _ _ c.if-i-lt5.true));
-      moved = (refl, omega arith);
-    }
+  value = (λ fits. rw (ne_eqb _ _ c.if-i-eq3.false, lt-ltb _ _ c.if-i-lt5.true));
+  moved = (refl, omega arith);
+}
 
 pub returns-then-i-eq5 : goal.returns-then-i-eq5
 unfolding start_lay if◌then◌else◌
 returns-then-i-eq5 c = record {
-      value = (λ fits. rw (ne_eqb _ _ c.if-i-eq3.false, le-ltb _ _ c.if-i-lt5.false, eq-eqb _ _ c.if-i-eq5.true));
-      moved = (refl, omega arith);
-    }
+  value = (λ fits. rw (ne_eqb _ _ c.if-i-eq3.false, le-ltb _ _ c.if-i-lt5.false, eq-eqb _ _ c.if-i-eq5.true));
+  moved = (refl, omega arith);
+}
 
 pub returns-then-i-eq8 : goal.returns-then-i-eq8
 unfolding start_lay if◌then◌else◌

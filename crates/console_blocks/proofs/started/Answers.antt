@@ -1,6 +1,5 @@
 use mathlib.Core.Path.{sym, ◌∙◌}
 use native.Mathlib.Omega.{arith}
-use borrow.Author.Rules.{rules}
 use lib.ListN.{length, take}
 use Rattle.console_blocks.proofs.Margins.{shallow_on}
 use Rattle.console_blocks.proofs.Blocks.{start-done, push-yes, push-no}

@@ -1,6 +1,5 @@
 use mathlib.Core.Path.{refl, sym, ◌∙◌}
 use native.Mathlib.Omega.{arith}
-use borrow.Author.Rules.{rules}
 use lib.ListN.{length}
 use Rattle.console_rules.specs.Console.{tick}
 use Rattle.console_blocks.specs.InnerBlocks.{tick_if}

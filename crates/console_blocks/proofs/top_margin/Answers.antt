@@ -1,4 +1,3 @@
-use borrow.Author.Rules.{rules}
 use Rattle.console_blocks.proofs.Margins.{top-none, top-some}
 use Rattle.console_blocks.proofs.top_margin.Goals as goal
 

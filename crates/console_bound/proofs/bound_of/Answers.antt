@@ -1,5 +1,5 @@
-use Rattle.console_bound.proofs.Names.{◌-◌, arith, rules, length}
-use Rattle.console_bound.proofs.Counts.{ref_small, Counted, counted_none, counted-on, counted_all}
+use Rattle.console_bound.proofs.Names.{arith}
+use Rattle.console_bound.proofs.Counts.{ref_small, counted-on, counted_all}
 use Rattle.console_bound.proofs.bound_of.Goals as goal
 
 pub overflow_add-refs : goal.overflow_add-refs

@@ -1,5 +1,5 @@
-use Rattle.console_bound.proofs.Names.{◌-◌, arith, rules, length}
-use Rattle.console_bound.proofs.Counts.{ref_small, Counted, counted_none, counted-on, counted_all}
+use Rattle.console_bound.proofs.Names.{◌-◌, length}
+use Rattle.console_bound.proofs.Counts.{Counted}
 use Rattle.console_bound.proofs.bound_of.Given as goal
 
 -- The loop: so many bytes of text and so many TermRef starts and ends stand before `at`, and the others from there on.

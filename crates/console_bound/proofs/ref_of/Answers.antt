@@ -1,4 +1,4 @@
-use Rattle.console_bound.proofs.Names.{sym, ◌∙◌, rules}
+use Rattle.console_bound.proofs.Names.{sym, ◌∙◌}
 use Rattle.console_bound.proofs.Counts.{ref-start, ref-end, ref_neither}
 use Rattle.console_bound.proofs.ref_of.Goals as goal
 

@@ -1,4 +1,4 @@
-use Rattle.console_bound.proofs.Names.{ap, ◌∙◌, [], rules, gives}
+use Rattle.console_bound.proofs.Names.{ap, ◌∙◌, [], gives}
 use Rattle.document.proofs.Walks.{check-gives, verdict_gives, verdict_refused}
 use Rattle.console_bound.proofs.Counts.{bound-gives, bound-refused, bound_enough}
 use Rattle.console_bound.proofs.room_bound.Goals as goal

@@ -1,5 +1,4 @@
-use Rattle.std.proofs.Common.{[], ◌∷◌, length, sym, refl, ◌∙◌, rules}
-use borrow.Author.Tests.{not-true, not-false}
+use Rattle.std.proofs.Common.{[], ◌∷◌, length, sym, refl, ◌∙◌}
 use Rattle.renderer.specs.Walk.{write}
 use Rattle.console_rules.specs.Console.{due_blank}
 use Rattle.console_chunks.proofs.Pages.{wrote, agree, idle}

@@ -1,5 +1,4 @@
-use Rattle.std.proofs.Common.{length, sym, ◌∙◌, rules}
-use borrow.Author.Tests.{not-true, not-false}
+use Rattle.std.proofs.Common.{length, sym, ◌∙◌}
 use Rattle.console_rules.specs.Console.{line_end, due_line}
 use Rattle.console_chunks.proofs.Pages.{agree, idle}
 use Rattle.console_chunks.proofs.Chunks.{line_idle, line_there, line_due, near_same}

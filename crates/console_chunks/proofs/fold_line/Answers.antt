@@ -1,4 +1,4 @@
-use Rattle.std.proofs.Common.{refl, rules}
+use Rattle.std.proofs.Common.{refl}
 use Rattle.console_chunks.proofs.Chunks.{fold_done}
 use Rattle.console_chunks.proofs.fold_line.Goals as goal
 

@@ -1,4 +1,3 @@
-use Rattle.std.proofs.Common.{rules}
 use Rattle.console_chunks.proofs.Chunks.{space_one, space_not}
 use Rattle.console_chunks.proofs.is_space.Goals as goal
 

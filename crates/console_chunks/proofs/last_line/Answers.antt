@@ -1,4 +1,4 @@
-use Rattle.std.proofs.Common.{[], ◌∷◌, length, sym, refl, ◌∙◌, rules}
+use Rattle.std.proofs.Common.{[], ◌∷◌, length, sym, refl, ◌∙◌}
 use Rattle.console_chunks.proofs.Pages.{wrote}
 use Rattle.console_chunks.proofs.Bodies.{last_due, last_none}
 use Rattle.console_chunks.proofs.last_line.Goals as goal

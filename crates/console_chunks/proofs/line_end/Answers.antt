@@ -1,4 +1,4 @@
-use Rattle.std.proofs.Common.{[], ◌∷◌, arith, rules}
+use Rattle.std.proofs.Common.{[], ◌∷◌, arith}
 use Rattle.console_rules.specs.Console.{with_column, line_end}
 use Rattle.console_chunks.proofs.Pages.{wrote}
 use Rattle.console_chunks.proofs.Chunks.{near_column}

@@ -1,4 +1,4 @@
-use Rattle.std.proofs.Common.{◌+◌, ◌-◌, length, replicate, sym, ◌∙◌, arith, rules}
+use Rattle.std.proofs.Common.{◌+◌, ◌-◌, length, replicate, sym, ◌∙◌, arith}
 use Rattle.console_rules.specs.Console.{with_column, pad_gutter}
 use Rattle.console_chunks.proofs.Pages.{wrote, agree, idle}
 use Rattle.console_chunks.proofs.Chunks.{gap_no, gap_near, gap_wide, gap_due, near_same, near_column}

@@ -1,4 +1,4 @@
-use Rattle.std.proofs.Common.{◌+◌, ltb, sym, ap, ◌∙◌, arith, rules}
+use Rattle.std.proofs.Common.{◌+◌, ltb, sym, ap, ◌∙◌, arith}
 use Rattle.console_rules.specs.Console.{measure_of}
 use Rattle.console_chunks.proofs.Chunks.{raw-first, raw-next, rest_put, rest-dropped, rest_folded, near_then, near_on}
 use Rattle.console_chunks.proofs.place_chunk.Goals as goal

@@ -1,4 +1,4 @@
-use Rattle.std.proofs.Common.{ℕ, ◌+◌, ap, arith, rules}
+use Rattle.std.proofs.Common.{ℕ, ◌+◌, ap, arith}
 use Rattle.console_rules.specs.Console.{with_column, settled, place}
 use Rattle.console_chunks.proofs.Pages.{wrote}
 use Rattle.console_chunks.proofs.place_here.Goals as goal

@@ -1,10 +1,7 @@
-use Rattle.std.proofs.Common.{length, sym, ap, ◌∙◌, rules}
-use mathlib.Core.Bool.{false≢true}
+use Rattle.std.proofs.Common.{length, ap}
 use Rattle.splitter.specs.Answers.{chunk_of}
-use Rattle.console_chunks.specs.InnerPieces.{is_text}
 use Rattle.console_rules.specs.Console.{measure_of}
-use Rattle.console_chunks.proofs.Chunks.{near_same}
-use Rattle.console_chunks.proofs.Bodies.{chunk-paragraph, chunk_break}
+use Rattle.console_chunks.proofs.Bodies.{chunk_break}
 use Rattle.console_chunks.proofs.put_break.Goals as goal
 
 pub returns-in-LineBreak : goal.returns-in-LineBreak

@@ -1,4 +1,4 @@
-use Rattle.std.proofs.Common.{◌+◌, arith, rules}
+use Rattle.std.proofs.Common.{◌+◌, arith}
 use Rattle.console_chunks.proofs.Pages.{over}
 use Rattle.console_chunks.proofs.Chunks.{deep, put-done, near_same, near_then}
 use Rattle.console_chunks.proofs.put_chunk.Goals as goal

@@ -1,4 +1,4 @@
-use Rattle.std.proofs.Common.{length, arith, rules}
+use Rattle.std.proofs.Common.{length, arith}
 use Rattle.console_rules.specs.Console.{measure_of}
 use Rattle.console_chunks.proofs.Bodies.{paragraph_full, paragraph-short, skipped}
 use Rattle.console_chunks.proofs.put_paragraph.Goals as goal

@@ -1,4 +1,4 @@
-use Rattle.std.proofs.Common.{◌-◌, max, length, replicate, refl, ◌∙◌, arith, rules}
+use Rattle.std.proofs.Common.{◌-◌, max, length, replicate, refl, ◌∙◌, arith}
 use Rattle.console_rules.specs.Console.{with_column, reach}
 use Rattle.console_chunks.proofs.Pages.{wrote, agree}
 use Rattle.console_chunks.proofs.Chunks.{near_column}

@@ -1,5 +1,4 @@
 use mathlib.Core.Path.{sym, ◌∙◌}
-use borrow.Author.Rules.{rules}
 use Rattle.console_tabstop.proofs.Scans.{empty-none, empty-one, empty-two}
 use Rattle.console_tabstop.proofs.empty_block.Goals as goal
 

@@ -1,24 +1,9 @@
-use mathlib.Core.Path.{◌≡◌, refl, sym, ap, ◌∙◌}
-use Prim.Native.Nat.{◌+◌, ◌-◌}
+use mathlib.Core.Path.{sym, ◌∙◌}
 use native.Mathlib.Omega.{arith}
-use borrow.Author.Rules.{rules}
-use lib.ListN.{length}
-use Rattle.records.specs.Records.{tokens_from}
 use Rattle.records.specs.Answers.{head_of}
-use Rattle.console_rules.specs.Console.{Terms, terms, settled_from}
 use Rattle.console_tabstop.specs.InnerCounted.{terms_of}
-use Rattle.console_tabstop.proofs.Searching.{On, on-done, on_few, on-settled, on-next}
+use Rattle.console_tabstop.proofs.Searching.{on-done, on-settled, on-next}
 use Rattle.console_tabstop.proofs.find_from.Goals as goal
-
--- OLD GOAL slice-bounds-term-on-start
--- part-term-on-start : tie.Need-slice-bounds-term-on-start invariant-loop decreases-loop
--- part-term-on-start c = let r = c.before.before.raw_at.ensures in omega (arith, r.order)
--- 
-
--- OLD GOAL slice-bounds-term-on-end
--- part-term-on-end : tie.Need-slice-bounds-term-on-end invariant-loop decreases-loop
--- part-term-on-end c = let r = c.before.before.raw_at.ensures in omega (arith, r.high)
--- 
 
 pub loop-i-preserved : goal.loop-i-preserved
 loop-i-preserved c =

@@ -1,13 +1,9 @@
-use mathlib.Core.Path.{◌≡◌, refl, sym, ap, ◌∙◌}
-use Prim.Native.Nat.{◌+◌, ◌-◌}
-use native.Mathlib.Omega.{arith}
-use borrow.Author.Rules.{rules}
+use Prim.Native.Nat.{◌-◌}
 use lib.ListN.{length}
 use Rattle.records.specs.Records.{tokens_from}
-use Rattle.records.specs.Answers.{head_of}
-use Rattle.console_rules.specs.Console.{Terms, terms, settled_from}
+use Rattle.console_rules.specs.Console.{terms, settled_from}
 use Rattle.console_tabstop.specs.InnerCounted.{terms_of}
-use Rattle.console_tabstop.proofs.Searching.{On, on-done, on_few, on-settled, on-next}
+use Rattle.console_tabstop.proofs.Searching.{On}
 use Rattle.console_tabstop.proofs.find_from.Given as goal
 
 -- Invariant: from the record at i on, what was counted gives what it gives from the record at `from` on (On).

@@ -1,16 +1,10 @@
-use mathlib.Core.Path.{◌≡◌, refl, sym, ap, ◌∙◌}
-use mathlib.Core.Bool.{false}
-use Prim.Native.Nat.{◌+◌, ◌-◌}
+use mathlib.Core.Path.{sym, ap, ◌∙◌}
+use Prim.Native.Nat.{◌+◌}
 use native.Mathlib.Omega.{arith}
-use borrow.Author.Rules.{rules}
-use borrow.Author.Tests.{not-false}
-use lib.ListN.{length}
-use Rattle.records.specs.Records.{tokens}
 use Rattle.records.specs.Answers.{head_of, Read}
-use Rattle.console_rules.specs.Console.{Terms, terms, tabstop, settled_from, settled_at}
+use Rattle.console_rules.specs.Console.{Terms, tabstop, settled_at}
 use Rattle.console_tabstop.specs.InnerCounted.{terms_of}
-use Rattle.console_tabstop.proofs.Searching.{On, on-done, on_few, on-settled, on-next}
-use Rattle.console_tabstop.proofs.find_tabstop.Invariants.{none}
+use Rattle.console_tabstop.proofs.Searching.{on-done, on-settled, on-next}
 use Rattle.console_tabstop.proofs.find_tabstop.Goals.{After-whole_raw_at-h}
 use Rattle.console_tabstop.proofs.find_tabstop.Goals as goal
 
@@ -19,16 +13,6 @@ read : (c : After-whole_raw_at-h)
     → Read c.args.document.now c.loop-at.at
     (head_of c.whole_raw_at-h.result)
 read c = c.whole_raw_at-h.ensures (sym c.fits_at.ensures ∙ c.if-not-fits_at.false)
-
--- OLD GOAL slice-bounds-term-on-start
--- part-term-on-start : tie.Need-slice-bounds-term-on-start invariant-loop decreases-loop
--- part-term-on-start c = let r = read c.before.before in omega (arith, r.order)
--- 
-
--- OLD GOAL slice-bounds-term-on-end
--- part-term-on-end : tie.Need-slice-bounds-term-on-end invariant-loop decreases-loop
--- part-term-on-end c = let r = read c.before.before in omega (arith, r.high)
--- 
 
 pub loop-at-preserved : goal.loop-at-preserved
 loop-at-preserved c =

@@ -1,15 +1,10 @@
-use mathlib.Core.Path.{◌≡◌, refl, sym, ap, ◌∙◌}
 use mathlib.Core.Bool.{false}
-use Prim.Native.Nat.{◌+◌, ◌-◌}
-use native.Mathlib.Omega.{arith}
-use borrow.Author.Rules.{rules}
-use borrow.Author.Tests.{not-false}
+use Prim.Native.Nat.{◌-◌}
 use lib.ListN.{length}
 use Rattle.records.specs.Records.{tokens}
-use Rattle.records.specs.Answers.{head_of, Read}
-use Rattle.console_rules.specs.Console.{Terms, terms, tabstop, settled_from, settled_at}
+use Rattle.console_rules.specs.Console.{Terms, terms, settled_from}
 use Rattle.console_tabstop.specs.InnerCounted.{terms_of}
-use Rattle.console_tabstop.proofs.Searching.{On, on-done, on_few, on-settled, on-next}
+use Rattle.console_tabstop.proofs.Searching.{On}
 use Rattle.console_tabstop.proofs.find_tabstop.Given as goal
 
 -- Invariant: from the record at `at` on, what was counted gives what all records give from nothing (On).

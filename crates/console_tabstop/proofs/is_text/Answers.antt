@@ -1,4 +1,3 @@
-use borrow.Author.Rules.{rules}
 use Rattle.records.proofs.Codes.{text-low, text-high}
 use Rattle.console_tabstop.proofs.is_text.Goals as goal
 

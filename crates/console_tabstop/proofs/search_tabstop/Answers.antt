@@ -1,5 +1,4 @@
 use mathlib.Core.List.{[]}
-use borrow.Author.Rules.{rules}
 use Rattle.document.proofs.Walks.{verdict_gives, verdict_refused}
 use Rattle.console_tabstop.proofs.Settled.{search_refused, search_found}
 use Rattle.console_tabstop.proofs.search_tabstop.Goals as goal

@@ -1,13 +1,8 @@
-use mathlib.Core.Path.{◌≡◌, ap, ◌∙◌}
-use Prim.Native.Nat.{ℕ, ◌-◌}
-use native.Mathlib.Omega.{arith}
-use borrow.Author.Rules.{rules}
-use lib.ListN.{length}
+use mathlib.Core.Path.{ap}
 use Rattle.records.specs.Records.{is_end}
 use Rattle.records.specs.Answers.{head_of}
 use Rattle.records.specs.declared.Block.TheVariants as block
 use Rattle.records.proofs.Codes.{end-by-code, no-end-code}
-use Rattle.console_tabstop.specs.InnerAhead.{Ahead}
 use Rattle.console_tabstop.proofs.Ahead.{ahead_none, ahead-here, ahead-later}
 use Rattle.console_tabstop.proofs.section_end.Goals as goal
 

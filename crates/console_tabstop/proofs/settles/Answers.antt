@@ -1,6 +1,5 @@
-use mathlib.Core.Path.{sym, ap, ◌∙◌}
+use mathlib.Core.Path.{sym, ap}
 use mathlib.Core.Bool.{Bool, ◌&&◌}
-use borrow.Author.Rules.{rules}
 use lib.Dec.{eqb}
 use Rattle.records.specs.Records.{is_end}
 use Rattle.records.specs.declared.Block.TheVariants as block

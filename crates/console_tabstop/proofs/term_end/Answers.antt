@@ -1,4 +1,3 @@
-use borrow.Author.Rules.{rules}
 use Rattle.console_tabstop.specs.InnerCounted.{terms_of}
 use Rattle.console_tabstop.proofs.Scans.{end-term, wider, not_wider, too_wide}
 use Rattle.console_tabstop.proofs.term_end.Goals as goal

@@ -1,4 +1,3 @@
-use borrow.Author.Rules.{rules}
 use Rattle.console_tabstop.specs.InnerCounted.{terms_of}
 use Rattle.console_tabstop.proofs.Scans.{start-term}
 use Rattle.console_tabstop.proofs.term_start.Goals as goal

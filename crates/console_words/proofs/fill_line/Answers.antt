@@ -1,11 +1,9 @@
-use mathlib.Core.Path.{◌∙◌}
-use Prim.Native.Nat.{◌+◌, ◌-◌, ◌^◌, ◌≤◌, ◌<◌}
+use Prim.Native.Nat.{◌+◌, ◌-◌, ◌≤◌}
 use native.Mathlib.Omega.{arith}
 use borrow.Author.Rules.{rules}
-use lib.ListN.{length}
 use Rattle.words.proofs.Copying.{part-narrow}
 use Rattle.console_words.specs.InnerAdvance.{LineAdvance}
-use Rattle.console_words.proofs.Advance.{line_advance_start, onward_run}
+use Rattle.console_words.proofs.Advance.{onward_run}
 use Rattle.console_words.proofs.fill_line.Goals.{After-copy_run-run}
 use Rattle.console_words.proofs.fill_line.Goals as goal
 

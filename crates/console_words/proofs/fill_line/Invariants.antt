@@ -1,11 +1,6 @@
-use mathlib.Core.Path.{◌∙◌}
-use Prim.Native.Nat.{◌+◌, ◌-◌, ◌^◌, ◌≤◌, ◌<◌}
-use native.Mathlib.Omega.{arith}
-use borrow.Author.Rules.{rules}
+use Prim.Native.Nat.{◌-◌}
 use lib.ListN.{length}
-use Rattle.words.proofs.Copying.{part-narrow}
 use Rattle.console_words.specs.InnerAdvance.{LineAdvance}
-use Rattle.console_words.proofs.Advance.{line_advance_start, onward_run}
 use Rattle.console_words.proofs.fill_line.Given as goal
 
 -- Invariant: the words up to `at` stand in the room, and from there on the rule goes on as it does from `from` (LineAdvance).

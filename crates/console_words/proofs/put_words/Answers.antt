@@ -1,6 +1,4 @@
-use borrow.Author.Rules.{rules}
-use borrow.Author.Tests.{not-false}
-use Rattle.console_words.proofs.Advance.{ready, moves_none, moves_on}
+use Rattle.console_words.proofs.Advance.{ready, moves_on}
 use Rattle.console_words.proofs.put_words.Goals as goal
 
 pub returns : goal.returns

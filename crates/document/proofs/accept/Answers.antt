@@ -1,5 +1,4 @@
-use Rattle.document.proofs.Names.{sym, ap, ◌∙◌, ℕ, arith, rules, take, opens, closes}
-use Rattle.records.proofs.Tables.{index_small}
+use Rattle.document.proofs.Names.{sym, ap, ◌∙◌, ℕ, arith, take, opens, closes}
 use Rattle.document.proofs.Opening.{accept_unknown, accept-text, accept-other, accept-start, accept-end, accept-start-body, accept-end-body}
 use Rattle.document.proofs.accept.Goals as goal
 
@@ -27,9 +26,9 @@ returns-then-start-stop-2 c =
 
 pub returns-in-Unknown : goal.returns-in-Unknown
 returns-in-Unknown c = record {
-      «open» = accept_unknown c.args.at _ _ c.in-Unknown.is;
-      shallow = omega arith;
-    }
+  «open» = accept_unknown c.args.at _ _ c.in-Unknown.is;
+  shallow = omega arith;
+}
 
 pub returns-else-valid : goal.returns-else-valid
 returns-else-valid c =

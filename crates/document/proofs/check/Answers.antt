@@ -1,4 +1,4 @@
-use Rattle.document.proofs.Names.{arith, rules}
+use Rattle.document.proofs.Names.{arith}
 use Rattle.document.proofs.Opening.{check_long, check-refused, check-closed, check-left}
 use Rattle.document.proofs.check.Goals as goal
 

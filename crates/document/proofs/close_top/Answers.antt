@@ -1,12 +1,12 @@
-use Rattle.document.proofs.Names.{arith, rules}
+use Rattle.document.proofs.Names.{arith}
 use Rattle.document.proofs.Opening.{closes-none, closes-other, closes-same}
 use Rattle.document.proofs.close_top.Goals as goal
 
 pub returns-then-depth-lt1 : goal.returns-then-depth-lt1
 returns-then-depth-lt1 c = let a = c.args in record {
-      «open» = closes-none (a.stack.now) a.depth a.i a.at (omega arith) c.if-depth-lt1.true;
-      shallow = omega arith;
-    }
+  «open» = closes-none (a.stack.now) a.depth a.i a.at (omega arith) c.if-depth-lt1.true;
+  shallow = omega arith;
+}
 
 pub returns-then-stack-depth : goal.returns-then-stack-depth
 returns-then-stack-depth c =

@@ -1,4 +1,4 @@
-use Rattle.document.proofs.Names.{arith, rules}
+use Rattle.document.proofs.Names.{arith}
 use Rattle.document.proofs.Opening.{opens-deep, opens-more, put-deep, put-past, put-more}
 use Rattle.document.proofs.open_block.Goals as goal
 

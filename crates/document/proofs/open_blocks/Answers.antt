@@ -1,4 +1,4 @@
-use Rattle.document.proofs.Names.{◌≡◌, refl, sym, ◌∙◌, ◌-◌, ◌≤◌, arith, rules, not-true, not-false, length, take, drop, reads, open_blocks}
+use Rattle.document.proofs.Names.{refl, sym, ◌∙◌, arith, not-true, not-false, open_blocks}
 use Rattle.document.proofs.Refusals.{reads_end}
 use Rattle.document.proofs.Opening.{turn_open, turn_shallow, turn-refused, reads-cut, reads_on, reads-refused}
 use Rattle.document.proofs.open_blocks.Goals as goal

@@ -1,6 +1,4 @@
-use Rattle.document.proofs.Names.{◌≡◌, refl, sym, ◌∙◌, ◌-◌, ◌≤◌, arith, rules, not-true, not-false, length, take, drop, reads, open_blocks}
-use Rattle.document.proofs.Refusals.{reads_end}
-use Rattle.document.proofs.Opening.{turn_open, turn_shallow, turn-refused, reads-cut, reads_on, reads-refused}
+use Rattle.document.proofs.Names.{◌≡◌, ◌-◌, ◌≤◌, length, take, drop, reads, open_blocks}
 use Rattle.document.proofs.open_blocks.Given as goal
 
 -- Invariant: at most 32 blocks are open, and reading on from `at` with them gives what the whole document gives.

@@ -1,6 +1,3 @@
-use borrow.Author.Rules.{rules}
-use Rattle.splitter.specs.Answers.{cursor}
-use Rattle.splitter.proofs.Answers.{took}
 use Rattle.next_chunk.proofs.Numbers.{next_taken, next-done}
 use Rattle.next_chunk.proofs.next_chunk.Goals as goal
 

@@ -1,5 +1,4 @@
 use mathlib.Core.Path.{sym, ◌∙◌}
-use borrow.Author.Rules.{rules}
 use Rattle.next_chunk.proofs.Numbers.{space_part, space_of_line-end}
 use Rattle.next_chunk.proofs.space_number.Goals as goal
 

@@ -1,4 +1,4 @@
-use Rattle.pages.proofs.Names.{◌≡◌, ap, ⊎_elim, ℕ, ◌≤◌, ◌-◌, ◌+◌, arith, rules, drop, get_or, feeds}
+use Rattle.pages.proofs.Names.{arith, get_or}
 use Rattle.pages.proofs.Rows.{feeds-step, feed-yes, feed-no}
 use Rattle.pages.proofs.feeds_in.Goals.{else-s-i-eq10, then-s-i-eq10}
 use Rattle.pages.proofs.feeds_in.Goals as goal

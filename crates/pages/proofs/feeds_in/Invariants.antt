@@ -1,5 +1,4 @@
-use Rattle.pages.proofs.Names.{◌≡◌, ap, ⊎_elim, ℕ, ◌≤◌, ◌-◌, ◌+◌, arith, rules, drop, get_or, feeds}
-use Rattle.pages.proofs.Rows.{feeds-step, feed-yes, feed-no}
+use Rattle.pages.proofs.Names.{◌≡◌, ◌≤◌, ◌-◌, ◌+◌, drop, feeds}
 use Rattle.pages.proofs.feeds_in.Given as goal
 
 -- n line feeds stand from a up to i, no more than bytes, and those after i make up the rest.

@@ -1,6 +1,6 @@
-use Rattle.pages.proofs.Names.{◌-◌, ◌*◌, arith, rules}
+use Rattle.pages.proofs.Names.{◌-◌, ◌*◌, arith}
 use Rattle.pages.proofs.Rows.{bytes-within}
-use Rattle.pages.proofs.Paging.{allowed-below, allowed_over, before-refused, before-none, before-beyond, page-refused, far, near, found_none}
+use Rattle.pages.proofs.Paging.{allowed-below, allowed_over, before-refused, before-none, before-beyond, page-refused, far, found_none}
 use Rattle.pages.proofs.Paging.{page_found}
 use Rattle.pages.proofs.find_page.Goals as goal
 

@@ -1,4 +1,4 @@
-use Rattle.pages.proofs.Names.{◌≡◌, ap, ℕ, ◌≤◌, ◌-◌, ◌+◌, arith, length, drop, feeds}
+use Rattle.pages.proofs.Names.{◌≡◌, ap, ℕ, arith, length, drop, feeds}
 use Rattle.pages.proofs.Rows.{feeds-past}
 use Rattle.pages.proofs.line_feeds.Goals as goal
 

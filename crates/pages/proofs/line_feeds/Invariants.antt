@@ -1,5 +1,4 @@
-use Rattle.pages.proofs.Names.{◌≡◌, ap, ℕ, ◌≤◌, ◌-◌, ◌+◌, arith, length, drop, feeds}
-use Rattle.pages.proofs.Rows.{feeds-past}
+use Rattle.pages.proofs.Names.{◌≡◌, ◌≤◌, ◌-◌, ◌+◌, length, drop, feeds}
 use Rattle.pages.proofs.line_feeds.Given as goal
 
 -- n line feeds stand up to i, no more than bytes, and those after i make up the rest.

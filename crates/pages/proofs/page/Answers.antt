@@ -1,5 +1,5 @@
-use Rattle.pages.proofs.Names.{arith, rules}
-use Rattle.pages.proofs.Paging.{shown-part, shown-refused}
+use Rattle.pages.proofs.Names.{arith}
+use Rattle.pages.proofs.Paging.{shown-part}
 use Rattle.pages.proofs.page.Goals as goal
 
 pub overflow_add-stop : goal.overflow_add-stop

@@ -1,4 +1,4 @@
-use Rattle.pages.proofs.Names.{◌-◌, arith, rules, div-le_self}
+use Rattle.pages.proofs.Names.{arith}
 use Rattle.pages.proofs.Paging.{allowed-below, allowed_over, count_refused, count_zero, count_more}
 use Rattle.pages.proofs.page_count.Goals as goal
 

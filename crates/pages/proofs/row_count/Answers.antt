@@ -1,4 +1,4 @@
-use Rattle.pages.proofs.Names.{arith, rules}
+use Rattle.pages.proofs.Names.{arith}
 use Rattle.pages.proofs.Rows.{rows_few, rows_count, feed-yes, feed-no}
 use Rattle.pages.proofs.row_count.Goals as goal
 

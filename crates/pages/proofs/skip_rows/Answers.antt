@@ -1,4 +1,4 @@
-use Rattle.pages.proofs.Names.{◌≡◌, refl, sym, ◌∙◌, ◌+◌, ◌-◌, ◌≤◌, arith, length, drop, bytes_of}
+use Rattle.pages.proofs.Names.{arith}
 use Rattle.pages.proofs.Rows.{pass_block}
 use Rattle.pages.proofs.skip_rows.Goals as goal
 

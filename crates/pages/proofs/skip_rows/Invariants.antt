@@ -1,5 +1,4 @@
-use Rattle.pages.proofs.Names.{◌≡◌, refl, sym, ◌∙◌, ◌+◌, ◌-◌, ◌≤◌, arith, length, drop, bytes_of}
-use Rattle.pages.proofs.Rows.{pass_block}
+use Rattle.pages.proofs.Names.{◌≡◌, ◌+◌, ◌-◌, ◌≤◌, length, drop, bytes_of}
 use Rattle.pages.proofs.skip_rows.Given as goal
 
 -- From i on, the rows that are due end where k rows end from the first place on.

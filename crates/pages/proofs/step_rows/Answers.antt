@@ -1,4 +1,4 @@
-use Rattle.pages.proofs.Names.{◌≡◌, refl, ⊎_elim, ◌+◌, ◌-◌, ◌≤◌, arith, rules, length, drop, bytes_of}
+use Rattle.pages.proofs.Names.{arith}
 use Rattle.pages.proofs.Rows.{pass_stops, pass_feed, pass_other, pass_ends}
 use Rattle.pages.proofs.step_rows.Goals.{else-s-i-eq10, then-s-i-eq10}
 use Rattle.pages.proofs.step_rows.Goals as goal

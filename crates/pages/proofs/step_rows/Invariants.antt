@@ -1,5 +1,4 @@
-use Rattle.pages.proofs.Names.{◌≡◌, refl, ⊎_elim, ◌+◌, ◌-◌, ◌≤◌, arith, rules, length, drop, bytes_of}
-use Rattle.pages.proofs.Rows.{pass_stops, pass_feed, pass_other, pass_ends}
+use Rattle.pages.proofs.Names.{◌≡◌, ◌+◌, ◌-◌, ◌≤◌, length, drop, bytes_of}
 use Rattle.pages.proofs.step_rows.Given as goal
 
 -- From i on, the rows that are due end where k rows end from the first place on.

@@ -1,4 +1,3 @@
-use borrow.Author.Rules.{rules}
 use Rattle.record_writer.proofs.Heads.{head_bytes}
 use Rattle.record_writer.proofs.head_of.Goals as goal
 

@@ -1,4 +1,4 @@
-use Rattle.records.proofs.Names.{arith, rules}
+use Rattle.records.proofs.Names.{arith}
 use Rattle.records.proofs.Reading.{fits_short, fits_by}
 use Rattle.records.proofs.fits_at.Goals as goal
 

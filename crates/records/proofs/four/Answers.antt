@@ -1,4 +1,4 @@
-use Rattle.records.proofs.Names.{sym, ◌+◌, arith, rules}
+use Rattle.records.proofs.Names.{sym, ◌+◌, arith}
 use Rattle.records.proofs.Reading.{little-none, little-four}
 use Rattle.records.proofs.four.Goals as goal
 

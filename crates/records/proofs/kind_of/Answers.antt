@@ -1,4 +1,4 @@
-use Rattle.records.proofs.Names.{arith, rules}
+use Rattle.records.proofs.Names.{arith}
 use Rattle.records.proofs.Reading.{kind_text, kind_start, kind_end, kind_0, kind_1, kind_2, kind_3}
 use Rattle.records.proofs.kind_of.Goals as goal
 

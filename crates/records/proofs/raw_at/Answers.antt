@@ -1,4 +1,4 @@
-use Rattle.records.proofs.Names.{ap, arith, rules, kind_of, size}
+use Rattle.records.proofs.Names.{ap, arith, kind_of, size}
 use Rattle.records.proofs.Reading.{read-past-raw, read_short, read-cut, read_whole}
 use Rattle.records.proofs.raw_at.Goals as goal
 

@@ -1,4 +1,4 @@
-use Rattle.records.proofs.Names.{sym, ◌∙◌, arith, rules}
+use Rattle.records.proofs.Names.{sym, ◌∙◌, arith}
 use Rattle.records.proofs.Reading.{little-none, little-one}
 use Rattle.records.proofs.two.Goals as goal
 

@@ -1,4 +1,4 @@
-use Rattle.records.proofs.Names.{ap, ◌∙◌, false≢true, arith, rules, kind_of, size}
+use Rattle.records.proofs.Names.{ap, ◌∙◌, false≢true, arith, kind_of, size}
 use Rattle.records.proofs.Reading.{fits_short, read_fits}
 use Rattle.records.proofs.whole_raw_at.Goals as goal
 

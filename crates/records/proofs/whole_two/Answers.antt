@@ -1,4 +1,4 @@
-use Rattle.records.proofs.Names.{arith, rules}
+use Rattle.records.proofs.Names.{arith}
 use Rattle.records.proofs.Reading.{little-two}
 use Rattle.records.proofs.whole_two.Goals as goal
 

@@ -1,5 +1,4 @@
-use Rattle.renderer.proofs.Names.{rules}
-use Rattle.renderer.proofs.Clearing.{cleared_text, cleared_refused}
+use Rattle.renderer.proofs.Clearing.{cleared_refused}
 use Rattle.renderer.proofs.clear_after.Goals as goal
 
 pub returns-in-Refused : goal.returns-in-Refused

@@ -1,4 +1,4 @@
-use Rattle.room.proofs.Names.{arith, rules}
+use Rattle.room.proofs.Names.{arith}
 use Rattle.room.proofs.Laws.{cleared, nothing-to_clear}
 use Rattle.room.proofs.clear_from.Goals as goal
 

@@ -1,4 +1,4 @@
-use Rattle.room.proofs.Names.{sym, ◌∙◌, rules}
+use Rattle.room.proofs.Names.{sym, ◌∙◌}
 use Rattle.room.proofs.Laws.{ends_in, ends_short}
 use Rattle.room.proofs.ends_with.Goals as goal
 

@@ -1,6 +1,4 @@
-use Rattle.room.proofs.Names.{◌≡◌, refl, ◌∙◌, ◌++◌, ◌+◌, ◌-◌, ◌≤◌, arith, rules, length, take, replicate, length-set, append-nil}
-use native.Mathlib.Nat.{add-zero}
-use Rattle.room.proofs.Laws.{filled_more}
+use Rattle.room.proofs.Names.{◌≡◌, ◌++◌, ◌+◌, ◌-◌, ◌≤◌, length, take, replicate}
 use Rattle.room.proofs.fill_at.Given as goal
 
 -- Invariant: k copies of the byte stand in the room from `at` on, and what is before them as it was.

@@ -1,4 +1,4 @@
-use Rattle.room.proofs.Names.{refl, [], ◌∷◌, arith, add-one, rules, set, length-set, take-suc-set}
+use Rattle.room.proofs.Names.{refl, [], ◌∷◌, arith, add-one, set, length-set, take-suc-set}
 use Rattle.room.proofs.Laws.{wrote, full}
 use Rattle.room.proofs.put.Goals as goal
 

@@ -1,4 +1,4 @@
-use Rattle.room.proofs.Names.{refl, ⊎_elim, ◌+◌, ◌-◌, arith, rules, length}
+use Rattle.room.proofs.Names.{refl, ◌+◌, ◌-◌, arith, length}
 use Rattle.room.proofs.Laws.{part_length, part_wrote, wrote, full}
 use Rattle.room.proofs.put_all.Goals.{else-len-room, then-len-room+else-bytes-room}
 use Rattle.room.proofs.put_all.Goals as goal
@@ -16,5 +16,7 @@ returns-then-bytes-room c =
 pub returns : goal.returns
 returns c =
     let a = c.args in
-    full (a.room.now) (a.room.now) (a.bytes.now) a.len _ refl refl (elim c.if-len-room.branch [ then-len-room+else-bytes-room w ↦ omega arith
-    | else-len-room w ↦ omega arith ])
+    full (a.room.now) (a.room.now) (a.bytes.now) a.len _ refl refl (elim c.if-len-room.branch [
+      | then-len-room+else-bytes-room w ↦ omega arith
+      | else-len-room w ↦ omega arith
+    ])

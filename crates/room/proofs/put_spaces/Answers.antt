@@ -1,4 +1,4 @@
-use Rattle.room.proofs.Names.{refl, ⊎_elim, arith, rules, replicate, length-replicate}
+use Rattle.room.proofs.Names.{refl, arith, replicate, length-replicate}
 use Rattle.room.proofs.Laws.{wrote, full}
 use Rattle.room.proofs.put_spaces.Goals.{else-len-room, then-len-room+else-n-room}
 use Rattle.room.proofs.put_spaces.Goals as goal
@@ -13,5 +13,7 @@ pub returns : goal.returns
 returns c =
     let a = c.args in
     full (a.room.now) (a.room.now) (replicate a.n 0x20) a.len a.n (length-replicate a.n 0x20) refl
-    (elim c.if-len-room.branch [ then-len-room+else-n-room w ↦ omega arith
-    | else-len-room w ↦ omega arith ])
+    (elim c.if-len-room.branch [
+      | then-len-room+else-n-room w ↦ omega arith
+      | else-len-room w ↦ omega arith
+    ])

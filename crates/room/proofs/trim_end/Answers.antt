@@ -1,4 +1,3 @@
-use Rattle.room.proofs.Names.{sym, rules, length-take-le}
 use Rattle.room.proofs.Laws.{trimmed, trimmed_out}
 use Rattle.room.proofs.trim_end.Goals as goal
 

@@ -1,4 +1,4 @@
-use Rattle.runs.proofs.Names.{sym, ◌∙◌, ◌+◌, ◌≤◌, ◌<◌, arith, rules, le-leb, lt-leb, length, if_true, if_false}
+use Rattle.runs.proofs.Names.{sym, ◌∙◌, ◌+◌, ◌≤◌, ◌<◌, arith, le-leb, lt-leb, length, if_true, if_false}
 use Rattle.runs.proofs.first_of.Goals as goal
 
 pub returns-then-s-at : goal.returns-then-s-at

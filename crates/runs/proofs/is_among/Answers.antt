@@ -1,4 +1,3 @@
-use borrow.Author.Rules.{rules}
 use Rattle.runs.proofs.Runs.{mark_tells}
 use Rattle.runs.proofs.is_among.Goals as goal
 

@@ -1,6 +1,6 @@
-use Rattle.runs.proofs.Names.{◌≡◌, sym, ap, ◌∙◌, Bool, inr, List, ℕ, ◌+◌, ◌-◌, ◌≤◌, min, arith, rules, length, take, drop, length-drop}
+use Rattle.runs.proofs.Names.{◌≡◌, sym, ap, ◌∙◌, Bool, List, ℕ, ◌+◌, ◌≤◌, min, arith, length, take, drop, length-drop}
 use Rattle.runs.proofs.Names.{length-take-le, if◌then◌else◌, among}
-use Rattle.runs.proofs.Runs.{Least, least_more, least_all, block_byte}
+use Rattle.runs.proofs.Runs.{least_more, least_all, block_byte}
 use Rattle.runs.proofs.least_place.Goals as goal
 
 -- there are 32

@@ -1,6 +1,6 @@
-use Rattle.runs.proofs.Names.{◌≡◌, sym, ap, ◌∙◌, Bool, inr, List, ℕ, ◌+◌, ◌-◌, ◌≤◌, min, arith, rules, length, take, drop, length-drop}
-use Rattle.runs.proofs.Names.{length-take-le, if◌then◌else◌, among}
-use Rattle.runs.proofs.Runs.{Least, least_more, least_all, block_byte}
+use Rattle.runs.proofs.Names.{◌-◌, ◌≤◌, take, drop}
+use Rattle.runs.proofs.Names.{among}
+use Rattle.runs.proofs.Runs.{Least}
 use Rattle.runs.proofs.least_place.Given as goal
 
 -- Invariant: of the 32 bytes, those before the place j were looked at, and k is where the first of them that is one of the four stands, or 32.

@@ -1,4 +1,3 @@
-use borrow.Author.Rules.{rules}
 use Rattle.runs.proofs.Runs.{mark_four}
 use Rattle.runs.proofs.mark_among.Goals as goal
 

@@ -1,4 +1,4 @@
-use Rattle.runs.proofs.Names.{◌≡◌, subst, ℕ, ◌-◌, ◌≤◌, arith, rules, take, drop, if◌then◌else◌, among, any}
+use Rattle.runs.proofs.Names.{◌≡◌, subst, ℕ, arith, take, drop, if◌then◌else◌, among, any}
 use Rattle.runs.proofs.Runs.{mark_tells, marked_start, marked_more}
 use Rattle.runs.proofs.marked.Goals as goal
 

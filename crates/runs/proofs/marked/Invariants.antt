@@ -1,5 +1,4 @@
-use Rattle.runs.proofs.Names.{◌≡◌, subst, ℕ, ◌-◌, ◌≤◌, arith, rules, take, drop, if◌then◌else◌, among, any}
-use Rattle.runs.proofs.Runs.{mark_tells, marked_start, marked_more}
+use Rattle.runs.proofs.Names.{◌≡◌, ◌-◌, ◌≤◌, take, drop, if◌then◌else◌, among, any}
 use Rattle.runs.proofs.marked.Given as goal
 
 -- Invariant: the mark tells whether one of the four is among the first i of the bytes.

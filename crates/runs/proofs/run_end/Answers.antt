@@ -1,4 +1,4 @@
-use Rattle.runs.proofs.Names.{sym, ◌∙◌, ◌-◌, arith, rules, length, among, Reached}
+use Rattle.runs.proofs.Names.{sym, ◌∙◌, arith}
 use Rattle.runs.proofs.Runs.{reached_start, reached_one, reached_stop, reached_end, run_none}
 use Rattle.runs.proofs.run_end.Goals as goal
 

@@ -1,5 +1,4 @@
-use Rattle.runs.proofs.Names.{sym, ◌∙◌, ◌-◌, arith, rules, length, among, Reached}
-use Rattle.runs.proofs.Runs.{reached_start, reached_one, reached_stop, reached_end, run_none}
+use Rattle.runs.proofs.Names.{◌-◌, length, among, Reached}
 use Rattle.runs.proofs.run_end.Given as goal
 
 -- Invariant: the run goes on at least up to i.

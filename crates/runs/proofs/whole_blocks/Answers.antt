@@ -1,5 +1,5 @@
-use Rattle.runs.proofs.Names.{sym, ◌∙◌, ◌-◌, arith, rules, length, among, Reached}
-use Rattle.runs.proofs.Runs.{reached_start, reached_block}
+use Rattle.runs.proofs.Names.{sym, ◌∙◌, arith}
+use Rattle.runs.proofs.Runs.{reached_block}
 use Rattle.runs.proofs.whole_blocks.Goals as goal
 
 pub loop-i-preserved : goal.loop-i-preserved

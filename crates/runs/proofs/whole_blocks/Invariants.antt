@@ -1,5 +1,4 @@
-use Rattle.runs.proofs.Names.{sym, ◌∙◌, ◌-◌, arith, rules, length, among, Reached}
-use Rattle.runs.proofs.Runs.{reached_start, reached_block}
+use Rattle.runs.proofs.Names.{◌-◌, length, among, Reached}
 use Rattle.runs.proofs.whole_blocks.Given as goal
 
 -- Invariant: the run goes on at least up to i.

@@ -1,5 +1,5 @@
-use Rattle.skip.proofs.Names.{sym, ◌∙◌, rules, not-true, not-false}
-use Rattle.skip.proofs.Blocks.{end-other, end-inline}
+use Rattle.skip.proofs.Names.{sym, ◌∙◌}
+use Rattle.skip.proofs.Blocks.{end-other}
 use Rattle.skip.proofs.skip_end.Goals as goal
 
 pub returns-then-not-is_inline : goal.returns-then-not-is_inline

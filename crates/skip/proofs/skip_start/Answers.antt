@@ -1,5 +1,5 @@
-use Rattle.skip.proofs.Names.{sym, ◌∙◌, rules, not-true, not-false}
-use Rattle.skip.proofs.Blocks.{start-other, start-inline}
+use Rattle.skip.proofs.Names.{sym, ◌∙◌}
+use Rattle.skip.proofs.Blocks.{start-other}
 use Rattle.skip.proofs.skip_start.Goals as goal
 
 pub returns-then-not-is_inline : goal.returns-then-not-is_inline

@@ -1,15 +1,10 @@
-use Rattle.splitter.proofs.Names.{◌≡◌, sym, ◌∙◌, false, [], ◌∷◌, arith, rules, starts_with, ticks, four}
+use Rattle.splitter.proofs.Names.{◌≡◌, sym, ◌∙◌, false, [], ◌∷◌, arith, starts_with, ticks, four}
 use Rattle.splitter.proofs.Stripped.{whole-starts-not}
-use Rattle.splitter.proofs.Answers.{tail_short, after-code, after-ticks, after-four, after_para, after_break, after_space}
+use Rattle.splitter.proofs.Answers.{after-code, after-ticks, after-four, after_para, after_break, after_space}
 use Rattle.splitter.proofs.after_line_end.Goals.{Else-code-tail, Else-second-tail, Else-spaced-tail, Else-starts_with, Else-starts_with-2}
 use Rattle.splitter.proofs.after_line_end.Goals as goal
 
 -- Where the function starts, seen from each test that failed, and what the test says of the tail
-
-
-
-
-
 
 no_code : (c : Else-code-tail) → starts_with four (c.args.tail.now) ≡ false
 no_code c =

@@ -1,4 +1,3 @@
-use Rattle.splitter.proofs.Names.{rules}
 use Rattle.splitter.proofs.Answers.{later-tick}
 use Rattle.splitter.proofs.later.Goals as goal
 

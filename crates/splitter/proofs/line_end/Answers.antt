@@ -1,4 +1,4 @@
-use Rattle.splitter.proofs.Names.{◌≡◌, refl, ap, ◌+◌, ◌-◌, arith, rules, eq-eqb, ne_eqb, length, drop, is_line_end, line}
+use Rattle.splitter.proofs.Names.{ap, arith, eq-eqb, ne_eqb, length, is_line_end}
 use Rattle.splitter.proofs.Before.{before-stop, before-go, before-none}
 use Rattle.splitter.proofs.line_end.Goals as goal
 

@@ -1,5 +1,4 @@
-use Rattle.splitter.proofs.Names.{◌≡◌, refl, ap, ◌+◌, ◌-◌, arith, rules, eq-eqb, ne_eqb, length, drop, is_line_end, line}
-use Rattle.splitter.proofs.Before.{before-stop, before-go, before-none}
+use Rattle.splitter.proofs.Names.{◌≡◌, ◌+◌, ◌-◌, length, drop, line}
 use Rattle.splitter.proofs.line_end.Given as goal
 
 -- The loop's invariant: the line that ends where that from `i` on ends is the one from `at` on.

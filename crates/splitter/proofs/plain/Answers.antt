@@ -1,5 +1,5 @@
-use Rattle.splitter.proofs.Names.{◌≡◌, ◌∙◌, ◌-◌, le_refl, length, take, drop, rules, part_over}
-use Rattle.splitter.proofs.Answers.{input_short, line_follows, after_line, a_space, a_word}
+use Rattle.splitter.proofs.Names.{◌≡◌, ◌∙◌, ◌-◌, le_refl, length, take, drop, part_over}
+use Rattle.splitter.proofs.Answers.{line_follows, after_line, a_space, a_word}
 use Rattle.splitter.proofs.plain.Goals.{Start}
 use Rattle.splitter.proofs.plain.Goals as goal
 

@@ -1,4 +1,3 @@
-use Rattle.splitter.proofs.Names.{rules}
 use Rattle.splitter.proofs.Answers.{first-tick, answers_some, answers_none}
 use Rattle.splitter.proofs.step_at.Goals as goal
 

@@ -1,4 +1,4 @@
-use Rattle.splitter.proofs.Names.{sym, ◌∙◌, rules}
+use Rattle.splitter.proofs.Names.{sym, ◌∙◌}
 use Rattle.splitter.proofs.Stripped.{stripped_there, stripped-not}
 use Rattle.splitter.proofs.strip_prefix.Goals as goal
 

@@ -1,4 +1,4 @@
-use Rattle.splitter.proofs.Names.{sym, ◌∙◌, arith, rules, is_line_end}
+use Rattle.splitter.proofs.Names.{sym, ◌∙◌, arith, is_line_end}
 use Rattle.splitter.proofs.Before.{before-within}
 use Rattle.splitter.proofs.Answers.{ticked-on, ticked-kept, ticked-last}
 use Rattle.splitter.proofs.ticked.Goals as goal

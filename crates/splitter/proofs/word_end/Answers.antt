@@ -1,6 +1,5 @@
-use Rattle.splitter.proofs.Names.{⊎_elim, ◌-◌, arith, rules, length}
 use Rattle.splitter.proofs.Before.{space_ends, line_ends, neither_ends}
-use Rattle.splitter.proofs.Words.{Reading, reading_start, reading_stop, reading_end, reading_one, reading_none}
+use Rattle.splitter.proofs.Words.{reading_stop, reading_end, reading_one, reading_none}
 use Rattle.splitter.proofs.word_end.Goals.{else-x-ne2, then-x-ne2}
 use Rattle.splitter.proofs.word_end.Goals as goal
 
@@ -25,8 +24,10 @@ loop-to-preserved c =
     let at = t.args.at in
     let l = t.loop-to in
     let n = neither_ends _ c.if-x-eq10.false c.if-x-eq32.false in
-    elim c.if-x-ne2.branch [ then-x-ne2 w ↦ reading_one s at l.to l.width l.invariant t.loop-to-test.true n _ w.width-is w.if-x-ne2.true
-    | else-x-ne2 w ↦ reading_none s at l.to l.width l.invariant t.loop-to-test.true n _ w.width-is w.if-x-ne2.false ]
+    elim c.if-x-ne2.branch [
+      | then-x-ne2 w ↦ reading_one s at l.to l.width l.invariant t.loop-to-test.true n _ w.width-is w.if-x-ne2.true
+      | else-x-ne2 w ↦ reading_none s at l.to l.width l.invariant t.loop-to-test.true n _ w.width-is w.if-x-ne2.false
+    ]
 
 pub returns : goal.returns
 returns c =

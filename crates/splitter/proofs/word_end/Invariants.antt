@@ -1,6 +1,5 @@
-use Rattle.splitter.proofs.Names.{⊎_elim, ◌-◌, arith, rules, length}
-use Rattle.splitter.proofs.Before.{space_ends, line_ends, neither_ends}
-use Rattle.splitter.proofs.Words.{Reading, reading_start, reading_stop, reading_end, reading_one, reading_none}
+use Rattle.splitter.proofs.Names.{◌-◌, length}
+use Rattle.splitter.proofs.Words.{Reading}
 use Rattle.splitter.proofs.word_end.Given as goal
 
 -- The loop's invariant: what was read and counted up to `to`, with what is still to come, is the word from `at` on. What is left of the body

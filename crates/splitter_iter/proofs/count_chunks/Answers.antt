@@ -1,6 +1,4 @@
-use Rattle.std.proofs.Common.{◌≡◌, ◌∙◌, ◌+◌, sym, ap, arith, length}
-use Rattle.splitter.specs.Split.{split as split_of}
-use Rattle.splitter_iter.specs.InnerStruct.{left}
+use Rattle.std.proofs.Common.{◌∙◌, sym, arith}
 use Rattle.splitter_iter.proofs.Left.{split_few, one_less, none_left}
 use Rattle.splitter_iter.proofs.count_chunks.Goals as goal
 

@@ -1,10 +1,9 @@
-use Rattle.utf8.proofs.Names.{◌≡◌, true, rules}
+use Rattle.utf8.proofs.Names.{◌≡◌, true}
 use Rattle.utf8.proofs.Neighbours.{begun-far, begun_first, begun_second, begun_third, begun-on, first, second, third, fault_none, fault_some}
 use Rattle.utf8.proofs.begin.Goals.{Else-fault-ne0, Else-fault-ne0-2}
 use Rattle.utf8.proofs.begin.Goals as goal
 
 -- the start, where the first byte has been tested, and the second
-
 
 first_in : (c : Else-fault-ne0) → first c.args.s.now ≡ true
 first_in c = fault_none (first c.args.s.now) c.fault.ensures c.if-fault-ne0.false

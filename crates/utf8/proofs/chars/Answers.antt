@@ -1,4 +1,4 @@
-use Rattle.utf8.proofs.Names.{◌≡◌, refl, ◌∙◌, ap, sym, ℕ, ◌≤◌, ◌-◌, arith, rules, length, drop, drop-length, utf8}
+use Rattle.utf8.proofs.Names.{◌∙◌, sym, arith}
 use Rattle.utf8.proofs.Laws.{Went, next_at, one_at, stop_at}
 use Rattle.utf8.proofs.chars.Goals.{Else-k-eq0}
 use Rattle.utf8.proofs.chars.Goals as goal

@@ -1,5 +1,4 @@
-use Rattle.utf8.proofs.Names.{◌≡◌, refl, ◌∙◌, ap, sym, ℕ, ◌≤◌, ◌-◌, arith, rules, length, drop, drop-length, utf8}
-use Rattle.utf8.proofs.Laws.{Went, next_at, one_at, stop_at}
+use Rattle.utf8.proofs.Names.{◌≡◌, ◌≤◌, ◌-◌, length, drop, utf8}
 use Rattle.utf8.proofs.chars.Given as goal
 
 -- The invariant: from a on the bytes are UTF-8 exactly where they are so from i on.

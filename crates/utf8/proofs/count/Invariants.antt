@@ -1,4 +1,4 @@
-use Rattle.utf8.proofs.Names.{◌≡◌, ap, ℕ, ◌≤◌, ◌-◌, ◌+◌, arith, length, drop, drop-length, characters}
+use Rattle.utf8.proofs.Names.{◌≡◌, ◌≤◌, ◌-◌, ◌+◌, length, drop, characters}
 use Rattle.utf8.proofs.count.Given as goal
 
 -- The invariant: n of the bytes before i start a character.

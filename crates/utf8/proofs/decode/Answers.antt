@@ -1,4 +1,4 @@
-use Rattle.utf8.proofs.Names.{arith, rules}
+use Rattle.utf8.proofs.Names.{arith}
 use Rattle.utf8.proofs.Scalars.{lead_2, lead_3, lead_4}
 use Rattle.utf8.proofs.Characters.{past_end, ascii_at, Started, begun, not-begun, two-read, three-read, four-read}
 use Rattle.utf8.proofs.decode.Goals.{Then-four_at, Then-three_at, Then-two_at}

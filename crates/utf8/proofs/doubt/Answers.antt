@@ -1,5 +1,4 @@
-use borrow.Author.Rules.{rules}
-use Rattle.utf8.proofs.Neighbours.{sure_not, sure_is, sure_due, sure_start}
+use Rattle.utf8.proofs.Neighbours.{sure_is, sure_due, sure_start}
 use Rattle.utf8.proofs.doubt.Goals as goal
 
 -- after the tests of p and b alone

@@ -1,5 +1,4 @@
-use Rattle.utf8.proofs.Names.{◌≡◌, ◌∙◌, ap, ◌≤◌, ◌+◌, ◌-◌, arith, rules, sound_at}
-use Rattle.utf8.proofs.Neighbours.{passed_none, sure_more}
+use Rattle.utf8.proofs.Names.{◌≡◌, ◌≤◌, ◌+◌, ◌-◌, sound_at}
 use Rattle.utf8.proofs.doubts.Given as goal
 
 -- The invariant: where m is 0, each of the first i bytes may stand after the three before it; m is at most i.

@@ -1,4 +1,3 @@
-use borrow.Author.Rules.{rules}
 use Rattle.utf8.proofs.Neighbours.{fault_due, fault_ascii, fault_start}
 use Rattle.utf8.proofs.fault.Goals as goal
 

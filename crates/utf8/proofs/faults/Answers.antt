@@ -1,5 +1,5 @@
-use Rattle.utf8.proofs.Names.{◌≡◌, ◌≤◌, ◌+◌, ◌-◌, arith, rules, Passed}
-use Rattle.utf8.proofs.Neighbours.{beside_at, fault_most, passed_none, passed-more}
+use Rattle.utf8.proofs.Names.{◌≤◌, ◌+◌, arith}
+use Rattle.utf8.proofs.Neighbours.{beside_at, fault_most, passed-more}
 use Rattle.utf8.proofs.faults.Goals.{After-fault-m}
 use Rattle.utf8.proofs.faults.Goals as goal
 

@@ -1,5 +1,4 @@
-use Rattle.utf8.proofs.Names.{◌≡◌, ◌≤◌, ◌+◌, ◌-◌, arith, rules, Passed}
-use Rattle.utf8.proofs.Neighbours.{beside_at, fault_most, passed_none, passed-more}
+use Rattle.utf8.proofs.Names.{◌≤◌, ◌-◌, Passed}
 use Rattle.utf8.proofs.faults.Given as goal
 
 -- The invariant: m is 0 exactly where each of the first i bytes may stand after the three before it, and at most i.

@@ -1,4 +1,4 @@
-use Rattle.utf8.proofs.Names.{◌≡◌, ⊎_elim, ◌∷◌, arith, get_or, if◌then◌else◌, ◌to◌, row_of, rules}
+use Rattle.utf8.proofs.Names.{◌≡◌, ◌∷◌, arith, get_or, if◌then◌else◌, ◌to◌, row_of}
 use Rattle.utf8.proofs.Laws.{tail, size-by, size-never, ranged, due_over, due_F0, due_F4, due_4}
 use Rattle.utf8.proofs.four_at.Goals.{Joined-a, then-a, else-a+then-a-2, else-a+else-a-2}
 use Rattle.utf8.proofs.four_at.Goals as goal
@@ -9,9 +9,9 @@ second : (c : Joined-a)
     ≡ (c.if-a.lo to c.if-a.hi) ∷ 0x80 to 0xBF ∷ tail
 second c =
     elim c.if-a.branch [
-      then-a w ↦ ranged (due_F0 _ w.if-a.true) w.lo-is w.hi-is
-    | else-a+then-a-2 w ↦ ranged (due_F4 _ w.if-a-2.true) w.lo-is w.hi-is
-    | else-a+else-a-2 w ↦ ranged (due_4 _ c.requires.1 (omega (arith, c.if-a-gt244.false)) w.if-a.false w.if-a-2.false) w.lo-is w.hi-is
+      | then-a w ↦ ranged (due_F0 _ w.if-a.true) w.lo-is w.hi-is
+      | else-a+then-a-2 w ↦ ranged (due_F4 _ w.if-a-2.true) w.lo-is w.hi-is
+      | else-a+else-a-2 w ↦ ranged (due_4 _ c.requires.1 (omega (arith, c.if-a-gt244.false)) w.if-a.false w.if-a-2.false) w.lo-is w.hi-is
     ]
 
 pub returns-then-a-gt244 : goal.returns-then-a-gt244

@@ -1,5 +1,5 @@
-use Rattle.utf8.proofs.Names.{◌to◌, rules}
-use Rattle.utf8.proofs.Laws.{split-true, split-false, tail}
+use Rattle.utf8.proofs.Names.{◌to◌}
+use Rattle.utf8.proofs.Laws.{split-true, tail}
 use Rattle.utf8.proofs.next2.Goals as goal
 
 pub returns-then-next1 : goal.returns-then-next1

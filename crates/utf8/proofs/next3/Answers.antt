@@ -1,5 +1,5 @@
-use Rattle.utf8.proofs.Names.{◌∷◌, ◌to◌, arith, rules}
-use Rattle.utf8.proofs.Laws.{split-true, split-false, tail}
+use Rattle.utf8.proofs.Names.{◌∷◌, ◌to◌}
+use Rattle.utf8.proofs.Laws.{split-true, tail}
 use Rattle.utf8.proofs.next3.Goals as goal
 
 pub returns-then-next1 : goal.returns-then-next1

@@ -1,4 +1,4 @@
-use Rattle.utf8.proofs.Names.{◌-◌, arith, length, Ascii}
+use Rattle.utf8.proofs.Names.{arith}
 use Rattle.utf8.proofs.Neighbours.{ascii_more}
 use Rattle.utf8.proofs.past_ascii.Goals as goal
 

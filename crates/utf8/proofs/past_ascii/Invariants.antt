@@ -1,5 +1,4 @@
-use Rattle.utf8.proofs.Names.{◌-◌, arith, length, Ascii}
-use Rattle.utf8.proofs.Neighbours.{ascii_more}
+use Rattle.utf8.proofs.Names.{◌-◌, length, Ascii}
 use Rattle.utf8.proofs.past_ascii.Given as goal
 
 -- The invariant: the bytes before i are ASCII.

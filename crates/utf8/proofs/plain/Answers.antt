@@ -1,4 +1,4 @@
-use Rattle.utf8.proofs.Names.{false≢true, arith, rules, ltb-true}
+use Rattle.utf8.proofs.Names.{arith, ltb-true}
 use Rattle.utf8.proofs.Neighbours.{plain-sound}
 use Rattle.utf8.proofs.plain.Goals as goal
 

@@ -1,4 +1,4 @@
-use Rattle.utf8.proofs.Names.{refl, ◌∙◌, sym, [], if_true, if_false, rules}
+use Rattle.utf8.proofs.Names.{refl, ◌∙◌, sym, [], if_true, if_false}
 use Rattle.utf8.proofs.Laws.{size-yes, due_1}
 use Rattle.utf8.proofs.size.Goals as goal
 

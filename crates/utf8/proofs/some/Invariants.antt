@@ -1,5 +1,4 @@
-use Rattle.utf8.proofs.Names.{◌≡◌, ap, ⊎_elim, ℕ, ◌≤◌, ◌-◌, ◌+◌, arith, rules, drop, get_or, characters}
-use Rattle.utf8.proofs.Laws.{count_step, adds-by, adds-not}
+use Rattle.utf8.proofs.Names.{◌≡◌, ◌≤◌, ◌-◌, ◌+◌, drop, characters}
 use Rattle.utf8.proofs.some.Given as goal
 
 -- The invariant: n of the bytes from a to i start a character.

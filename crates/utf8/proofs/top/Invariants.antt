@@ -1,5 +1,4 @@
-use Rattle.utf8.proofs.Names.{ℕ, ◌≤◌, ◌<◌, ◌-◌, ◌+◌, arith, rules, get_or, ⊎_elim}
-use Rattle.utf8.proofs.Laws.{most_more}
+use Rattle.utf8.proofs.Names.{ℕ, ◌≤◌, ◌<◌, ◌-◌, ◌+◌, get_or}
 use Rattle.utf8.proofs.top.Given as goal
 
 -- The invariant: m is the largest of the first i bytes.

@@ -1,4 +1,4 @@
-use Rattle.utf8.proofs.Names.{if◌then◌else◌, rules}
+use Rattle.utf8.proofs.Names.{if◌then◌else◌}
 use Rattle.utf8.proofs.Laws.{tail, size-by, size-never, due_none, due_2}
 use Rattle.utf8.proofs.two_at.Goals as goal
 

@@ -1,4 +1,3 @@
-use borrow.Author.Rules.{rules}
 use Rattle.utf8.proofs.Neighbours.{ascii_all}
 use Rattle.utf8.proofs.valid.Goals as goal
 

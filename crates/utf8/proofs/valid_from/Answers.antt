@@ -1,4 +1,4 @@
-use Rattle.utf8.proofs.Names.{◌∙◌, sym, rules}
+use Rattle.utf8.proofs.Names.{◌∙◌, sym}
 use Rattle.utf8.proofs.Neighbours.{ascii_rest, ascii_all}
 use Rattle.utf8.proofs.valid_from.Goals as goal
 

@@ -1,5 +1,4 @@
-use Rattle.utf8.proofs.Names.{◌≡◌, refl, ◌∙◌, ap, sym, ⊎_elim, not, List, ℕ, ◌≤◌, ◌+◌, ◌-◌, arith, length, utf8, sound_at}
-use Rattle.utf8.proofs.Neighbours.{sound-end, last_fails, last_passes}
+use Rattle.utf8.proofs.Names.{◌≡◌, ◌≤◌, ◌-◌, length, utf8, sound_at}
 use Rattle.utf8.proofs.wide.Given as goal
 
 -- The invariant: s is UTF-8 exactly where from i on each byte may stand after the three before it, and no character is open at the end.

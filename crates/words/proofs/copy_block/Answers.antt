@@ -1,6 +1,5 @@
 use native.Mathlib.Omega.{arith}
-use borrow.Author.Rules.{rules}
-use Rattle.words.proofs.Copying.{stored-block, stored-below}
+use Rattle.words.proofs.Copying.{stored-block}
 use Rattle.words.proofs.copy_block.Goals as goal
 
 pub returns : goal.returns

@@ -1,10 +1,8 @@
-use mathlib.Core.Path.{◌≡◌, sym, ◌∙◌}
-use Prim.Native.Nat.{◌+◌, ◌-◌, ◌≤◌}
+use Prim.Native.Nat.{◌+◌, ◌≤◌}
 use native.Mathlib.Omega.{arith}
 use borrow.Author.Rules.{rules}
 use lib.ListN.{length}
-use Rattle.words.specs.InnerCopies.{Copying}
-use Rattle.words.proofs.Copying.{part-narrow, copying_start, copying_more}
+use Rattle.words.proofs.Copying.{part-narrow, copying_more}
 use Rattle.words.proofs.copy_blocks.Goals as goal
 
 pub overflow_add-width : goal.overflow_add-width

@@ -1,10 +1,8 @@
-use mathlib.Core.Logic.{⊎_elim}
-use Prim.Native.Nat.{◌+◌, ◌-◌, ◌≤◌}
+use Prim.Native.Nat.{◌≤◌}
 use native.Mathlib.Omega.{arith}
 use borrow.Author.Rules.{rules}
 use lib.ListN.{length}
-use Rattle.words.specs.InnerCopies.{Copying}
-use Rattle.words.proofs.Copying.{part-narrow, copying_start, copying_one, copying_none}
+use Rattle.words.proofs.Copying.{part-narrow, copying_one, copying_none}
 use Rattle.words.proofs.copy_bytes.Goals.{else-x-ne2, then-x-ne2}
 use Rattle.words.proofs.copy_bytes.Goals as goal
 
@@ -25,7 +23,9 @@ loop-to-preserved c =
     let start = c in
     let a = start.args in
     let x = a.body.now in
-    elim c.if-x-ne2.branch [ then-x-ne2 w ↦ copying_one x a.at a.stop a.len a.room.now l.room l.to l.width l.invariant _ loop-test.true start.requires.1
-    start.requires.2 if1.false w.width-is w.if-x-ne2.true
-    | else-x-ne2 w ↦ copying_none x a.at a.stop a.len a.room.now l.room l.to l.width l.invariant _ loop-test.true start.requires.1
-    start.requires.2 if1.false w.width-is w.if-x-ne2.false ]
+    elim c.if-x-ne2.branch [
+      | then-x-ne2 w ↦ copying_one x a.at a.stop a.len a.room.now l.room l.to l.width l.invariant _ loop-test.true start.requires.1
+          start.requires.2 if1.false w.width-is w.if-x-ne2.true
+      | else-x-ne2 w ↦ copying_none x a.at a.stop a.len a.room.now l.room l.to l.width l.invariant _ loop-test.true start.requires.1
+          start.requires.2 if1.false w.width-is w.if-x-ne2.false
+    ]

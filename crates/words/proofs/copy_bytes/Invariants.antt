@@ -1,10 +1,5 @@
-use mathlib.Core.Logic.{⊎_elim}
-use Prim.Native.Nat.{◌+◌, ◌-◌, ◌≤◌}
-use native.Mathlib.Omega.{arith}
-use borrow.Author.Rules.{rules}
-use lib.ListN.{length}
+use Prim.Native.Nat.{◌-◌}
 use Rattle.words.specs.InnerCopies.{Copying}
-use Rattle.words.proofs.Copying.{part-narrow, copying_start, copying_one, copying_none}
 use Rattle.words.proofs.copy_bytes.Given as goal
 
 -- Invariant: the bytes up to `to` are copied, and `width` is the number of their characters (Copying).

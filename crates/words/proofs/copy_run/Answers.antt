@@ -1,7 +1,6 @@
 use Prim.Native.Nat.{◌+◌}
 use native.Mathlib.Omega.{arith}
-use borrow.Author.Rules.{rules}
-use Rattle.words.proofs.Copying.{copies_none, copies_whole}
+use Rattle.words.proofs.Copying.{copies_whole}
 use Rattle.words.proofs.copy_run.Goals as goal
 
 pub returns : goal.returns

@@ -1,10 +1,6 @@
-use mathlib.Core.Path.{◌≡◌, ap, ◌∙◌}
-use mathlib.Core.Logic.{⊎_elim}
-use Prim.Native.Nat.{ℕ, ◌+◌, ◌-◌, ◌≤◌}
+use Prim.Native.Nat.{◌+◌}
 use native.Mathlib.Omega.{arith}
-use borrow.Author.Rules.{rules}
-use lib.ListN.{take, drop, get_or}
-use Rattle.utf8.specs.Utf8.{characters}
+use lib.ListN.{get_or}
 use Rattle.utf8.proofs.Laws.{adds-by, adds-not}
 use Rattle.words.proofs.Copying.{count_more}
 use Rattle.words.proofs.count.Goals.{else-s-at-ne2, then-s-at-ne2}
@@ -16,5 +12,7 @@ loop-i-preserved c =
     let a = c.args in
     let b = get_or a.s.now (a.at + l.i) 0 in
     let more = count_more a.s.now a.at l.i (omega (arith, c.requires)) in
-    elim c.if-s-at-ne2.branch [ then-s-at-ne2 w ↦ omega (arith, more, adds-by b w.if-s-at-ne2.true)
-    | else-s-at-ne2 w ↦ omega (arith, more, adds-not b w.if-s-at-ne2.false) ]
+    elim c.if-s-at-ne2.branch [
+      | then-s-at-ne2 w ↦ omega (arith, more, adds-by b w.if-s-at-ne2.true)
+      | else-s-at-ne2 w ↦ omega (arith, more, adds-not b w.if-s-at-ne2.false)
+    ]

@@ -1,12 +1,7 @@
-use mathlib.Core.Path.{◌≡◌, ap, ◌∙◌}
-use mathlib.Core.Logic.{⊎_elim}
-use Prim.Native.Nat.{ℕ, ◌+◌, ◌-◌, ◌≤◌}
-use native.Mathlib.Omega.{arith}
-use borrow.Author.Rules.{rules}
-use lib.ListN.{take, drop, get_or}
+use mathlib.Core.Path.{◌≡◌}
+use Prim.Native.Nat.{◌-◌, ◌≤◌}
+use lib.ListN.{take, drop}
 use Rattle.utf8.specs.Utf8.{characters}
-use Rattle.utf8.proofs.Laws.{adds-by, adds-not}
-use Rattle.words.proofs.Copying.{count_more}
 use Rattle.words.proofs.count.Given as goal
 
 -- Invariant: `n` is the number of characters among the first `i` bytes.

@@ -1,11 +1,6 @@
-use mathlib.Core.Path.{◌≡◌, subst}
-use mathlib.Core.Logic.{⊎_elim}
-use Prim.Native.Nat.{ℕ, ◌+◌, ◌-◌, ◌≤◌}
-use native.Mathlib.Omega.{arith}
-use borrow.Author.Rules.{rules}
-use borrow.Author.Tests.{eqb-false}
+use mathlib.Core.Path.{◌≡◌}
+use Prim.Native.Nat.{◌+◌, ◌-◌, ◌≤◌}
 use Rattle.words.specs.InnerCopies.{NoLineEnd}
-use Rattle.words.proofs.Copying.{plain_more}
 use Rattle.words.proofs.has_line_end.Given as goal
 
 -- Invariant: where `m` is 0, none of the first `i` bytes is a line end.

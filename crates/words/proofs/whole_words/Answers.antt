@@ -1,19 +1,9 @@
-use mathlib.Core.Path.{◌≡◌, sym, ◌∙◌}
-use mathlib.Core.Bool.{false}
-use mathlib.Core.Logic.{⊎_elim}
-use mathlib.Core.List.{List}
-use Prim.Native.Nat.{ℕ, ◌+◌, ◌-◌, ◌≤◌, ◌<◌}
+use Prim.Native.Nat.{◌-◌}
 use native.Mathlib.Omega.{arith}
-use borrow.Author.Rules.{rules}
-use lib.ListN.{length, get_or}
-use Rattle.base.specs.Bytes.{part}
-use Rattle.utf8.specs.Utf8.{characters}
+use lib.ListN.{get_or}
 use Rattle.utf8.proofs.Laws.{adds-by, adds-not}
-use Rattle.splitter.specs.Split.{is_line_end_or_space}
 use Rattle.splitter.proofs.Before.{neither_ends}
-use Rattle.words.specs.InnerCopies.{NoWordCut}
-use Rattle.words.proofs.Copying.{counts_back, cut_back, whole-end, whole-stop, whole_space, whole-none}
-use Rattle.words.proofs.whole_words.Invariants.{Within}
+use Rattle.words.proofs.Copying.{counts_back, cut_back}
 use Rattle.words.proofs.whole_words.Goals.{else-x-ne2, then-x-ne2}
 use Rattle.words.proofs.whole_words.Goals as goal
 
@@ -45,8 +35,10 @@ loop-to-preserved c =
       near = omega (arith, l.invariant.near);
       inside = l.invariant.inside;
       counts =
-          elim c.if-x-ne2.branch [ then-x-ne2 w ↦ omega (arith, back, w.width-is, adds-by b w.if-x-ne2.true)
-    | else-x-ne2 w ↦ omega (arith, back, w.width-is, adds-not b w.if-x-ne2.false) ];
+          elim c.if-x-ne2.branch [
+            | then-x-ne2 w ↦ omega (arith, back, w.width-is, adds-by b w.if-x-ne2.true)
+            | else-x-ne2 w ↦ omega (arith, back, w.width-is, adds-not b w.if-x-ne2.false)
+          ];
       inner = neither_ends b (plain (l.to - 1) (omega (arith, loop-test.true)) (omega (arith, l.invariant.near, loop-test.true))) n;
       last = cut_back x a.run.to l.to (omega (arith, l.invariant.near, l.invariant.inside)) l.invariant.inner n l.invariant.last;
     }

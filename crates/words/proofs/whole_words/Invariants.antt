@@ -1,18 +1,12 @@
-use mathlib.Core.Path.{◌≡◌, sym, ◌∙◌}
+use mathlib.Core.Path.{◌≡◌}
 use mathlib.Core.Bool.{false}
-use mathlib.Core.Logic.{⊎_elim}
 use mathlib.Core.List.{List}
-use Prim.Native.Nat.{ℕ, ◌+◌, ◌-◌, ◌≤◌, ◌<◌}
-use native.Mathlib.Omega.{arith}
-use borrow.Author.Rules.{rules}
+use Prim.Native.Nat.{ℕ, ◌≤◌, ◌<◌}
 use lib.ListN.{length, get_or}
 use Rattle.base.specs.Bytes.{part}
 use Rattle.utf8.specs.Utf8.{characters}
-use Rattle.utf8.proofs.Laws.{adds-by, adds-not}
 use Rattle.splitter.specs.Split.{is_line_end_or_space}
-use Rattle.splitter.proofs.Before.{neither_ends}
 use Rattle.words.specs.InnerCopies.{NoWordCut}
-use Rattle.words.proofs.Copying.{counts_back, cut_back, whole-end, whole-stop, whole_space, whole-none}
 use Rattle.words.proofs.whole_words.Given as goal
 
 -- Invariant: `to` is within the run and in a word, no more of the run is whole, and `width` is the number of characters up to there.

@@ -1,4 +1,4 @@
-use Rattle.skip.proofs.Names.{sym, ◌∙◌, arith, rules}
+use Rattle.skip.proofs.Names.{sym, ◌∙◌, arith}
 use Rattle.skip.proofs.Counter.{pop_one}
 use Rattle.skip.proofs.Skip.popped.Goals as goal
 

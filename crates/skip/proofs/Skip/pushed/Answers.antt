@@ -1,4 +1,3 @@
-use borrow.Author.Rules.{rules}
 use Rattle.skip.proofs.Counter.{pushes, pushes-no-further, pushes-none}
 use Rattle.skip.proofs.Skip.pushed.Goals as goal
 
