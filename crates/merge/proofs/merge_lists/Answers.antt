@@ -1,8 +1,8 @@
-use Rattle.merge.proofs.Names.{refl, sym, ◌∙◌, ◌+◌, ◌-◌, ◌≤◌, arith, rules, length, length-take-le, holding}
+use Rattle.merge.proofs.Names.{refl, sym, ◌∙◌, ◌≤◌, arith, length, length-take-le, holding}
 use native.Mathlib.Nat.{le_refl}
 use Rattle.base.proofs.Parts.{part_over}
 use Rattle.merge_sides.proofs.Sides.{list_length, keyed_inside}
-use Rattle.merge.proofs.Merging.{Going, going_0, take-first, take_second, going_less, going_same, going_more, ended-first, ended_second}
+use Rattle.merge.proofs.Merging.{going_0, take-first, take_second, going_less, going_same, going_more, ended-first, ended_second}
 use Rattle.merge.proofs.merge_lists.Goals as goal
 
 pub overflow_sub-last : goal.overflow_sub-last

@@ -1,8 +1,5 @@
-use Rattle.merge.proofs.Names.{refl, sym, ◌∙◌, ◌+◌, ◌-◌, ◌≤◌, arith, rules, length, length-take-le, holding}
-use native.Mathlib.Nat.{le_refl}
-use Rattle.base.proofs.Parts.{part_over}
-use Rattle.merge_sides.proofs.Sides.{list_length, keyed_inside}
-use Rattle.merge.proofs.Merging.{Going, going_0, take-first, take_second, going_less, going_same, going_more, ended-first, ended_second}
+use Rattle.merge.proofs.Names.{◌+◌, ◌-◌, length}
+use Rattle.merge.proofs.Merging.{Going}
 use Rattle.merge.proofs.merge_lists.Given as goal
 
 -- What stands in the room, with what is left of both sides merged, is the whole merged list; each key has the term of its side's next item.

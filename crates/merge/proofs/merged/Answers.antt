@@ -1,4 +1,4 @@
-use Rattle.merge.proofs.Names.{arith, rules}
+use Rattle.merge.proofs.Names.{arith}
 use Rattle.merge.proofs.Whole.{sound_accepted, sound-refused, too_long, fits_there, stays_inside}
 use Rattle.merge.proofs.merged.Goals as goal
 
@@ -13,9 +13,9 @@ returns-then-len-gt-MAX_BYTES c =
 
 pub returns-in-Refused : goal.returns-in-Refused
 returns-in-Refused c = record {
-      text = sound-refused c.refused_sides-verdict.ensures c.in-Refused.is _;
-      inside = tt;
-    }
+  text = sound-refused c.refused_sides-verdict.ensures c.in-Refused.is _;
+  inside = tt;
+}
 
 pub returns-else-len-gt-MAX_BYTES : goal.returns-else-len-gt-MAX_BYTES
 returns-else-len-gt-MAX_BYTES c =
