@@ -1,4 +1,4 @@
-use Rattle.merge_items.proofs.Names.{◌≡◌, refl, ◌-◌, arith, length, drop, compared}
+use Rattle.merge_items.proofs.Names.{arith}
 use Rattle.merge_items.proofs.Texts.{both_done, first_done, second_done, less_here, more-here, same_here}
 use Rattle.merge_items.proofs.compare.Goals as goal
 

@@ -1,5 +1,4 @@
-use Rattle.merge_items.proofs.Names.{◌≡◌, refl, ◌-◌, arith, length, drop, compared}
-use Rattle.merge_items.proofs.Texts.{both_done, first_done, second_done, less_here, more-here, same_here}
+use Rattle.merge_items.proofs.Names.{◌≡◌, ◌-◌, length, drop, compared}
 use Rattle.merge_items.proofs.compare.Given as goal
 
 -- The texts from a byte on compare as the whole texts do.

@@ -1,4 +1,4 @@
-use Rattle.merge_items.proofs.Names.{◌≡◌, refl, sym, ◌∙◌, ◌-◌, ◌≤◌, arith, rules, length, tokens_from, end_of}
+use Rattle.merge_items.proofs.Names.{sym, ◌∙◌, arith}
 use Rattle.merge_items.proofs.Finding.{deep-low, deep_open, deep_over, end_on, end-here, end-past}
 use Rattle.merge_items.proofs.end_of.Goals as goal
 

@@ -1,5 +1,4 @@
-use Rattle.merge_items.proofs.Names.{◌≡◌, refl, sym, ◌∙◌, ◌-◌, ◌≤◌, arith, rules, length, tokens_from, end_of}
-use Rattle.merge_items.proofs.Finding.{deep-low, deep_open, deep_over, end_on, end-here, end-past}
+use Rattle.merge_items.proofs.Names.{◌≡◌, ◌-◌, ◌≤◌, length, tokens_from, end_of}
 use Rattle.merge_items.proofs.end_of.Given as goal
 
 -- The block ends, from the record at hand and the blocks open there, where it ends from the first one.

@@ -1,5 +1,4 @@
-use borrow.Author.Rules.{rules}
-use Rattle.merge_items.proofs.Items.{found, found_past, found_none}
+use Rattle.merge_items.proofs.Items.{found, found_past}
 use Rattle.merge_items.proofs.item_at.Goals as goal
 
 pub returns-then-document-at : goal.returns-then-document-at

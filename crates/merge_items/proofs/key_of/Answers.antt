@@ -1,4 +1,4 @@
-use Rattle.merge_items.proofs.Names.{◌≡◌, refl, ◌∙◌, [], ◌-◌, arith, rules, length, ◌>>=◌, tokens_from, seen, extended, text_to}
+use Rattle.merge_items.proofs.Names.{refl, ◌∙◌, arith}
 use Rattle.merge_items.proofs.Texts.{from_nothing, joined-on, joined_end}
 use Rattle.merge_items.proofs.key_of.Goals as goal
 

@@ -1,5 +1,4 @@
-use Rattle.merge_items.proofs.Names.{◌≡◌, refl, ◌∙◌, [], ◌-◌, arith, rules, length, ◌>>=◌, tokens_from, seen, extended, text_to}
-use Rattle.merge_items.proofs.Texts.{from_nothing, joined-on, joined_end}
+use Rattle.merge_items.proofs.Names.{◌≡◌, [], ◌-◌, length, ◌>>=◌, tokens_from, seen, extended, text_to}
 use Rattle.merge_items.proofs.key_of.Given as goal
 
 -- The key, with the text from a record on, is the whole text.

@@ -1,4 +1,4 @@
-use Rattle.merge_items.proofs.Names.{arith, rules}
+use Rattle.merge_items.proofs.Names.{arith}
 use Rattle.merge_items.proofs.Finding.{deep-text, deep-start, deep_ends, deep_less, deep_unknown}
 use Rattle.merge_items.proofs.open_after.Goals as goal
 

@@ -1,4 +1,3 @@
-use borrow.Author.Rules.{rules}
 use Rattle.merge_items.proofs.Items.{keyed}
 use Rattle.merge_items.proofs.read_item.Goals as goal
 

@@ -1,4 +1,4 @@
-use Rattle.merge_sides.proofs.Names.{◌≡◌, refl, sym, ◌∙◌, ◌-◌, arith, rules, not-true, not-false, length, tokens_from, kinds, all_plain}
+use Rattle.merge_sides.proofs.Names.{sym, ◌∙◌}
 use Rattle.merge_sides.proofs.Filling.{plain-on, plain_out, plain_end}
 use Rattle.merge_sides.proofs.all_plain.Goals as goal
 

@@ -1,5 +1,4 @@
-use Rattle.merge_sides.proofs.Names.{◌≡◌, refl, sym, ◌∙◌, ◌-◌, arith, rules, not-true, not-false, length, tokens_from, kinds, all_plain}
-use Rattle.merge_sides.proofs.Filling.{plain-on, plain_out, plain_end}
+use Rattle.merge_sides.proofs.Names.{◌≡◌, ◌-◌, length, tokens_from, kinds, all_plain}
 use Rattle.merge_sides.proofs.all_plain.Given as goal
 
 -- The records from one on are such that may stand in a term exactly if all are.

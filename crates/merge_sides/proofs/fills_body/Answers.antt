@@ -1,4 +1,4 @@
-use Rattle.merge_sides.proofs.Names.{subst, rules, Answers, shape_of}
+use Rattle.merge_sides.proofs.Names.{subst, Answers, shape_of}
 use Rattle.shape.specs.declared.Shape.{Shape}
 use Rattle.merge_sides.proofs.Filling.{body-yes, body-no, body_refused}
 use Rattle.merge_sides.proofs.fills_body.Goals as goal

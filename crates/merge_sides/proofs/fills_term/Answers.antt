@@ -1,4 +1,4 @@
-use Rattle.merge_sides.proofs.Names.{sym, ◌∙◌, rules, not-true, not-false}
+use Rattle.merge_sides.proofs.Names.{sym, ◌∙◌}
 use Rattle.merge_sides.proofs.Filling.{term-not-plain, term_of}
 use Rattle.merge_sides.proofs.fills_term.Goals as goal
 

@@ -1,5 +1,5 @@
-use Rattle.merge_sides.proofs.Names.{◌≡◌, sym, ◌∙◌, ◌-◌, arith, rules, not-true, not-false, length, length-take-le, holding}
-use Rattle.merge_sides.proofs.Sides.{list_length, keyed_inside, Climbing, climbing_0, climbed}
+use Rattle.merge_sides.proofs.Names.{sym, ◌∙◌, arith, length-take-le, holding}
+use Rattle.merge_sides.proofs.Sides.{list_length, keyed_inside, climbing_0, climbed}
 use Rattle.merge_sides.proofs.Sides.{climbed_one, climbing_taken, climbing_second, climbs_not, climbing_next}
 use Rattle.merge_sides.proofs.in_order.Goals as goal
 

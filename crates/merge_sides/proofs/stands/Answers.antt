@@ -1,5 +1,5 @@
-use Rattle.merge_sides.proofs.Names.{sym, ◌∙◌, arith, rules, not-true, not-false, false≢true}
-use Rattle.merge_sides.proofs.Listing.{tells_yes, tells_no, stop-low, next_low, starts-term, starts-body, ends_body, term-filled, stands-by-body}
+use Rattle.merge_sides.proofs.Names.{sym, ◌∙◌, arith, false≢true}
+use Rattle.merge_sides.proofs.Listing.{tells_yes, tells_no, next_low, starts-term, starts-body, ends_body, term-filled, stands-by-body}
 use Rattle.merge_sides.proofs.stands.Goals as goal
 
 pub returns-then-next-stop : goal.returns-then-next-stop

@@ -1,4 +1,4 @@
-use Rattle.notes.proofs.Names.{◌≡◌, refl, sym, ◌∙◌, ◌-◌, rules, length, drop, blank_line}
+use Rattle.notes.proofs.Names.{sym, ◌∙◌}
 use Rattle.notes.proofs.Scans.{blank-end, blank-feed, blank_space, blank-other}
 use Rattle.notes.proofs.blank_at.Goals as goal
 

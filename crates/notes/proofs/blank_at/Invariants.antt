@@ -1,5 +1,4 @@
-use Rattle.notes.proofs.Names.{◌≡◌, refl, sym, ◌∙◌, ◌-◌, rules, length, drop, blank_line}
-use Rattle.notes.proofs.Scans.{blank-end, blank-feed, blank_space, blank-other}
+use Rattle.notes.proofs.Names.{◌≡◌, ◌-◌, length, drop, blank_line}
 use Rattle.notes.proofs.blank_at.Given as goal
 
 -- The line from `at` on is blank exactly if what is left of it at i is.

@@ -1,4 +1,4 @@
-use Rattle.notes.proofs.Names.{sym, ap, ◌∙◌, [], ℕ, rules, not-true, not-false, extended, document}
+use Rattle.notes.proofs.Names.{sym, ap, ◌∙◌, [], ℕ, extended, document}
 use Rattle.notes.proofs.Steps.{taken_long, taken_other, taken_over, taken_reached}
 use Rattle.notes.proofs.fill.Goals as goal
 

@@ -1,4 +1,4 @@
-use Rattle.notes.proofs.Names.{sym, ap, ◌∙◌, not, rules, drop}
+use Rattle.notes.proofs.Names.{sym, ap, ◌∙◌, not, drop}
 use Rattle.notes.proofs.Scans.{ordinary_header, ordinary_item, ordinary-by}
 use Rattle.notes.proofs.ordinary_at.Goals as goal
 

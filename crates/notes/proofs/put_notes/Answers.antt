@@ -1,8 +1,8 @@
-use Rattle.notes.proofs.Names.{sym, ◌∙◌, ◌+◌, ◌-◌, ◌≤◌, arith, rules, length, part, seen, around, header_mark, item_mark, text_records, document}
+use Rattle.notes.proofs.Names.{sym, ◌∙◌, ◌+◌, arith, length, part, around, header_mark, item_mark, text_records, document}
 use Rattle.base.proofs.Prefix.{starts_fits}
 use Rattle.records.specs.declared.Block.TheVariants as block
 use Rattle.notes.proofs.Steps.{document_at, document-end, step_header, step_item, step-blank, step_other, seen_none}
-use Rattle.notes_text.proofs.Writes.{Puts, puts_start, puts_as, puts_more, puts_all}
+use Rattle.notes_text.proofs.Writes.{puts_as, puts_more, puts_all}
 use Rattle.notes.proofs.put_notes.Goals as goal
 
 pub text_end-e-requires : goal.text_end-e-requires

@@ -1,5 +1,4 @@
-use Rattle.notes.proofs.Names.{arith, rules, text_records}
-use Rattle.records.proofs.Tables.{index_small}
+use Rattle.notes.proofs.Names.{text_records}
 use Rattle.notes.proofs.Steps.{part-written}
 use Rattle.notes.proofs.put_part.Goals as goal
 

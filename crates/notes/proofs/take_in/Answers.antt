@@ -1,4 +1,4 @@
-use Rattle.notes.proofs.Names.{ap, ◌∙◌, subst, ℕ, rules, length, taken_in}
+use Rattle.notes.proofs.Names.{ap, ◌∙◌, subst, ℕ, length, taken_in}
 use Rattle.renderer.specs.Rendered.{Inside}
 use Rattle.renderer.proofs.Answers.{answer_cleared}
 use Rattle.notes_rules.proofs.Given.{taken_faithful}

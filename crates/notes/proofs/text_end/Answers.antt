@@ -1,5 +1,5 @@
-use Rattle.notes.proofs.Names.{sym, ap, ◌∙◌, Bool, not, ◌||◌, ⊎_elim, ◌+◌, ◌-◌, rules, length, drop, ordinary}
-use Rattle.notes.proofs.Scans.{Going, going_start, going_feed, going_byte, ends_over, ends_feed}
+use Rattle.notes.proofs.Names.{sym, ap, ◌∙◌, Bool, not, ◌||◌, ◌+◌, drop, ordinary}
+use Rattle.notes.proofs.Scans.{going_feed, going_byte, ends_over, ends_feed}
 use Rattle.notes.proofs.text_end.Goals.{else-s-i-eq10, then-s-i-eq10+else-one+else-not-ordinary_at}
 use Rattle.notes.proofs.text_end.Goals as goal
 
@@ -25,9 +25,11 @@ loop-i-preserved c =
     let a = c.args in
     let here = c.loop-i in
     let test = c.loop-i-test in
-    elim c.if-s-i-eq10.branch [ then-s-i-eq10+else-one+else-not-ordinary_at w ↦ going_feed (a.s.now) a.one a.at here.i here.invariant test.true w.if-s-i-eq10.true
-    (ap (λ (t : Bool). t || not (ordinary (drop (here.i + 1) (a.s.now)))) w.if-one.false ∙ ap not (sym w.ordinary_at.ensures ∙ w.if-not-ordinary_at.false))
-    | else-s-i-eq10 w ↦ going_byte (a.s.now) a.one a.at here.i here.invariant test.true w.if-s-i-eq10.false ]
+    elim c.if-s-i-eq10.branch [
+      | then-s-i-eq10+else-one+else-not-ordinary_at w ↦ going_feed (a.s.now) a.one a.at here.i here.invariant test.true w.if-s-i-eq10.true
+          (ap (λ (t : Bool). t || not (ordinary (drop (here.i + 1) (a.s.now)))) w.if-one.false ∙ ap not (sym w.ordinary_at.ensures ∙ w.if-not-ordinary_at.false))
+      | else-s-i-eq10 w ↦ going_byte (a.s.now) a.one a.at here.i here.invariant test.true w.if-s-i-eq10.false
+    ]
 
 pub returns : goal.returns
 returns c =

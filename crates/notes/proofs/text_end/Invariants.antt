@@ -1,5 +1,5 @@
-use Rattle.notes.proofs.Names.{sym, ap, ◌∙◌, Bool, not, ◌||◌, ⊎_elim, ◌+◌, ◌-◌, rules, length, drop, ordinary}
-use Rattle.notes.proofs.Scans.{Going, going_start, going_feed, going_byte, ends_over, ends_feed}
+use Rattle.notes.proofs.Names.{◌-◌, length}
+use Rattle.notes.proofs.Scans.{Going}
 use Rattle.notes.proofs.text_end.Given as goal
 
 -- What stands from `at` up to i, and what is left there of the text, is the text.

@@ -1,4 +1,4 @@
-use Rattle.notes_text.proofs.Names.{◌≡◌, false, ◌≤◌, arith, rules, length, drop, ticked}
+use Rattle.notes_text.proofs.Names.{arith}
 use Rattle.notes_text.proofs.Ticks.{last_none, last_found, tickless_more}
 use Rattle.notes_text.proofs.last_before.Goals as goal
 

@@ -1,5 +1,4 @@
-use Rattle.notes_text.proofs.Names.{◌≡◌, false, ◌≤◌, arith, rules, length, drop, ticked}
-use Rattle.notes_text.proofs.Ticks.{last_none, last_found, tickless_more}
+use Rattle.notes_text.proofs.Names.{◌≡◌, false, ◌≤◌, length, drop, ticked}
 use Rattle.notes_text.proofs.last_before.Given as goal
 
 -- No backtick stands from e on.

@@ -1,4 +1,4 @@
-use Rattle.notes_text.proofs.Names.{◌≡◌, false, ◌≤◌, arith, rules, not-false, length, drop, ticked}
+use Rattle.notes_text.proofs.Names.{arith}
 use Rattle.notes_text.proofs.Ticks.{tickless_end, tickless_block}
 use Rattle.notes_text.proofs.last_tick.Goals as goal
 

@@ -1,5 +1,4 @@
-use Rattle.notes_text.proofs.Names.{◌≡◌, false, ◌≤◌, arith, rules, not-false, length, drop, ticked}
-use Rattle.notes_text.proofs.Ticks.{tickless_end, tickless_block}
+use Rattle.notes_text.proofs.Names.{◌≡◌, false, ◌≤◌, length, drop, ticked}
 use Rattle.notes_text.proofs.last_tick.Given as goal
 
 -- No backtick stands from e on.

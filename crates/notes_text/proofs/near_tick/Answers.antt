@@ -1,4 +1,3 @@
-use Rattle.notes_text.proofs.Names.{◌-◌, rules, length, Tick}
 use Rattle.notes_text.proofs.Ticks.{tick-start, tick-more}
 use Rattle.notes_text.proofs.near_tick.Goals as goal
 

@@ -1,5 +1,4 @@
-use Rattle.notes_text.proofs.Names.{◌-◌, rules, length, Tick}
-use Rattle.notes_text.proofs.Ticks.{tick-start, tick-more}
+use Rattle.notes_text.proofs.Names.{◌-◌, length, Tick}
 use Rattle.notes_text.proofs.near_tick.Given as goal
 
 -- No backtick stands from `at` up to i.

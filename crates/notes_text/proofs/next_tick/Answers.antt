@@ -1,4 +1,3 @@
-use Rattle.notes_text.proofs.Names.{◌-◌, arith, rules, not-false, length, Tick}
 use Rattle.notes_text.proofs.Ticks.{tick-start, tick-join, tick-block}
 use Rattle.notes_text.proofs.next_tick.Goals as goal
 

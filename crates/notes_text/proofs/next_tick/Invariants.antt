@@ -1,5 +1,4 @@
-use Rattle.notes_text.proofs.Names.{◌-◌, arith, rules, not-false, length, Tick}
-use Rattle.notes_text.proofs.Ticks.{tick-start, tick-join, tick-block}
+use Rattle.notes_text.proofs.Names.{◌-◌, length, Tick}
 use Rattle.notes_text.proofs.next_tick.Given as goal
 
 -- No backtick stands from `at` up to i.

@@ -1,6 +1,6 @@
-use Rattle.notes_text.proofs.Names.{◌≡◌, sym, ap, ◌∙◌, subst, ◌++◌, Bool, ◌-◌, ◌≤◌, arith, rules, length, drop, part, seen, styled, lead}
+use Rattle.notes_text.proofs.Names.{◌≡◌, sym, ap, ◌∙◌, subst, ◌++◌, Bool, arith, drop, part, styled, lead}
 use Rattle.notes_text.proofs.Runs.{styles_differ, styles-same, pair-on, lead-on, lead-other, lead-end}
-use Rattle.notes_text.proofs.Writes.{Puts, puts_start, puts_as, puts_more, puts_all}
+use Rattle.notes_text.proofs.Writes.{puts_as, puts_more, puts_all}
 use Rattle.notes_text.proofs.put_run.Goals as goal
 
 pub loop-i-preserved-then-paired : goal.loop-i-preserved-then-paired

@@ -1,6 +1,5 @@
-use Rattle.notes_text.proofs.Names.{◌≡◌, sym, ap, ◌∙◌, subst, ◌++◌, Bool, ◌-◌, ◌≤◌, arith, rules, length, drop, part, seen, styled, lead}
-use Rattle.notes_text.proofs.Runs.{styles_differ, styles-same, pair-on, lead-on, lead-other, lead-end}
-use Rattle.notes_text.proofs.Writes.{Puts, puts_start, puts_as, puts_more, puts_all}
+use Rattle.notes_text.proofs.Names.{◌-◌, ◌≤◌, length, drop, seen, styled, lead}
+use Rattle.notes_text.proofs.Writes.{Puts}
 use Rattle.notes_text.proofs.put_run.Given as goal
 
 -- What is written, and then the bytes of that style that still lead at i, is what was there and then those that lead at `from`.

@@ -1,7 +1,7 @@
-use Rattle.notes_text.proofs.Names.{refl, sym, ◌∙◌, ◌++◌, ◌-◌, ◌≤◌, arith, rules, length, drop, seen, head, styled, lead}
+use Rattle.notes_text.proofs.Names.{refl, sym, ◌∙◌, ◌++◌, arith, drop, head, styled, lead}
 use Rattle.notes_rules.specs.Notes.{text_records}
 use Rattle.notes_text.proofs.Runs.{records_at, records-pair, records-end, records_run, run_moves}
-use Rattle.notes_text.proofs.Writes.{Puts, puts_start, puts_as, puts_more, puts_all}
+use Rattle.notes_text.proofs.Writes.{puts_start, puts_as, puts_more, puts_all}
 use Rattle.notes_text.proofs.put_text.Goals as goal
 
 pub loop-at-init : goal.loop-at-init

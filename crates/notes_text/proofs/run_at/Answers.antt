@@ -1,5 +1,5 @@
-use Rattle.notes_text.proofs.Names.{sym, ◌∙◌, ◌-◌, arith, rules, length}
-use Rattle.notes_text.proofs.Runs.{styles_differ, styles-same, Ran, ran_start, ran_pair, ran_span, ran_other, ran_end}
+use Rattle.notes_text.proofs.Names.{sym, ◌∙◌}
+use Rattle.notes_text.proofs.Runs.{styles_differ, styles-same, ran_pair, ran_span, ran_other, ran_end}
 use Rattle.notes_text.proofs.run_at.Goals as goal
 
 pub loop-i-preserved-then-paired : goal.loop-i-preserved-then-paired

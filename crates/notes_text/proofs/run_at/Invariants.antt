@@ -1,5 +1,5 @@
-use Rattle.notes_text.proofs.Names.{sym, ◌∙◌, ◌-◌, arith, rules, length}
-use Rattle.notes_text.proofs.Runs.{styles_differ, styles-same, Ran, ran_start, ran_pair, ran_span, ran_other, ran_end}
+use Rattle.notes_text.proofs.Names.{◌-◌, length}
+use Rattle.notes_text.proofs.Runs.{Ran}
 use Rattle.notes_text.proofs.run_at.Given as goal
 
 -- The size so far and the bytes of that style that still lead at i are those that lead at `from`; what stands behind them is the same.

@@ -1,4 +1,4 @@
-use Rattle.notes_text.proofs.Names.{◌≡◌, sym, ap, ◌∙◌, false, ⊎_elim, ℕ, ◌+◌, ◌-◌, ◌≤◌, arith, rules, eqb-true, part, ticked}
+use Rattle.notes_text.proofs.Names.{sym, ◌∙◌, arith}
 use Rattle.notes_text.proofs.Ticks.{tickless_none, tickless_next, one_none}
 use Rattle.notes_text.proofs.tickless.Goals.{else-s-a-eq96, then-s-a-eq96}
 use Rattle.notes_text.proofs.tickless.Goals as goal
@@ -11,6 +11,8 @@ loop-i-preserved c =
     let a = c.args in
     let here = c.loop-i in (
       omega arith,
-      λ e. elim c.if-s-a-eq96.branch [ then-s-a-eq96 w ↦ one_none c.if-s-a-eq96.found w.found-is e
-    | else-s-a-eq96 w ↦ tickless_next (a.s.now) a.a here.i (omega arith) (here.invariant.1 (sym w.found-is ∙ e)) w.if-s-a-eq96.false ],
+      λ e. elim c.if-s-a-eq96.branch [
+        | then-s-a-eq96 w ↦ one_none c.if-s-a-eq96.found w.found-is e
+        | else-s-a-eq96 w ↦ tickless_next (a.s.now) a.a here.i (omega arith) (here.invariant.1 (sym w.found-is ∙ e)) w.if-s-a-eq96.false
+      ],
     )

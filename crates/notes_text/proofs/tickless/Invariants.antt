@@ -1,5 +1,4 @@
-use Rattle.notes_text.proofs.Names.{◌≡◌, sym, ap, ◌∙◌, false, ⊎_elim, ℕ, ◌+◌, ◌-◌, ◌≤◌, arith, rules, eqb-true, part, ticked}
-use Rattle.notes_text.proofs.Ticks.{tickless_none, tickless_next, one_none}
+use Rattle.notes_text.proofs.Names.{◌≡◌, false, ◌+◌, ◌-◌, ◌≤◌, part, ticked}
 use Rattle.notes_text.proofs.tickless.Given as goal
 
 -- If none is found, no backtick stands in the i bytes from `a` on.

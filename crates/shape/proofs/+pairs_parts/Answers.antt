@@ -1,8 +1,8 @@
-use Rattle.shape.proofs.Names.{refl, sym, ◌∙◌, Bool, not, ◌+◌, arith, ahead}
+use Rattle.shape.proofs.Names.{refl, sym, ◌∙◌, not, ◌+◌, arith}
 use Rattle.shape.specs.InnerSteps as want
 use Rattle.shape.proofs.Blocks.{is-part, is-list, no_part, wanted, no_text, no_end, due_body, due_other, next-term, next-other}
 use Rattle.shape.proofs.Records.{Turned, turned, start-out}
-use Rattle.shape.proofs.Loops.{Before, over, on-text, text_strays, end_strays, unknown_strays}
+use Rattle.shape.proofs.Loops.{over, on-text, text_strays, end_strays, unknown_strays}
 use Rattle.shape.proofs.Loops.{bare, enters, on-block, block_strays, on-start, on-end, stops}
 use Rattle.shape.proofs.+pairs_parts.Goals.{pairs-then-due+then-same_block, pairs-then-due+else-same_block}
 use Rattle.shape.proofs.+pairs_parts.Goals.{pairs-else-due+then-same_block-2, pairs-else-due+else-same_block-2}
@@ -42,14 +42,16 @@ pairs-loop-at-smaller t c =
     let q = bare i r l k in
     let due = c.loop-at.due in
     let z : Turned c.args.document.now (wanted due) (wanted (not due)) c.args.depth c.loop-at.at c.record_at-h.result.start c.if-due.way' =
-    elim c.if-due.branch [ pairs-then-due+then-same_block w ↦ rw w.way'-is (turned _ r l (wanted due) _ k q
-      (due_body _ due w.if-due.true (sym w.same_block.ensures ∙ w.if-same_block.true)) w.parts.result w.parts.ensures)
-    | pairs-then-due+else-same_block w ↦ rw w.way'-is (start-out _ r l (wanted due) k
-      (due_other _ due w.if-due.true (sym w.same_block.ensures ∙ w.if-same_block.false)))
-    | pairs-else-due+then-same_block-2 w ↦ rw w.way'-is (turned _ r l (wanted due) _ k q
-      (next-term _ due w.if-due.false (sym w.same_block-else-due.ensures ∙ w.if-same_block-2.true)) w.inlines.result w.inlines.ensures)
-    | pairs-else-due+else-same_block-2 w ↦ rw w.way'-is (start-out _ r l (wanted due) k
-      (next-other _ due w.if-due.false (sym w.same_block-else-due.ensures ∙ w.if-same_block-2.false))) ] in
+    elim c.if-due.branch [
+      | pairs-then-due+then-same_block w ↦ rw w.way'-is (turned _ r l (wanted due) _ k q
+          (due_body _ due w.if-due.true (sym w.same_block.ensures ∙ w.if-same_block.true)) w.parts.result w.parts.ensures)
+      | pairs-then-due+else-same_block w ↦ rw w.way'-is (start-out _ r l (wanted due) k
+          (due_other _ due w.if-due.true (sym w.same_block.ensures ∙ w.if-same_block.false)))
+      | pairs-else-due+then-same_block-2 w ↦ rw w.way'-is (turned _ r l (wanted due) _ k q
+          (next-term _ due w.if-due.false (sym w.same_block-else-due.ensures ∙ w.if-same_block-2.true)) w.inlines.result w.inlines.ensures)
+      | pairs-else-due+else-same_block-2 w ↦ rw w.way'-is (start-out _ r l (wanted due) k
+          (next-other _ due w.if-due.false (sym w.same_block-else-due.ensures ∙ w.if-same_block-2.false)))
+    ] in
     (on-block i r l (omega arith) k (wanted (not due)) z c.in-Stops.is).0
 
 pub pairs-loop-at-preserved : goal.pairs-loop-at-preserved
@@ -61,14 +63,16 @@ pairs-loop-at-preserved t c =
     let q = bare i r l k in
     let due = c.loop-at.due in
     let z : Turned c.args.document.now (wanted due) (wanted (not due)) c.args.depth c.loop-at.at c.record_at-h.result.start c.if-due.way' =
-    elim c.if-due.branch [ pairs-then-due+then-same_block w ↦ rw w.way'-is (turned _ r l (wanted due) _ k q
-      (due_body _ due w.if-due.true (sym w.same_block.ensures ∙ w.if-same_block.true)) w.parts.result w.parts.ensures)
-    | pairs-then-due+else-same_block w ↦ rw w.way'-is (start-out _ r l (wanted due) k
-      (due_other _ due w.if-due.true (sym w.same_block.ensures ∙ w.if-same_block.false)))
-    | pairs-else-due+then-same_block-2 w ↦ rw w.way'-is (turned _ r l (wanted due) _ k q
-      (next-term _ due w.if-due.false (sym w.same_block-else-due.ensures ∙ w.if-same_block-2.true)) w.inlines.result w.inlines.ensures)
-    | pairs-else-due+else-same_block-2 w ↦ rw w.way'-is (start-out _ r l (wanted due) k
-      (next-other _ due w.if-due.false (sym w.same_block-else-due.ensures ∙ w.if-same_block-2.false))) ] in
+    elim c.if-due.branch [
+      | pairs-then-due+then-same_block w ↦ rw w.way'-is (turned _ r l (wanted due) _ k q
+          (due_body _ due w.if-due.true (sym w.same_block.ensures ∙ w.if-same_block.true)) w.parts.result w.parts.ensures)
+      | pairs-then-due+else-same_block w ↦ rw w.way'-is (start-out _ r l (wanted due) k
+          (due_other _ due w.if-due.true (sym w.same_block.ensures ∙ w.if-same_block.false)))
+      | pairs-else-due+then-same_block-2 w ↦ rw w.way'-is (turned _ r l (wanted due) _ k q
+          (next-term _ due w.if-due.false (sym w.same_block-else-due.ensures ∙ w.if-same_block-2.true)) w.inlines.result w.inlines.ensures)
+      | pairs-else-due+else-same_block-2 w ↦ rw w.way'-is (start-out _ r l (wanted due) k
+          (next-other _ due w.if-due.false (sym w.same_block-else-due.ensures ∙ w.if-same_block-2.false)))
+    ] in
     (on-block i r l (omega arith) k (wanted (not due)) z c.in-Stops.is).1
 
 pub pairs-returns-in-Out : goal.pairs-returns-in-Out
@@ -80,14 +84,16 @@ pairs-returns-in-Out t c =
     let q = bare i r l k in
     let due = c.loop-at.due in
     let z : Turned c.args.document.now (wanted due) (wanted (not due)) c.args.depth c.loop-at.at c.record_at-h.result.start c.if-due.way' =
-    elim c.if-due.branch [ pairs-then-due+then-same_block w ↦ rw w.way'-is (turned _ r l (wanted due) _ k q
-      (due_body _ due w.if-due.true (sym w.same_block.ensures ∙ w.if-same_block.true)) w.parts.result w.parts.ensures)
-    | pairs-then-due+else-same_block w ↦ rw w.way'-is (start-out _ r l (wanted due) k
-      (due_other _ due w.if-due.true (sym w.same_block.ensures ∙ w.if-same_block.false)))
-    | pairs-else-due+then-same_block-2 w ↦ rw w.way'-is (turned _ r l (wanted due) _ k q
-      (next-term _ due w.if-due.false (sym w.same_block-else-due.ensures ∙ w.if-same_block-2.true)) w.inlines.result w.inlines.ensures)
-    | pairs-else-due+else-same_block-2 w ↦ rw w.way'-is (start-out _ r l (wanted due) k
-      (next-other _ due w.if-due.false (sym w.same_block-else-due.ensures ∙ w.if-same_block-2.false))) ] in
+    elim c.if-due.branch [
+      | pairs-then-due+then-same_block w ↦ rw w.way'-is (turned _ r l (wanted due) _ k q
+          (due_body _ due w.if-due.true (sym w.same_block.ensures ∙ w.if-same_block.true)) w.parts.result w.parts.ensures)
+      | pairs-then-due+else-same_block w ↦ rw w.way'-is (start-out _ r l (wanted due) k
+          (due_other _ due w.if-due.true (sym w.same_block.ensures ∙ w.if-same_block.false)))
+      | pairs-else-due+then-same_block-2 w ↦ rw w.way'-is (turned _ r l (wanted due) _ k q
+          (next-term _ due w.if-due.false (sym w.same_block-else-due.ensures ∙ w.if-same_block-2.true)) w.inlines.result w.inlines.ensures)
+      | pairs-else-due+else-same_block-2 w ↦ rw w.way'-is (start-out _ r l (wanted due) k
+          (next-other _ due w.if-due.false (sym w.same_block-else-due.ensures ∙ w.if-same_block-2.false)))
+    ] in
     block_strays i r l (omega arith) k (wanted (not due)) z c.in-Out.is
 
 -- the list ends, where a body is due and where none is
@@ -187,9 +193,11 @@ parts-loop-at-smaller-in-Stops t c =
     let o = sym c.is_other.ensures ∙ c.if-is_other.false in
     let b = sym c.same_block.ensures in
     let z : Turned c.args.document.now want.parts want.parts (c.loop-at.inner + c.args.depth) c.loop-at.at c.record_at-h.result.start c.if-same_block.way' =
-    elim c.if-same_block.branch [ parts-then-same_block w ↦ rw w.way'-is (turned _ r l want.parts _ k (bare i r l k)
-      (is-list _ o (b ∙ w.if-same_block.true)) w.pairs-way.result w.pairs-way.ensures)
-    | parts-else-same_block w ↦ rw w.way'-is (start-out _ r l want.parts k (no_part _ o (b ∙ w.if-same_block.false))) ] in
+    elim c.if-same_block.branch [
+      | parts-then-same_block w ↦ rw w.way'-is (turned _ r l want.parts _ k (bare i r l k)
+          (is-list _ o (b ∙ w.if-same_block.true)) w.pairs-way.result w.pairs-way.ensures)
+      | parts-else-same_block w ↦ rw w.way'-is (start-out _ r l want.parts k (no_part _ o (b ∙ w.if-same_block.false)))
+    ] in
     (on-block i r l refl k want.parts z c.in-Stops.is).0
 
 pub parts-loop-at-preserved-in-Stops : goal.parts-loop-at-preserved-in-Stops
@@ -201,9 +209,11 @@ parts-loop-at-preserved-in-Stops t c =
     let o = sym c.is_other.ensures ∙ c.if-is_other.false in
     let b = sym c.same_block.ensures in
     let z : Turned c.args.document.now want.parts want.parts (c.loop-at.inner + c.args.depth) c.loop-at.at c.record_at-h.result.start c.if-same_block.way' =
-    elim c.if-same_block.branch [ parts-then-same_block w ↦ rw w.way'-is (turned _ r l want.parts _ k (bare i r l k)
-      (is-list _ o (b ∙ w.if-same_block.true)) w.pairs-way.result w.pairs-way.ensures)
-    | parts-else-same_block w ↦ rw w.way'-is (start-out _ r l want.parts k (no_part _ o (b ∙ w.if-same_block.false))) ] in
+    elim c.if-same_block.branch [
+      | parts-then-same_block w ↦ rw w.way'-is (turned _ r l want.parts _ k (bare i r l k)
+          (is-list _ o (b ∙ w.if-same_block.true)) w.pairs-way.result w.pairs-way.ensures)
+      | parts-else-same_block w ↦ rw w.way'-is (start-out _ r l want.parts k (no_part _ o (b ∙ w.if-same_block.false)))
+    ] in
     (on-block i r l refl k want.parts z c.in-Stops.is).1
 
 pub parts-returns-in-Out : goal.parts-returns-in-Out
@@ -215,9 +225,11 @@ parts-returns-in-Out t c =
     let o = sym c.is_other.ensures ∙ c.if-is_other.false in
     let b = sym c.same_block.ensures in
     let z : Turned c.args.document.now want.parts want.parts (c.loop-at.inner + c.args.depth) c.loop-at.at c.record_at-h.result.start c.if-same_block.way' =
-    elim c.if-same_block.branch [ parts-then-same_block w ↦ rw w.way'-is (turned _ r l want.parts _ k (bare i r l k)
-      (is-list _ o (b ∙ w.if-same_block.true)) w.pairs-way.result w.pairs-way.ensures)
-    | parts-else-same_block w ↦ rw w.way'-is (start-out _ r l want.parts k (no_part _ o (b ∙ w.if-same_block.false))) ] in
+    elim c.if-same_block.branch [
+      | parts-then-same_block w ↦ rw w.way'-is (turned _ r l want.parts _ k (bare i r l k)
+          (is-list _ o (b ∙ w.if-same_block.true)) w.pairs-way.result w.pairs-way.ensures)
+      | parts-else-same_block w ↦ rw w.way'-is (start-out _ r l want.parts k (no_part _ o (b ∙ w.if-same_block.false)))
+    ] in
     block_strays i r l refl k want.parts z c.in-Out.is
 
 -- the body around ends, or a block among the parts

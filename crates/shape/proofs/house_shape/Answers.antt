@@ -1,5 +1,5 @@
-use Rattle.shape.proofs.Names.{rules, [], none, some, arith, gives, refused}
-use Rattle.document.proofs.Walks.{verdict_gives, verdict_refused}
+use Rattle.shape.proofs.Names.{[], none, some, arith, gives}
+use Rattle.document.proofs.Walks.{verdict_gives}
 use Rattle.shape.proofs.Opened.{open_0}
 use Rattle.shape.proofs.Laws.{the_answer}
 use Rattle.shape.proofs.Accepted.{found_out, found_none}

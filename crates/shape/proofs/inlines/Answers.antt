@@ -1,7 +1,6 @@
-use Rattle.shape.proofs.Names.{refl, sym, ◌∙◌, arith, rules, ahead}
-use Rattle.shape.specs.InnerSteps as want
+use Rattle.shape.proofs.Names.{refl, sym, ◌∙◌, arith}
 use Rattle.shape.proofs.Blocks.{is_wrap, no_wrap}
-use Rattle.shape.proofs.Loops.{Before, begins, over, on-text, unknown_strays, start_strays, on-start, on-end, stops}
+use Rattle.shape.proofs.Loops.{over, on-text, unknown_strays, start_strays, on-start, on-end, stops}
 use Rattle.shape.proofs.inlines.Goals as goal
 
 pub loop-at-smaller-in-Text : goal.loop-at-smaller-in-Text

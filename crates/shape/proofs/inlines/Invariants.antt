@@ -1,7 +1,6 @@
-use Rattle.shape.proofs.Names.{refl, sym, ◌∙◌, arith, rules, ahead}
+use Rattle.shape.proofs.Names.{ahead}
 use Rattle.shape.specs.InnerSteps as want
-use Rattle.shape.proofs.Blocks.{is_wrap, no_wrap}
-use Rattle.shape.proofs.Loops.{Before, begins, over, on-text, unknown_strays, start_strays, on-start, on-end, stops}
+use Rattle.shape.proofs.Loops.{Before}
 use Rattle.shape.proofs.inlines.Given as goal
 
 -- The invariant: what is out of place from the start on is what is out of place from here on, in the blocks that are open.

@@ -1,4 +1,3 @@
-use borrow.Author.Rules.{rules}
 use Rattle.write_laws.proofs.Empty.{empty-call}
 use Rattle.write_laws.proofs.write_empty.Goals as goal
 

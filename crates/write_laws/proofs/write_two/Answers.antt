@@ -1,4 +1,3 @@
-use borrow.Author.Rules.{rules}
 use Rattle.write_laws.proofs.Two.{stops, goes_on}
 use Rattle.write_laws.proofs.write_two.Goals as goal
 
