@@ -1,6 +1,6 @@
-use Rattle.joined.proofs.Names.{refl, ◌-◌, arith, rules, length, drop, size, cut, concat, heads_of}
-use Rattle.joined.proofs.Writing.{Putting, putting_start, putting_more, putting_done}
-use Rattle.joined.proofs.Writing.{Going, going_start, going_next, going_six, firsts_step, firsts_end}
+use Rattle.joined.proofs.Names.{◌-◌, length, drop, size, cut, concat, heads_of}
+use Rattle.joined.proofs.Writing.{Putting}
+use Rattle.joined.proofs.Writing.{Going}
 use Rattle.joined.proofs.put_heads.Given as goal
 
 -- The loop over the records: the first bytes of those up to `at` were written, the rest of them is left to write, and the document is accepted from

@@ -1,6 +1,6 @@
-use Rattle.joined.proofs.Names.{refl, ◌-◌, arith, rules, length, unjoined}
-use Rattle.joined.proofs.Writing.{Putting, putting_start, putting_more, putting_done}
-use Rattle.joined.proofs.Writing.{Sharing, unjoined_from, sharing_start, sharing_six, sharing_fits, sharing_next}
+use Rattle.joined.proofs.Names.{refl, arith}
+use Rattle.joined.proofs.Writing.{putting_start, putting_more, putting_done}
+use Rattle.joined.proofs.Writing.{sharing_start, sharing_six, sharing_next}
 use Rattle.joined.proofs.Writing.{unjoined-start, unjoined-step, unjoined-end}
 use Rattle.joined.proofs.put_records.Goals as goal
 

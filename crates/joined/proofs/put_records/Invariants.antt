@@ -1,7 +1,6 @@
-use Rattle.joined.proofs.Names.{refl, ◌-◌, arith, rules, length, unjoined}
-use Rattle.joined.proofs.Writing.{Putting, putting_start, putting_more, putting_done}
-use Rattle.joined.proofs.Writing.{Sharing, unjoined_from, sharing_start, sharing_six, sharing_fits, sharing_next}
-use Rattle.joined.proofs.Writing.{unjoined-start, unjoined-step, unjoined-end}
+use Rattle.joined.proofs.Names.{◌-◌, length, unjoined}
+use Rattle.joined.proofs.Writing.{Putting}
+use Rattle.joined.proofs.Writing.{Sharing, unjoined_from}
 use Rattle.joined.proofs.put_records.Given as goal
 
 -- The loop over the records: those before `at` were written with their shares of the text, and the text from `from` to `to` is left for the others, which

@@ -1,5 +1,4 @@
 use mathlib.Core.Path.{refl, sym, ap, ◌∙◌}
-use borrow.Author.Rules.{rules}
 use Rattle.refusal.specs.Numbers.{refusal_number, refusal_place}
 use Rattle.joined_rules.specs.Places.{place_in, byte_in}
 use Rattle.joined_places.proofs.Turned.{turned_byte, turned_record, turned-other}

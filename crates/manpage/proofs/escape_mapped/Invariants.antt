@@ -1,7 +1,5 @@
-use Rattle.manpage.proofs.Names.{sym, ◌∙◌, ◌-◌, arith, rules, length, drop, length-take-le, Valid, upper, Escaped, escaped-start, escaped-part}
-use Rattle.manpage.proofs.Names.{escaped-end}
+use Rattle.manpage.proofs.Names.{◌-◌, length, drop, Valid, upper, Escaped}
 use Rattle.roff_escape.specs.declared.escape.Escape.TheVariants as mode
-use Rattle.manpage.proofs.Capturing.{upper-end}
 use Rattle.manpage.proofs.escape_mapped.Given as goal
 
 -- Invariant: the text from i on is left to be escaped, in upper case, and is UTF-8.

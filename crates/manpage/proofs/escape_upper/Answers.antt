@@ -1,4 +1,4 @@
-use Rattle.manpage.proofs.Names.{Bool, List, ℕ, ◌-◌, arith, rules, length, drop, upper, Escaped, escaped-start, escaped_byte, CasedTo}
+use Rattle.manpage.proofs.Names.{Bool, List, ℕ, drop, upper, Escaped, escaped_byte, CasedTo}
 use Rattle.roff_escape.specs.declared.escape.Escape.TheVariants as mode
 use Rattle.manpage.proofs.Capturing.{ValidFrom, valid_past_ascii, upper-here}
 use Rattle.manpage.proofs.escape_upper.Goals as goal

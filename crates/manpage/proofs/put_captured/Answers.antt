@@ -1,7 +1,7 @@
-use Rattle.manpage.proofs.Names.{◌≡◌, refl, sym, ap, ◌∙◌, true, not, ◌&&◌, ◌-◌, arith, rules, ltb, tokens_from, empty, upper, upper-none, Escaped}
-use Rattle.manpage.proofs.Names.{escaped-start, escaped-end, is_text, texts_valid, between}
+use Rattle.manpage.proofs.Names.{◌≡◌, sym, ap, ◌∙◌, true, not, ◌&&◌, ltb, upper, upper-none}
+use Rattle.manpage.proofs.Names.{escaped-end, is_text, between}
 use Rattle.roff_escape.specs.declared.escape.Escape.TheVariants as mode
-use Rattle.manpage.proofs.Capturing.{Again, captured_part, captured_some, holds_valid, passed_over, between_none, further, valid_next, captured_all}
+use Rattle.manpage.proofs.Capturing.{Again, captured_part, captured_some, holds_valid, passed_over, between_none, valid_next, captured_all}
 use Rattle.manpage.proofs.Casing.{further-out, escaped_cased, escaped_all, escaped-rest}
 use Rattle.manpage.proofs.put_captured.Goals.{After-record_at-h, Then-holds_text}
 use Rattle.manpage.proofs.put_captured.Goals as goal

@@ -1,7 +1,7 @@
-use Rattle.manpage.proofs.Names.{◌≡◌, refl, sym, ap, ◌∙◌, true, ◌&&◌, ◌++◌, ◌-◌, arith, rules, ltb, drop, tokens_from, upper, upper-none, Escaped}
-use Rattle.manpage.proofs.Names.{escaped-start, escaped-part, escaped-end, is_text, texts_valid, between}
+use Rattle.manpage.proofs.Names.{◌≡◌, refl, sym, ap, ◌∙◌, true, ◌&&◌, ◌++◌, ltb, drop, upper, upper-none}
+use Rattle.manpage.proofs.Names.{escaped-start, escaped-part, escaped-end, is_text, between}
 use Rattle.roff_escape.specs.declared.escape.Escape.TheVariants as mode
-use Rattle.manpage.proofs.Capturing.{Again, captured_part, holds_valid, passed_over, between_none, further, valid_next}
+use Rattle.manpage.proofs.Capturing.{Again, captured_part, holds_valid, passed_over, between_none, valid_next}
 use Rattle.manpage.proofs.Casing.{escaped-rest}
 use Rattle.manpage.proofs.put_mapped.Goals.{After-record_at-h, Then-holds_text}
 use Rattle.manpage.proofs.put_mapped.Goals as goal

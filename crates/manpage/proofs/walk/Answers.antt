@@ -1,6 +1,6 @@
-use Rattle.manpage.proofs.Names.{refl, sym, ap, ◌∙◌, [], ℕ, ◌-◌, arith, rules, not-true, not-false, length, extended, preamble, is_term_ref}
+use Rattle.manpage.proofs.Names.{refl, sym, ap, ◌∙◌, [], ℕ, length, extended, preamble, is_term_ref}
 use Rattle.refusal.specs.declared.Refusal.TheVariants as refusal
-use Rattle.manpage.proofs.Walking.{On, on-start, Taken, taken, taken_less, on_unknown, on-started, on-ended, on-text, on_captured}
+use Rattle.manpage.proofs.Walking.{on-start, Taken, taken, on_unknown, on-started, on-ended, on-text, on_captured}
 use Rattle.manpage.proofs.Walking.{refused_11, refused_13, answer-refused, done}
 use Rattle.manpage.proofs.walk.Goals.{After-record_at-h}
 use Rattle.manpage.proofs.walk.Goals as goal

@@ -1,4 +1,4 @@
-use Rattle.printing.proofs.Names.{arith, rules}
+use Rattle.printing.proofs.Names.{arith}
 use Rattle.printing.proofs.Laws.{block_went, block_ran}
 use Rattle.printing.proofs.some.Goals as goal
 

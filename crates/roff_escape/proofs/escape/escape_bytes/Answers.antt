@@ -1,5 +1,5 @@
-use Rattle.roff_escape.proofs.Names.{◌-◌, rules, length, drop, drop_of_length-le}
-use Rattle.roff_escape.proofs.Escaping.{Escaped, escaped-start, escaped_byte, escaped-end, from-here}
+use Rattle.roff_escape.proofs.Names.{drop_of_length-le}
+use Rattle.roff_escape.proofs.Escaping.{escaped_byte, escaped-end, from-here}
 use Rattle.roff_escape.proofs.escape.escape_bytes.Goals as goal
 
 pub loop-i-preserved : goal.loop-i-preserved
