@@ -2,16 +2,6 @@ use Rattle.joined.proofs.Names.{refl, document_text}
 use Rattle.joined.proofs.Writing.{putting_start, putting_more, putting_done, bodies_step, bodies_end}
 use Rattle.joined.proofs.put_bodies.Goals as goal
 
--- OLD GOAL slice-bounds-put-all-start
--- part-put-all-start : tie.Need-slice-bounds-put-all-start invariant-loop decreases-loop
--- part-put-all-start c = let r = c.before.record-at.ensures in omega (arith, r.order, r.high)
---
-
--- OLD GOAL slice-bounds-put-all-end
--- part-put-all-end : tie.Need-slice-bounds-put-all-end invariant-loop decreases-loop
--- part-put-all-end c = let r = c.before.record-at.ensures in omega (arith, r.order, r.high)
---
-
 pub loop-at-init : goal.loop-at-init
 loop-at-init c = unfold document_text in putting_start (c.args.room.now) c.args.len refl
 

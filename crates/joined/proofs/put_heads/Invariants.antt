@@ -7,7 +7,9 @@ use Rattle.joined.proofs.put_heads.Given as goal
 -- `at` on. The bytes from `at` on fall.
 
 abbrev pub invariant-loop-at : goal.invariant-loop-at
-invariant-loop-at l = Going l.document l.at × Putting l.initial.room l.len (concat (heads_of l.document)) (concat (cut size 0 (drop l.at l.document))) l.room l.to
+invariant-loop-at l =
+    Going l.document l.at
+    × Putting l.initial.room l.len (concat (heads_of l.document)) (concat (cut size 0 (drop l.at l.document))) l.room l.to
 
 abbrev pub decreases-loop-at : goal.decreases-loop-at
 decreases-loop-at l = length l.document - l.at

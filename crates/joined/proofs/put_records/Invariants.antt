@@ -7,7 +7,9 @@ use Rattle.joined.proofs.put_records.Given as goal
 -- are left to write. The bytes from `at` on fall.
 
 abbrev pub invariant-loop-at : goal.invariant-loop-at
-invariant-loop-at l = Sharing l.joined l.to l.from l.at × Putting l.initial.room l.len (unjoined l.joined) (unjoined_from l.joined l.to l.from l.at) l.room l.reached
+invariant-loop-at l =
+    Sharing l.joined l.to l.from l.at
+    × Putting l.initial.room l.len (unjoined l.joined) (unjoined_from l.joined l.to l.from l.at) l.room l.reached
 
 abbrev pub decreases-loop-at : goal.decreases-loop-at
 decreases-loop-at l = length l.joined - l.at

@@ -23,7 +23,8 @@ holds : (c : Then-holds_text) → let h = c.record_at-h.result in is_text h.kind
 holds c = sym c.holds_text.ensures ∙ c.if-holds_text.true
 
 pub escape_upper-a-requires : goal.escape_upper-a-requires
-escape_upper-a-requires c = holds_valid (again (goal.at.escape_upper-a-requires c).After-record_at-h) (holds (goal.at.escape_upper-a-requires c).Then-holds_text)
+escape_upper-a-requires c =
+    holds_valid (again (goal.at.escape_upper-a-requires c).After-record_at-h) (holds (goal.at.escape_upper-a-requires c).Then-holds_text)
 
 pub put_mapped-line-requires : goal.put_mapped-line-requires
 put_mapped-line-requires c =
@@ -38,8 +39,9 @@ loop-at-preserved-else-a-stop c =
     let l = t.loop-at in
     let g = again (goal.at.loop-at-preserved-else-a-stop c).After-record_at-h in
     let u = c.escape_upper-a in
-    let p = escaped_cased _ _ (further-out (captured_part g (holds (goal.at.loop-at-preserved-else-a-stop c).Then-holds_text)) l.invariant.0) u.auto.room u.ensures in
-    (escaped_all _ _ _ _ c.if-a-stop.false p, sym (captured_some g (holds (goal.at.loop-at-preserved-else-a-stop c).Then-holds_text) l.some) ∙ l.invariant.1, valid_next g)
+    let h = holds (goal.at.loop-at-preserved-else-a-stop c).Then-holds_text in
+    let p = escaped_cased _ _ (further-out (captured_part g h) l.invariant.0) u.auto.room u.ensures in
+    (escaped_all _ _ _ _ c.if-a-stop.false p, sym (captured_some g h l.some) ∙ l.invariant.1, valid_next g)
 
 pub loop-at-preserved : goal.loop-at-preserved
 loop-at-preserved c =

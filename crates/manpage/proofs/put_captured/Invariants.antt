@@ -7,7 +7,9 @@ use Rattle.manpage.proofs.put_captured.Given as goal
 -- What falls: what is left up to the second place.
 
 abbrev pub invariant-loop-at : goal.invariant-loop-at
-invariant-loop-at l = Escaped mode.Spaces l.start (upper (between l.document l.from l.to)) l.initial.room l.len l.room l.n l.fresh (upper (between l.document l.at l.to))
+invariant-loop-at l =
+    Escaped mode.Spaces l.start (upper (between l.document l.from l.to)) l.initial.room l.len l.room l.n l.fresh
+    (upper (between l.document l.at l.to))
     × (not l.some && empty (between l.document l.at l.to) ≡ empty (between l.document l.from l.to))
     × (texts_valid (tokens_from l.document l.at) ≡ true)
 

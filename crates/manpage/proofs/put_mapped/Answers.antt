@@ -27,7 +27,8 @@ escape_cased-line-requires c =
     let t = c in
     let l = t in
     let b = l in
-    ((b.from_column-characters.ensures, b.to_column-capitals.ensures), holds_valid (again (goal.at.escape_cased-line-requires c).After-record_at-h) (holds (goal.at.escape_cased-line-requires c).Then-holds_text))
+    let at = goal.at.escape_cased-line-requires c in
+    ((b.from_column-characters.ensures, b.to_column-capitals.ensures), holds_valid (again at.After-record_at-h) (holds at.Then-holds_text))
 
 pub loop-at-preserved-then-holds_text : goal.loop-at-preserved-then-holds_text
 loop-at-preserved-then-holds_text c =

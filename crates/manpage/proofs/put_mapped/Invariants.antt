@@ -7,7 +7,9 @@ use Rattle.manpage.proofs.put_mapped.Given as goal
 -- What falls: what is left up to the second place.
 
 abbrev pub invariant-loop-at : goal.invariant-loop-at
-invariant-loop-at l = Escaped mode.Spaces l.initial.fresh (upper (between l.document l.from l.to)) l.initial.room l.initial.n l.room l.n l.fresh (upper (between l.document l.at l.to))
+invariant-loop-at l =
+    Escaped mode.Spaces l.initial.fresh (upper (between l.document l.from l.to)) l.initial.room l.initial.n l.room l.n l.fresh
+    (upper (between l.document l.at l.to))
     × (texts_valid (tokens_from l.document l.at) ≡ true)
 
 abbrev pub decreases-loop-at : goal.decreases-loop-at

@@ -79,8 +79,9 @@ loop-i-preserved c =
     let x = take stop bytes in
     let long = up_to bytes a.to stop after-min.min-stop.ensures in
     let i = j.if-plain_here.i in
-    let left = from-here x i (omega (arith, (here (goal.at.loop-i-preserved c).Joined-plain_here).1)) ∙ ap (λ (b : ℕ). b ∷ drop (i + 1) x) (get_or-take stop bytes i 0 (here (goal.at.loop-i-preserved c).Joined-plain_here).1) in (
-      rw c.starts_text_line-fresh.ensures (escaped_byte (text_mode a.strip) a.start (drop a.from x) (a.room.now) a.len (here (goal.at.loop-i-preserved c).Joined-plain_here).0 _ _
+    let k = here (goal.at.loop-i-preserved c).Joined-plain_here in
+    let left = from-here x i (omega (arith, k.1)) ∙ ap (λ (b : ℕ). b ∷ drop (i + 1) x) (get_or-take stop bytes i 0 k.1) in (
+      rw c.starts_text_line-fresh.ensures (escaped_byte (text_mode a.strip) a.start (drop a.from x) (a.room.now) a.len k.0 _ _
           left g.new.room g.result g.auto.room g.ensures),
       g.type_inv,
     )
