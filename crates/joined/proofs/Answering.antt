@@ -95,9 +95,9 @@ module _ (old a b c : List ℕ) (i j k : ℕ) (z text heads : List ℕ) (la : le
 
 -- so the joined form stands there
 pub join-parts : (d old a b c e : List ℕ) (i j k n : ℕ) → check d ≡ gives [] → length a ≡ length old → length b ≡ length a → length c ≡ length b
-    → length e ≡ length c → seen a i ≡ (seen old 0 >>= extended (length old) (little_bytes 4 0)) → seen b j ≡ (seen a i >>= extended (length a) (document_text d))
-    → seen c k ≡ (seen b j >>= extended (length b) (concat (heads_of d))) → e ≡ overwritten c 0 (little_bytes 4 n) → n ≡ j - i
-    → seen e k ≡ joins_into (length old) d
+    → length e ≡ length c → seen a i ≡ (seen old 0 >>= extended (length old) (little_bytes 4 0))
+    → seen b j ≡ (seen a i >>= extended (length a) (document_text d)) → seen c k ≡ (seen b j >>= extended (length b) (concat (heads_of d)))
+    → e ≡ overwritten c 0 (little_bytes 4 n) → n ≡ j - i → seen e k ≡ joins_into (length old) d
 unfolding joined_form
 join-parts d old a b c e i j k n v la lb lc le p q r w m =
     set-length old a b c i j k (little_bytes 4 0) (document_text d) (concat (heads_of d)) la lb p q r e n (four_long 0) lc le w m

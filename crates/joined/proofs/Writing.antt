@@ -174,3 +174,9 @@ module _ {j : List ℕ} {to from at : ℕ} (w : Sharing j to from at) where
           ∙ ap₂ (λ (x : List ℕ) (y : List ℕ). six ++ (x ++ records y (heads_from j (at + 6)))) share-is after
           ∙ ap (λ (k : ℕ). take k (drop at j) ++ (part j from (from + n) ++ unjoined_from j to (from + n) (at + 6)))
           (let z : 6 ≡ at + 6 - at = omega arith in z)
+
+-- no record is left
+pub records_done : {j old room : List ℕ} {len to from at reached : ℕ} → Sharing j to from at
+    → Putting old len (unjoined j) (unjoined_from j to from at) room reached → length j ≤ at
+    → seen room reached ≡ (seen old len >>= extended (length old) (unjoined j))
+records_done w p h = putting_done p (unjoined-end w h)

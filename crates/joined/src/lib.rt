@@ -94,6 +94,7 @@ pub fn join(document: &[u8], room: &mut [u8]) -> Rendered
 }
 
 // Each record's first bytes with its share of the text, of an accepted joined form.
+#[tactic(auto, using(crate::proofs::Writing::records_done))]
 fn put_records(joined: &[u8], room: &mut [u8], len: usize) -> usize
     requires { check_joined joined.now ≡ gives [] }
     ensures { seen room.new result ≡ bind (seen room.old len) (extended (length room.old) (unjoined joined.now)) }

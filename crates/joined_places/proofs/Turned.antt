@@ -27,9 +27,9 @@ module _ (j : List ℕ) (n p : ℕ) where
   turned_record q e h = rw e h
 
   -- any other
-  pub turned-other : (n ≡ 10 → ⊥) → (n ≡ 11 → ⊥) → p ≡ turned (back_in j) n p
+  pub turned_other : (n ≡ 10 → ⊥) → (n ≡ 11 → ⊥) → p ≡ turned (back_in j) n p
   unfolding turned placed
-  turned-other h k =
+  turned_other h k =
       sym (if_false _ _ (not-passed (placed n) λ e. omega (arith, h, k, leb-true 10 n (and_left (leb 10 n) _ e), leb-true n 11 (and_right (leb 10 n) _ e))))
 
 module _ (back : ℕ → ℕ → ℕ) (answer : Rendered) where

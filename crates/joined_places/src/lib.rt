@@ -11,6 +11,7 @@ use refusal::Refusal;
 use renderer::Rendered;
 
 // A refusal of the document with its place in the joined form: 10 names a byte, 11 a record, the others keep theirs.
+#[tactic(auto, using(crate::proofs::Turned::turned_byte, crate::proofs::Turned::turned_record, crate::proofs::Turned::turned_other))]
 fn relocate(joined: &[u8], a: Refusal) -> Refusal
     ensures number { refusal_number result ≡ refusal_number a }
     ensures place { length joined.now ≤ 32_772 → refusal_place result ≡ turned (back_in joined.now) (refusal_number a) (refusal_place a) }

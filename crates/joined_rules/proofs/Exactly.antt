@@ -99,12 +99,14 @@ module _ (d x : List ℕ) (e : check_joined (joined_form d) ≡ gives x) where
 
   shared : Shared (document_text d) (heads_of d)
   unfolding joined_form
-  shared = subst₂ Shared (form-text (document_text d) (heads_of d) few) (form_heads (document_text d) (heads_of d) few regular) (joined_shared (joined_form d) x e)
+  shared = subst₂ Shared (form-text (document_text d) (heads_of d) few) (form_heads (document_text d) (heads_of d) few regular)
+      (joined_shared (joined_form d) x e)
 
   pub accepted_only : check d ≡ gives []
   unfolding joined_form document_text heads_of
   accepted_only =
-      ap check (sym (form-unjoined (document_text d) (heads_of d) few regular ∙ shared_whole d 0 0 (omega arith) shared)) ∙ unjoined_accepted (joined_form d) x e
+      ap check (sym (form-unjoined (document_text d) (heads_of d) few regular ∙ shared_whole d 0 0 (omega arith) shared))
+      ∙ unjoined_accepted (joined_form d) x e
 
 -- 'accepted by one check exactly where the moved one is by the other'
 pub accepted_exactly : (d : List ℕ)

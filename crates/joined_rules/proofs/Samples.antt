@@ -32,8 +32,8 @@ form : List ℕ
 form = 3 ∷ 0 ∷ 0 ∷ 0 ∷ 0x61 ∷ 0x20 ∷ 0x62 ∷ 3 ∷ 0 ∷ 0 ∷ 0 ∷ 1 ∷ 0 ∷ []
 
 over : map (λ (n : ℕ). joins_into n document) (13 ∷ 12 ∷ []) ≡ gives form ∷ refused 13 0 ∷ []
-unfolding document form joins_into joins joined_form document_text heads_of joined tokens token_at cut concat little_bytes extended check short open_blocks reads
-    first accept bodiless record_fits closed opens closes kind_of styles blocks little size table row_of if◌then◌else◌ ◌>>=◌
+unfolding document form joins_into joins joined_form document_text heads_of joined tokens token_at cut concat little_bytes extended check short open_blocks
+    reads first accept bodiless record_fits closed opens closes kind_of styles blocks little size table row_of if◌then◌else◌ ◌>>=◌
 over = refl
 
 back : map (λ (n : ℕ). unjoins_into n form) (9 ∷ 8 ∷ []) ≡ gives document ∷ refused 13 0 ∷ []
@@ -61,5 +61,6 @@ two_listed = refl
 
 -- the Mono's start stands at 7 in the document, `b` at 25 in the record at 19, and its end at 26
 two_places : back_in two 11 7 ∷ back_in two 11 19 ∷ back_in two 10 25 ∷ back_in two 10 26 ∷ [] ≡ 12 ∷ 24 ∷ 5 ∷ 6 ∷ []
-unfolding two form_of share mono mono_end little_bytes head concat back_in place_in byte_in place_from byte_from heads_in records_at cut little size if◌then◌else◌
+unfolding two form_of share mono mono_end little_bytes head concat back_in place_in byte_in place_from byte_from heads_in records_at cut little size
+    if◌then◌else◌
 two_places = refl

@@ -1,5 +1,5 @@
 -- What a block's start or end pushes, and what it does to capture. Assumes nothing.
-use Rattle.manpage.proofs.Names.{ℕ, ◌≡◌, refl, sym, Bool, true, false, false≢true, or-true, ⊎_elim, List, [], ◌∷◌, eqb, eq-eqb, if◌then◌else◌, gives}
+use Rattle.manpage.proofs.Names.{ℕ, ◌≡◌, refl, sym, Bool, true, false, false≢true, List, [], eqb, if◌then◌else◌, gives}
 use Rattle.manpage.proofs.Names.{refused, if_true, if_false, bytes, index, Block, Style, Roff, Piece, Followed, pushed_none, Locals, Outcome}
 use Rattle.manpage.proofs.Names.{subsection, heading, started, ended, locals, Follows, is_heading, is_term_ref, opening, closing, closed}
 use Rattle.records.specs.declared.Block.TheVariants as block

@@ -214,7 +214,8 @@ module _ (m : Escape) where
   valid_chars none start = refl
   valid_chars (char c {s} {cs} h r) start =
       ap utf8 (escape-append m start (encode c) s)
-      ∙ valid_both (escape m start (encode c)) (escape m (line_start m start (encode c)) s) (valid_one start c h) (valid_chars r (line_start m start (encode c)))
+      ∙ valid_both (escape m start (encode c)) (escape m (line_start m start (encode c)) s) (valid_one start c h)
+      (valid_chars r (line_start m start (encode c)))
 
   valid_line : (start : Bool) → Valid (line_end m start)
   unfolding line_end bytes encode if◌then◌else◌ table row_of

@@ -144,6 +144,10 @@ module _ (s : List ℕ) (a i n : ℕ) (g : Reached s a i n) where
 pub block_ran : (s : List ℕ) (a n : ℕ) → Went s a (a + 64) n → Ran s a (record { at = a + 64; prints = n })
 block_ran s a n w = record { none = λ z. let y : ⊥ = omega arith in absurd y; on = λ _. w }
 
+pub block_counted : (s : List ℕ) (a m n : ℕ) → AtMost s a 64 m → n ≡ ascii_count s a 64 → a + 64 ≤ length s → m < 0x80 → n ≤ 64
+    → Ran s a (record { at = a + 64; prints = n })
+block_counted s a m n t l h e f = block_ran s a n (block_went s a m n h t e l f)
+
 -- a part counted after those before it
 pub reached_on : (s : List ℕ) (i b n m : ℕ) → Reached s 0 i n → Went s i b m → Reached s 0 b (n + m)
 reached_on s i b n m g w = record {

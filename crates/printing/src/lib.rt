@@ -85,6 +85,7 @@ fn chars(s: &[u8], a: usize, e: usize) -> Run
 }
 
 // The characters from a on, of at least 64 bytes or up to the end.
+#[tactic(auto, using(crate::proofs::Laws::block_counted))]
 fn some(s: &[u8], a: usize) -> Run
     requires { a < length s.now }
     ensures { Ran s.now a result }

@@ -63,8 +63,8 @@ pub shared_hold : map (λ (s : Shared). roff 60 s.one ∷ roff 60 s.other ∷ []
     ≡ map (λ (s : Shared). gives (preamble ++ bytes s.page) ∷ gives (preamble ++ bytes s.page) ∷ []) shared
 unfolding shared if◌then◌else◌ ◌>>=◌ top pushed popped table row_of encode bytes little styles blocks kind_of size token_at tokens record_fits opens closes
     bodiless accept first reads open_blocks short closed check little_bytes stored text start end around extended walk guard backslash replaced special_byte
-    spaces_byte escape_byte escape line_start preamble writes begun new_line put push pushes font_escape argument linebreak control0 control plaintext roff_text
-    mappings maps_to upper captures heading subsection started ended token turn roff
+    spaces_byte escape_byte escape line_start preamble writes begun new_line put push pushes font_escape argument linebreak control0 control plaintext
+    roff_text mappings maps_to upper captures heading subsection started ended token turn roff
 shared_hold = refl
 
 -- so that no page tells its document: the first two are told apart by their fifth byte

@@ -1,5 +1,5 @@
-use Rattle.joined.proofs.Names.{ap, ◌∙◌, ℕ, ◌+◌, ◌-◌, arith, rules, length}
-use Rattle.joined.proofs.Placing.{Finding, finding_start, finding_end, finding_here, finding_next}
+use Rattle.joined.proofs.Names.{ap, ◌∙◌, ℕ, ◌+◌}
+use Rattle.joined.proofs.Placing.{finding_start, finding_end, finding_here, finding_next}
 use Rattle.joined.proofs.byte_in.Goals as goal
 
 pub loop-q-init : goal.loop-q-init

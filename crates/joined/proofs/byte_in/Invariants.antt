@@ -1,5 +1,5 @@
-use Rattle.joined.proofs.Names.{ap, ◌∙◌, ℕ, ◌+◌, ◌-◌, arith, rules, length}
-use Rattle.joined.proofs.Placing.{Finding, finding_start, finding_end, finding_here, finding_next}
+use Rattle.joined.proofs.Names.{◌-◌, length}
+use Rattle.joined.proofs.Placing.{Finding}
 use Rattle.joined.proofs.byte_in.Given as goal
 
 -- The loop over the records: the record at `q` stands at `at` in the document, its text starts at `from`, and from there on the rules find what they find

@@ -1,13 +1,13 @@
-use Rattle.joined.proofs.Names.{◌∙◌, subst, [], ℕ, rules, set, verdict_gives, verdict_refused, Inside}
+use Rattle.joined.proofs.Names.{◌∙◌, subst, [], ℕ, verdict_gives, verdict_refused, Inside}
 use Rattle.joined.proofs.Answering.{join-refused, join-parts}
 use Rattle.joined.proofs.joined_into.Goals as goal
 
 pub returns-in-Refused : goal.returns-in-Refused
 returns-in-Refused c = record {
-      text = join-refused (c.args.document.now) _
+  text = join-refused (c.args.document.now) _
       (verdict_refused [] c.check-verdict.ensures c.in-Refused.is);
-      inside = tt;
-    }
+  inside = tt;
+}
 
 pub returns-in-Accepted : goal.returns-in-Accepted
 returns-in-Accepted c =

@@ -1,5 +1,4 @@
-use Rattle.joined.proofs.Names.{◌-◌, arith, rules, length}
-use Rattle.joined.proofs.Placing.{Placing, placing_start, placing_end, placing_here, placing_next}
+use Rattle.joined.proofs.Placing.{placing_start, placing_end, placing_here, placing_next}
 use Rattle.joined.proofs.place_in.Goals as goal
 
 pub loop-q-init : goal.loop-q-init

@@ -1,5 +1,5 @@
-use Rattle.joined.proofs.Names.{◌-◌, arith, rules, length}
-use Rattle.joined.proofs.Placing.{Placing, placing_start, placing_end, placing_here, placing_next}
+use Rattle.joined.proofs.Names.{◌-◌, length}
+use Rattle.joined.proofs.Placing.{Placing}
 use Rattle.joined.proofs.place_in.Given as goal
 
 -- The loop over the records: the record at `q` stands at `at` in the document, and from there on the rules find what they find from the start. The bytes

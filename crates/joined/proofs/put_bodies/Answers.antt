@@ -1,5 +1,5 @@
-use Rattle.joined.proofs.Names.{refl, ◌-◌, arith, rules, length, tokens_from, joined, document_text}
-use Rattle.joined.proofs.Writing.{Putting, putting_start, putting_more, putting_done, bodies_step, bodies_end}
+use Rattle.joined.proofs.Names.{refl, document_text}
+use Rattle.joined.proofs.Writing.{putting_start, putting_more, putting_done, bodies_step, bodies_end}
 use Rattle.joined.proofs.put_bodies.Goals as goal
 
 pub loop-at-init : goal.loop-at-init

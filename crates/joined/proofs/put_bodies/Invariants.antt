@@ -1,5 +1,5 @@
-use Rattle.joined.proofs.Names.{refl, ◌-◌, arith, rules, length, tokens_from, joined, document_text}
-use Rattle.joined.proofs.Writing.{Putting, putting_start, putting_more, putting_done, bodies_step, bodies_end}
+use Rattle.joined.proofs.Names.{◌-◌, length, tokens_from, joined, document_text}
+use Rattle.joined.proofs.Writing.{Putting}
 use Rattle.joined.proofs.put_bodies.Given as goal
 
 -- The loop over the records: the text up to the record at `at` was written, and the rest of it is left to write.

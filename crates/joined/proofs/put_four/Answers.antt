@@ -1,4 +1,4 @@
-use Rattle.joined.proofs.Names.{ap, ◌∙◌, List, ℕ, rules, length, ◌>>=◌, extended, seen}
+use Rattle.joined.proofs.Names.{ap, ◌∙◌, List, ℕ, length, ◌>>=◌, extended, seen}
 use Rattle.joined.proofs.Writing.{four_bytes}
 use Rattle.joined.proofs.put_four.Goals as goal
 

@@ -1,6 +1,6 @@
-use Rattle.joined.proofs.Names.{refl, ◌-◌, arith, rules, length, drop, size, cut, concat, heads_of}
-use Rattle.joined.proofs.Writing.{Putting, putting_start, putting_more, putting_done}
-use Rattle.joined.proofs.Writing.{Going, going_start, going_next, going_six, firsts_step, firsts_end}
+use Rattle.joined.proofs.Names.{refl, arith, heads_of}
+use Rattle.joined.proofs.Writing.{putting_start, putting_more, putting_done}
+use Rattle.joined.proofs.Writing.{going_start, going_next, going_six, firsts_step, firsts_end}
 use Rattle.joined.proofs.put_heads.Goals as goal
 
 pub loop-at-init : goal.loop-at-init

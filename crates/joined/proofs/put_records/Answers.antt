@@ -1,7 +1,7 @@
-use Rattle.joined.proofs.Names.{refl, ◌-◌, arith, rules, length, unjoined}
-use Rattle.joined.proofs.Writing.{Putting, putting_start, putting_more, putting_done}
-use Rattle.joined.proofs.Writing.{Sharing, unjoined_from, sharing_start, sharing_six, sharing_fits, sharing_next}
-use Rattle.joined.proofs.Writing.{unjoined-start, unjoined-step, unjoined-end}
+use Rattle.joined.proofs.Names.{refl, arith}
+use Rattle.joined.proofs.Writing.{putting_start, putting_more}
+use Rattle.joined.proofs.Writing.{sharing_start, sharing_six, sharing_next}
+use Rattle.joined.proofs.Writing.{unjoined-start, unjoined-step}
 use Rattle.joined.proofs.put_records.Goals as goal
 
 pub loop-at-init : goal.loop-at-init
@@ -25,6 +25,3 @@ loop-at-preserved c =
     c.loop-at.invariant.1 (unjoined-step w t e) refl p.auto.room
     p.ensures in
     (sharing_next w t e, putting_more _ q.new.room q.result one refl c.get.ensures q.auto.room q.ensures)
-
-pub returns : goal.returns
-returns c = putting_done c.loop-at.invariant.1 (unjoined-end c.loop-at.invariant.0 c.loop-at-test.false)

@@ -1,14 +1,15 @@
-use Rattle.joined.proofs.Names.{refl, ◌-◌, arith, rules, length, unjoined}
-use Rattle.joined.proofs.Writing.{Putting, putting_start, putting_more, putting_done}
-use Rattle.joined.proofs.Writing.{Sharing, unjoined_from, sharing_start, sharing_six, sharing_fits, sharing_next}
-use Rattle.joined.proofs.Writing.{unjoined-start, unjoined-step, unjoined-end}
+use Rattle.joined.proofs.Names.{◌-◌, length, unjoined}
+use Rattle.joined.proofs.Writing.{Putting}
+use Rattle.joined.proofs.Writing.{Sharing, unjoined_from}
 use Rattle.joined.proofs.put_records.Given as goal
 
 -- The loop over the records: those before `at` were written with their shares of the text, and the text from `from` to `to` is left for the others, which
 -- are left to write. The bytes from `at` on fall.
 
 abbrev pub invariant-loop-at : goal.invariant-loop-at
-invariant-loop-at l = Sharing l.joined l.to l.from l.at × Putting l.initial.room l.len (unjoined l.joined) (unjoined_from l.joined l.to l.from l.at) l.room l.reached
+invariant-loop-at l =
+    Sharing l.joined l.to l.from l.at
+    × Putting l.initial.room l.len (unjoined l.joined) (unjoined_from l.joined l.to l.from l.at) l.room l.reached
 
 abbrev pub decreases-loop-at : goal.decreases-loop-at
 decreases-loop-at l = length l.joined - l.at

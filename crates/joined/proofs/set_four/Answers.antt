@@ -1,4 +1,4 @@
-use Rattle.joined.proofs.Names.{ap, ◌∙◌, rules, overwritten}
+use Rattle.joined.proofs.Names.{ap, ◌∙◌, overwritten}
 use Rattle.joined.proofs.Writing.{four_bytes}
 use Rattle.joined.proofs.set_four.Goals as goal
 

@@ -1,34 +1,33 @@
-use Rattle.joined_check.proofs.Names.{ap, ◌∙◌, ℕ, arith, rules, take, opens, closes}
-use Rattle.records.proofs.Tables.{index_small}
+use Rattle.joined_check.proofs.Names.{ap, ◌∙◌, ℕ, arith, take, opens, closes}
 use Rattle.joined_check.proofs.Checking.{share_unknown, share-text, share-start, share-end, share-start-length, share-end-length}
 use Rattle.joined_check.proofs.accept.Goals as goal
 
 pub returns-then-size-gt0 : goal.returns-then-size-gt0
 returns-then-size-gt0 c = record {
-      «open» = share-start-length c.args.at c.args.size _ _
+  «open» = share-start-length c.args.at c.args.size _ _
       c.in-Start.is c.if-size-gt0.true;
-      shallow = omega arith;
-    }
+  shallow = omega arith;
+}
 
 pub returns-then-size-gt0-2 : goal.returns-then-size-gt0-2
 returns-then-size-gt0-2 c = record {
-      «open» = share-end-length c.args.at c.args.size _ _
+  «open» = share-end-length c.args.at c.args.size _ _
       c.in-End.is c.if-size-gt0-2.true;
-      shallow = omega arith;
-    }
+  shallow = omega arith;
+}
 
 pub returns-in-Unknown : goal.returns-in-Unknown
 returns-in-Unknown c = record {
-      «open» = share_unknown c.args.at c.args.size _ _ c.in-Unknown.is;
-      shallow = omega arith;
-    }
+  «open» = share_unknown c.args.at c.args.size _ _ c.in-Unknown.is;
+  shallow = omega arith;
+}
 
 pub returns-in-Text : goal.returns-in-Text
 returns-in-Text c = record {
-      «open» = c.share.ensures.«open» (c.args.stack.now) ∙ share-text c.args.at
+  «open» = c.share.ensures.«open» (c.args.stack.now) ∙ share-text c.args.at
       c.args.size _ _ c.in-Text.is;
-      shallow = c.share.ensures.shallow;
-    }
+  shallow = c.share.ensures.shallow;
+}
 
 pub returns-else-size-gt0 : goal.returns-else-size-gt0
 returns-else-size-gt0 c =

@@ -1,5 +1,4 @@
-use Rattle.joined_check.proofs.Names.{sym, ◌∙◌, rules}
-use borrow.Author.Tests.{not-true, not-false}
+use Rattle.joined_check.proofs.Names.{sym, ◌∙◌}
 use Rattle.joined_check.proofs.Checking.{check_long, check-textless, check-reads}
 use Rattle.joined_check.proofs.check.Goals as goal
 

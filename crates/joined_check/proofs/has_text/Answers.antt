@@ -1,4 +1,3 @@
-use Rattle.joined_check.proofs.Names.{rules}
 use Rattle.joined_check.proofs.Checking.{has_short, has-by}
 use Rattle.joined_check.proofs.has_text.Goals as goal
 

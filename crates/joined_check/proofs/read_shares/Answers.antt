@@ -1,6 +1,6 @@
-use Rattle.joined_check.proofs.Names.{refl, sym, ◌-◌, arith, rules, length}
+use Rattle.joined_check.proofs.Names.{refl, sym, arith}
 use Rattle.document.proofs.Opening.{turn_open, turn_shallow, turn-refused}
-use Rattle.joined_check.proofs.Checking.{Reading, reading_start, reading_cut, reading_refused, reading_fits, reading_next}
+use Rattle.joined_check.proofs.Checking.{reading_start, reading_cut, reading_refused, reading_next}
 use Rattle.joined_check.proofs.Checking.{reading_open, reading_over, reading_done}
 use Rattle.joined_check.proofs.read_shares.Goals as goal
 

@@ -1,7 +1,5 @@
-use Rattle.joined_check.proofs.Names.{refl, sym, ◌-◌, arith, rules, length}
-use Rattle.document.proofs.Opening.{turn_open, turn_shallow, turn-refused}
-use Rattle.joined_check.proofs.Checking.{Reading, reading_start, reading_cut, reading_refused, reading_fits, reading_next}
-use Rattle.joined_check.proofs.Checking.{reading_open, reading_over, reading_done}
+use Rattle.joined_check.proofs.Names.{◌-◌, length}
+use Rattle.joined_check.proofs.Checking.{Reading}
 use Rattle.joined_check.proofs.read_shares.Given as goal
 
 -- The loop over the records: the text from `from` to `to` is left, the first `depth` blocks of the stack are open, and the rules from the record at

@@ -1,4 +1,4 @@
-use Rattle.joined_check.proofs.Names.{sym, ap, ◌∙◌, arith, rules, utf8}
+use Rattle.joined_check.proofs.Names.{sym, ap, ◌∙◌, arith, utf8}
 use Rattle.joined_check.proofs.Checking.{share-past, share_valid, share_other}
 use Rattle.joined_check.proofs.share.Goals as goal
 

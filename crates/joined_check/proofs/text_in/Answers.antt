@@ -1,4 +1,4 @@
-use Rattle.joined_check.proofs.Names.{◌∙◌, rules}
+use Rattle.joined_check.proofs.Names.{◌∙◌}
 use Rattle.joined_check.proofs.Checking.{text-part}
 use Rattle.joined_check.proofs.text_in.Goals as goal
 

@@ -1,4 +1,4 @@
-use Rattle.manpage.proofs.Names.{◌∙◌, rules, linebreak, control, pushed_then, argument_pieces}
+use Rattle.manpage.proofs.Names.{◌∙◌, linebreak, control, pushed_then, argument_pieces}
 use Rattle.roff_escape.specs.InnerParts.{control_name}
 use Rattle.manpage.proofs.control.Goals as goal
 

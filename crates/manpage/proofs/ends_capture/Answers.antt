@@ -1,4 +1,4 @@
-use Rattle.manpage.proofs.Names.{sym, ◌∙◌, rules}
+use Rattle.manpage.proofs.Names.{sym, ◌∙◌}
 use Rattle.manpage.proofs.Blocks.{ends_heading, ends_other}
 use Rattle.manpage.proofs.ends_capture.Goals as goal
 

@@ -1,4 +1,4 @@
-use Rattle.manpage.proofs.Names.{sym, ◌∙◌, ◌-◌, arith, rules, length, drop, length-take-le, Valid, upper, Escaped, escaped-start, escaped-part}
+use Rattle.manpage.proofs.Names.{sym, ◌∙◌, drop, upper, escaped-part}
 use Rattle.manpage.proofs.Names.{escaped-end}
 use Rattle.roff_escape.specs.declared.escape.Escape.TheVariants as mode
 use Rattle.manpage.proofs.Capturing.{upper-end}

@@ -1,20 +1,14 @@
-use Rattle.manpage.proofs.Names.{Bool, List, ℕ, ◌-◌, arith, rules, length, drop, upper, Escaped, escaped-start, escaped_byte, CasedTo}
+use Rattle.manpage.proofs.Names.{◌≤◌, arith, get_or, upper, escaped_byte}
 use Rattle.roff_escape.specs.declared.escape.Escape.TheVariants as mode
-use Rattle.manpage.proofs.Capturing.{ValidFrom, valid_past_ascii, upper-here}
+use Rattle.manpage.proofs.Capturing.{valid_past_ascii, upper-here}
 use Rattle.manpage.proofs.escape_upper.Goals as goal
-
--- what went out up to i
-cased : {old room bytes : List ℕ} {len n i : ℕ} {start fresh : Bool} → ValidFrom bytes i
-    → Escaped mode.Spaces start (upper bytes) old len room n fresh (upper (drop i bytes))
-    → CasedTo old len start bytes room (record { len = n; fresh = fresh; next = i })
-cased v s = record { inside = v.inside; valid = v.valid; text = s.text; line = s.line }
 
 pub loop-i-preserved : goal.loop-i-preserved
 loop-i-preserved c =
     let a = c.args in
     let l = c.loop-i in
     let t = c.loop-i-test.true in
-    let b = c.if-b-gt127.false in
+    let b : get_or (a.bytes.now) l.i 0 ≤ 0x7F = omega arith in
     let g = c.put_byte-n in
     let e = upper-here l.invariant.0 t b _ c.to_ascii_uppercase-c.ensures in
     rw c.starts_line-fresh.ensures (

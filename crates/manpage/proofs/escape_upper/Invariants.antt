@@ -1,6 +1,6 @@
-use Rattle.manpage.proofs.Names.{Bool, List, ℕ, ◌-◌, arith, rules, length, drop, upper, Escaped, escaped-start, escaped_byte, CasedTo}
+use Rattle.manpage.proofs.Names.{◌-◌, length, drop, upper, Escaped}
 use Rattle.roff_escape.specs.declared.escape.Escape.TheVariants as mode
-use Rattle.manpage.proofs.Capturing.{ValidFrom, valid_past_ascii, upper-here}
+use Rattle.manpage.proofs.Capturing.{ValidFrom}
 use Rattle.manpage.proofs.escape_upper.Given as goal
 
 -- Invariant: the text from i on is left to be escaped, in upper case, and is UTF-8.

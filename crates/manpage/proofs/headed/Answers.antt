@@ -1,4 +1,4 @@
-use Rattle.manpage.proofs.Names.{sym, subst, rules, if◌then◌else◌, Result, Block, encode, bytes, Outcome, heading, ended, locals, between}
+use Rattle.manpage.proofs.Names.{sym, subst, if◌then◌else◌, Result, Block, encode, bytes, Outcome, heading, ended, locals, between}
 use Rattle.manpage.proofs.Names.{Follows}
 use Rattle.manpage.proofs.Blocks.{ended-section}
 use Rattle.manpage.proofs.headed.Goals as goal

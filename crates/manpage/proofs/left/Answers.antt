@@ -1,4 +1,4 @@
-use Rattle.manpage.proofs.Names.{sym, subst, rules, if◌then◌else◌, Block, encode, bytes, ended, locals, Follows}
+use Rattle.manpage.proofs.Names.{sym, subst, if◌then◌else◌, Block, encode, bytes, ended, locals, Follows}
 use Rattle.manpage.proofs.Blocks.{stripped, ended-nothing}
 use Rattle.manpage.proofs.left.Goals as goal
 

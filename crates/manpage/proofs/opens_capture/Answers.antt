@@ -1,4 +1,4 @@
-use Rattle.manpage.proofs.Names.{sym, ◌∙◌, rules}
+use Rattle.manpage.proofs.Names.{sym, ◌∙◌}
 use Rattle.manpage.proofs.Blocks.{opens-heading, opens-other}
 use Rattle.manpage.proofs.opens_capture.Goals as goal
 

@@ -1,4 +1,4 @@
-use Rattle.manpage.proofs.Names.{refl, rules, between}
+use Rattle.manpage.proofs.Names.{refl, between}
 use Rattle.manpage.proofs.Capturing.{valid_texts, argument-text, argument-none}
 use Rattle.manpage.proofs.put_argument.Goals as goal
 

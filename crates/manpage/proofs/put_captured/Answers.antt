@@ -1,7 +1,7 @@
-use Rattle.manpage.proofs.Names.{◌≡◌, refl, sym, ap, ◌∙◌, true, not, ◌&&◌, ◌-◌, arith, rules, ltb, tokens_from, empty, upper, upper-none, Escaped}
-use Rattle.manpage.proofs.Names.{escaped-start, escaped-end, is_text, texts_valid, between}
+use Rattle.manpage.proofs.Names.{◌≡◌, sym, ap, ◌∙◌, true, not, ◌&&◌, ltb, upper, upper-none}
+use Rattle.manpage.proofs.Names.{escaped-end, is_text, between}
 use Rattle.roff_escape.specs.declared.escape.Escape.TheVariants as mode
-use Rattle.manpage.proofs.Capturing.{Again, captured_part, captured_some, holds_valid, passed_over, between_none, further, valid_next, captured_all}
+use Rattle.manpage.proofs.Capturing.{Again, captured_part, captured_some, holds_valid, passed_over, between_none, valid_next, captured_all}
 use Rattle.manpage.proofs.Casing.{further-out, escaped_cased, escaped_all, escaped-rest}
 use Rattle.manpage.proofs.put_captured.Goals.{After-record_at-h, Then-holds_text}
 use Rattle.manpage.proofs.put_captured.Goals as goal
@@ -23,7 +23,8 @@ holds : (c : Then-holds_text) → let h = c.record_at-h.result in is_text h.kind
 holds c = sym c.holds_text.ensures ∙ c.if-holds_text.true
 
 pub escape_upper-a-requires : goal.escape_upper-a-requires
-escape_upper-a-requires c = holds_valid (again (goal.at.escape_upper-a-requires c).After-record_at-h) (holds (goal.at.escape_upper-a-requires c).Then-holds_text)
+escape_upper-a-requires c =
+    holds_valid (again (goal.at.escape_upper-a-requires c).After-record_at-h) (holds (goal.at.escape_upper-a-requires c).Then-holds_text)
 
 pub put_mapped-line-requires : goal.put_mapped-line-requires
 put_mapped-line-requires c =
@@ -38,8 +39,9 @@ loop-at-preserved-else-a-stop c =
     let l = t.loop-at in
     let g = again (goal.at.loop-at-preserved-else-a-stop c).After-record_at-h in
     let u = c.escape_upper-a in
-    let p = escaped_cased _ _ (further-out (captured_part g (holds (goal.at.loop-at-preserved-else-a-stop c).Then-holds_text)) l.invariant.0) u.auto.room u.ensures in
-    (escaped_all _ _ _ _ c.if-a-stop.false p, sym (captured_some g (holds (goal.at.loop-at-preserved-else-a-stop c).Then-holds_text) l.some) ∙ l.invariant.1, valid_next g)
+    let h = holds (goal.at.loop-at-preserved-else-a-stop c).Then-holds_text in
+    let p = escaped_cased _ _ (further-out (captured_part g h) l.invariant.0) u.auto.room u.ensures in
+    (escaped_all _ _ _ _ c.if-a-stop.false p, sym (captured_some g h l.some) ∙ l.invariant.1, valid_next g)
 
 pub loop-at-preserved : goal.loop-at-preserved
 loop-at-preserved c =

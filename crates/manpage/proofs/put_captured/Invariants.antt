@@ -1,15 +1,15 @@
-use Rattle.manpage.proofs.Names.{◌≡◌, refl, sym, ap, ◌∙◌, true, not, ◌&&◌, ◌-◌, arith, rules, ltb, tokens_from, empty, upper, upper-none, Escaped}
-use Rattle.manpage.proofs.Names.{escaped-start, escaped-end, is_text, texts_valid, between}
+use Rattle.manpage.proofs.Names.{◌≡◌, true, not, ◌&&◌, ◌-◌, tokens_from, empty, upper, Escaped}
+use Rattle.manpage.proofs.Names.{texts_valid, between}
 use Rattle.roff_escape.specs.declared.escape.Escape.TheVariants as mode
-use Rattle.manpage.proofs.Capturing.{Again, captured_part, captured_some, holds_valid, passed_over, between_none, further, valid_next, captured_all}
-use Rattle.manpage.proofs.Casing.{further-out, escaped_cased, escaped_all, escaped-rest}
 use Rattle.manpage.proofs.put_captured.Given as goal
 
 -- Invariant: of the text between the places that from `at` on is left, and whether any was met; from `at` on text is UTF-8.
 -- What falls: what is left up to the second place.
 
 abbrev pub invariant-loop-at : goal.invariant-loop-at
-invariant-loop-at l = Escaped mode.Spaces l.start (upper (between l.document l.from l.to)) l.initial.room l.len l.room l.n l.fresh (upper (between l.document l.at l.to))
+invariant-loop-at l =
+    Escaped mode.Spaces l.start (upper (between l.document l.from l.to)) l.initial.room l.len l.room l.n l.fresh
+    (upper (between l.document l.at l.to))
     × (not l.some && empty (between l.document l.at l.to) ≡ empty (between l.document l.from l.to))
     × (texts_valid (tokens_from l.document l.at) ≡ true)
 

@@ -1,7 +1,7 @@
-use Rattle.manpage.proofs.Names.{◌≡◌, refl, sym, ap, ◌∙◌, true, ◌&&◌, ◌++◌, ◌-◌, arith, rules, ltb, drop, tokens_from, upper, upper-none, Escaped}
-use Rattle.manpage.proofs.Names.{escaped-start, escaped-part, escaped-end, is_text, texts_valid, between}
+use Rattle.manpage.proofs.Names.{◌≡◌, refl, sym, ap, ◌∙◌, true, ◌&&◌, ◌++◌, ltb, drop, upper, upper-none}
+use Rattle.manpage.proofs.Names.{escaped-start, escaped-part, escaped-end, is_text, between}
 use Rattle.roff_escape.specs.declared.escape.Escape.TheVariants as mode
-use Rattle.manpage.proofs.Capturing.{Again, captured_part, holds_valid, passed_over, between_none, further, valid_next}
+use Rattle.manpage.proofs.Capturing.{Again, captured_part, holds_valid, passed_over, between_none, valid_next}
 use Rattle.manpage.proofs.Casing.{escaped-rest}
 use Rattle.manpage.proofs.put_mapped.Goals.{After-record_at-h, Then-holds_text}
 use Rattle.manpage.proofs.put_mapped.Goals as goal
@@ -27,7 +27,8 @@ escape_cased-line-requires c =
     let t = c in
     let l = t in
     let b = l in
-    ((b.from_column-characters.ensures, b.to_column-capitals.ensures), holds_valid (again (goal.at.escape_cased-line-requires c).After-record_at-h) (holds (goal.at.escape_cased-line-requires c).Then-holds_text))
+    let at = goal.at.escape_cased-line-requires c in
+    ((b.from_column-characters.ensures, b.to_column-capitals.ensures), holds_valid (again at.After-record_at-h) (holds at.Then-holds_text))
 
 pub loop-at-preserved-then-holds_text : goal.loop-at-preserved-then-holds_text
 loop-at-preserved-then-holds_text c =

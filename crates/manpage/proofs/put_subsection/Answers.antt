@@ -1,4 +1,4 @@
-use Rattle.manpage.proofs.Names.{ap, rules, if◌then◌else◌, encode, bytes, pushed_none, pushed-same, subsection}
+use Rattle.manpage.proofs.Names.{ap, if◌then◌else◌, encode, bytes, pushed_none, pushed-same, subsection}
 use Rattle.manpage.proofs.Blocks.{subsection-nothing}
 use Rattle.manpage.proofs.put_subsection.Goals as goal
 

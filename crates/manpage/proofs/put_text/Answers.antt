@@ -1,4 +1,4 @@
-use Rattle.manpage.proofs.Names.{sym, ap, ◌∙◌, Bool, rules, part, Font, text, pushed_then, pushed-same, font_of}
+use Rattle.manpage.proofs.Names.{sym, ap, ◌∙◌, Bool, part, Font, text, pushed_then, pushed-same, font_of}
 use Rattle.manpage.proofs.put_text.Goals as goal
 
 pub returns : goal.returns

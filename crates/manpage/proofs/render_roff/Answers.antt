@@ -1,4 +1,4 @@
-use Rattle.manpage.proofs.Names.{sym, ap, ◌∙◌, [], ℕ, rules, length, measured, verdict_gives, verdict_refused, standing, filled}
+use Rattle.manpage.proofs.Names.{sym, ap, ◌∙◌, [], ℕ, length, measured, verdict_gives, verdict_refused, standing, filled}
 use Rattle.renderer.proofs.Clearing.{standing-measured}
 use Rattle.manpage.proofs.Encoding.{accepted_texts}
 use Rattle.manpage.proofs.Walking.{roff_accepted, roff-refused}

@@ -1,4 +1,4 @@
-use Rattle.manpage.proofs.Names.{sym, subst, rules, if◌then◌else◌, Block, encode, bytes, started, locals, Follows}
+use Rattle.manpage.proofs.Names.{sym, subst, if◌then◌else◌, Block, encode, bytes, started, locals, Follows}
 use Rattle.manpage.proofs.Blocks.{stripped, started-nothing}
 use Rattle.manpage.proofs.started.Goals as goal
 

@@ -1,6 +1,6 @@
-use Rattle.manpage.proofs.Names.{refl, sym, ap, ◌∙◌, [], ℕ, ◌-◌, arith, rules, not-true, not-false, length, extended, preamble, is_term_ref}
+use Rattle.manpage.proofs.Names.{refl, sym, ap, ◌∙◌, [], ℕ, length, extended, preamble, is_term_ref}
 use Rattle.refusal.specs.declared.Refusal.TheVariants as refusal
-use Rattle.manpage.proofs.Walking.{On, on-start, Taken, taken, taken_less, on_unknown, on-started, on-ended, on-text, on_captured}
+use Rattle.manpage.proofs.Walking.{on-start, Taken, taken, on_unknown, on-started, on-ended, on-text, on_captured}
 use Rattle.manpage.proofs.Walking.{refused_11, refused_13, answer-refused, done}
 use Rattle.manpage.proofs.walk.Goals.{After-record_at-h}
 use Rattle.manpage.proofs.walk.Goals as goal
@@ -31,7 +31,8 @@ loop-room-preserved-then-not-capture c =
     on-text t g.new.room g.result g.auto.room c.in-Text.is if4.true g.ensures
 
 pub loop-room-preserved-else-not-capture : goal.loop-room-preserved-else-not-capture
-loop-room-preserved-else-not-capture c = on_captured (here (goal.at.loop-room-preserved-else-not-capture c).After-record_at-h) c.in-Text.is c.if-not-capture.false
+loop-room-preserved-else-not-capture c =
+    on_captured (here (goal.at.loop-room-preserved-else-not-capture c).After-record_at-h) c.in-Text.is c.if-not-capture.false
 
 pub loop-room-preserved-in-Start : goal.loop-room-preserved-in-Start
 loop-room-preserved-in-Start c =
@@ -40,8 +41,9 @@ loop-room-preserved-in-Start c =
     let if3 = c.if-is_term_ref in
     let after-is-term-ref = c in
     let n = sym (ap is_term_ref k) ∙ sym after-is-term-ref.is_term_ref.ensures ∙ if3.false in
-    on-started (here (goal.at.loop-room-preserved-in-Start c).After-record_at-h) g.new.room g.result g.auto.room c.opens_capture-capture.result k n c.opens_capture-capture.ensures
-    g.ensures
+    let h = here (goal.at.loop-room-preserved-in-Start c).After-record_at-h in
+    let o = c.opens_capture-capture in
+    on-started h g.new.room g.result g.auto.room o.result k n o.ensures g.ensures
 
 pub loop-room-preserved-in-End : goal.loop-room-preserved-in-End
 loop-room-preserved-in-End c =
@@ -50,8 +52,9 @@ loop-room-preserved-in-End c =
     let if3 = c.if-is_term_ref in
     let after-is-term-ref = c in
     let n = sym (ap is_term_ref k) ∙ sym after-is-term-ref.is_term_ref.ensures ∙ if3.false in
-    on-ended (here (goal.at.loop-room-preserved-in-End c).After-record_at-h) g.new.room g.result g.auto.room c.ends_capture-capture.result k n c.ends_capture-capture.ensures
-    g.ensures
+    let h = here (goal.at.loop-room-preserved-in-End c).After-record_at-h in
+    let o = c.ends_capture-capture in
+    on-ended h g.new.room g.result g.auto.room o.result k n o.ensures g.ensures
 
 pub loop-room-preserved : goal.loop-room-preserved
 loop-room-preserved c = on_unknown (here (goal.at.loop-room-preserved c).After-record_at-h) c.in-Unknown.is
@@ -82,7 +85,8 @@ returns-then-is_term_ref c =
     let l = after-loop.loop-room in
     let size = after-loop.put_preamble-m.auto.room in
     let e = sym c.is_term_ref.ensures ∙ c.if-is_term_ref.true in
-    let w = answer-refused _ _ l.room (refusal.NoForm l.at) (refused_11 (here (goal.at.returns-then-is_term_ref c).After-record_at-h) if1.false e) _ size in record {
+    let h = here (goal.at.returns-then-is_term_ref c).After-record_at-h in
+    let w = answer-refused _ _ l.room (refusal.NoForm l.at) (refused_11 h if1.false e) _ size in record {
       text = w.stands;
       inside = w.inside;
     }

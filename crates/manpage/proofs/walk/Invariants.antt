@@ -1,7 +1,5 @@
-use Rattle.manpage.proofs.Names.{refl, sym, ap, ◌∙◌, [], ℕ, ◌-◌, arith, rules, not-true, not-false, length, extended, preamble, is_term_ref}
-use Rattle.refusal.specs.declared.Refusal.TheVariants as refusal
-use Rattle.manpage.proofs.Walking.{On, on-start, Taken, taken, taken_less, on_unknown, on-started, on-ended, on-text, on_captured}
-use Rattle.manpage.proofs.Walking.{refused_11, refused_13, answer-refused, done}
+use Rattle.manpage.proofs.Names.{◌-◌, length}
+use Rattle.manpage.proofs.Walking.{On}
 use Rattle.manpage.proofs.walk.Given as goal
 
 -- Invariant: what stands in the room, and the rules run from `at` on, give the whole text; captured is the text from where capture began to `at`.

@@ -1,5 +1,4 @@
-use Rattle.printing.proofs.Names.{◌≡◌, ap, ◌∙◌, ℕ, ◌+◌, ◌-◌, ◌≤◌, ◌<◌, arith, rules, get_or, ascii_count}
-use mathlib.Core.Logic.{⊎_elim}
+use Rattle.printing.proofs.Names.{◌+◌, arith, get_or}
 use Rattle.utf8.proofs.Laws.{most_more}
 use Rattle.printing.proofs.Laws.{prints_small, count_none, count_more}
 use Rattle.printing.proofs.block_at.Goals.{else-top-b, then-top-b}
@@ -21,8 +20,10 @@ loop-i-preserved c =
     let j = c.if-top-b in
     let e = c.ascii_prints-n.ensures in (
       omega arith,
-      elim j.branch [ then-top-b w ↦ most_more s a.a l.i l.top j.top l.invariant.1 (omega arith) (omega arith)
-    | else-top-b w ↦ most_more s a.a l.i l.top j.top l.invariant.1 (omega arith) (omega arith) ],
+      elim j.branch [
+        | then-top-b w ↦ most_more s a.a l.i l.top j.top l.invariant.1 (omega arith) (omega arith)
+        | else-top-b w ↦ most_more s a.a l.i l.top j.top l.invariant.1 (omega arith) (omega arith)
+      ],
       omega (arith, l.invariant.2, e, count_more s a.a l.i),
       omega (arith, l.invariant.3, e, prints_small (get_or s (a.a + l.i) 0)),
     )

@@ -1,7 +1,4 @@
-use Rattle.printing.proofs.Names.{◌≡◌, ap, ◌∙◌, ℕ, ◌+◌, ◌-◌, ◌≤◌, ◌<◌, arith, rules, get_or, ascii_count}
-use mathlib.Core.Logic.{⊎_elim}
-use Rattle.utf8.proofs.Laws.{most_more}
-use Rattle.printing.proofs.Laws.{prints_small, count_none, count_more}
+use Rattle.printing.proofs.Names.{◌≡◌, ℕ, ◌+◌, ◌-◌, ◌≤◌, ◌<◌, get_or, ascii_count}
 use Rattle.printing.proofs.block_at.Given as goal
 
 -- No byte so far is over the largest, and so many of them print.

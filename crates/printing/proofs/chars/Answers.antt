@@ -1,6 +1,5 @@
-use Rattle.printing.proofs.Names.{sym, ◌∙◌, ◌-◌, arith, rules, length, get_or, read_character, no_character}
-use borrow.Author.Tests.{not-true, not-false}
-use Rattle.printing.proofs.Laws.{Reached, reached_none, reached_byte, reached_one, reached_white, ran_none, ran_on, prints_small}
+use Rattle.printing.proofs.Names.{sym, ◌∙◌, arith, read_character, no_character}
+use Rattle.printing.proofs.Laws.{reached_byte, reached_one, reached_white, ran_none}
 use Rattle.printing.proofs.chars.Goals as goal
 
 pub loop-i-preserved-then-b-lt128 : goal.loop-i-preserved-then-b-lt128

@@ -1,6 +1,5 @@
-use Rattle.printing.proofs.Names.{sym, ◌∙◌, ◌-◌, arith, rules, length, get_or, read_character, no_character}
-use borrow.Author.Tests.{not-true, not-false}
-use Rattle.printing.proofs.Laws.{Reached, reached_none, reached_byte, reached_one, reached_white, ran_none, ran_on, prints_small}
+use Rattle.printing.proofs.Names.{◌-◌, length}
+use Rattle.printing.proofs.Laws.{Reached}
 use Rattle.printing.proofs.chars.Given as goal
 
 -- Whole characters stand from the start to here, and so many of them print.

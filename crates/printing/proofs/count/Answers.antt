@@ -1,5 +1,4 @@
-use Rattle.printing.proofs.Names.{◌∙◌, ◌-◌, arith, rules, length}
-use Rattle.printing.proofs.Laws.{Reached, reached_none, reached_on}
+use Rattle.printing.proofs.Names.{◌∙◌, arith}
 use Rattle.white.proofs.Counting.{counted_none, counted_all}
 use Rattle.printing.proofs.count.Goals as goal
 

@@ -1,6 +1,5 @@
-use Rattle.printing.proofs.Names.{◌∙◌, ◌-◌, arith, rules, length}
-use Rattle.printing.proofs.Laws.{Reached, reached_none, reached_on}
-use Rattle.white.proofs.Counting.{counted_none, counted_all}
+use Rattle.printing.proofs.Names.{◌-◌, length}
+use Rattle.printing.proofs.Laws.{Reached}
 use Rattle.printing.proofs.count.Given as goal
 
 -- Whole characters stand up to here, and so many of them print.

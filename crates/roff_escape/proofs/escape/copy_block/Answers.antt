@@ -1,4 +1,4 @@
-use Rattle.roff_escape.proofs.Names.{◌≡◌, sym, ap, ◌∙◌, List, ℕ, ◌+◌, ◌-◌, ◌≤◌, arith, rules, le-leb, length, take, drop, replicate, length-drop}
+use Rattle.roff_escape.proofs.Names.{◌≡◌, sym, ap, ◌∙◌, List, ℕ, ◌+◌, ◌-◌, ◌≤◌, arith, le-leb, length, take, drop, replicate, length-drop}
 use Rattle.roff_escape.proofs.Names.{length-take-le, overwritten, if_true, overwritten-whole}
 use Rattle.roff_escape.proofs.escape.copy_block.Goals as goal
 

@@ -1,5 +1,5 @@
-use Rattle.roff_escape.proofs.Names.{◌≡◌, refl, sym, ap, ◌∙◌, ℕ, ◌+◌, ◌-◌, arith, rules, not-false, length, take, get_or, set, length-set}
-use Rattle.roff_escape.proofs.Names.{length-take-le, get_or-take, plain, Copies}
+use Rattle.roff_escape.proofs.Names.{◌≡◌, refl, sym, ap, ◌∙◌, ℕ, arith, length, take, get_or, set, length-set}
+use Rattle.roff_escape.proofs.Names.{length-take-le, get_or-take, plain}
 use Rattle.roff_escape.proofs.Plain.{copies_start, copies_more}
 use Rattle.roff_escape.proofs.escape.copy_bytes.Goals as goal
 

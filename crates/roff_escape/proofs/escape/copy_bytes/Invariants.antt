@@ -1,6 +1,5 @@
-use Rattle.roff_escape.proofs.Names.{◌≡◌, refl, sym, ap, ◌∙◌, ℕ, ◌+◌, ◌-◌, arith, rules, not-false, length, take, get_or, set, length-set}
-use Rattle.roff_escape.proofs.Names.{length-take-le, get_or-take, plain, Copies}
-use Rattle.roff_escape.proofs.Plain.{copies_start, copies_more}
+use Rattle.roff_escape.proofs.Names.{◌≡◌, ◌+◌, ◌-◌, length, take}
+use Rattle.roff_escape.proofs.Names.{Copies}
 use Rattle.roff_escape.proofs.escape.copy_bytes.Given as goal
 
 -- Invariant: the plain bytes from `at` up to i stand in the room after the first `len`, and n counts both.

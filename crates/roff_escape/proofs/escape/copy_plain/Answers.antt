@@ -1,4 +1,4 @@
-use Rattle.roff_escape.proofs.Names.{◌≡◌, refl, subst, ◌∙◌, ℕ, ◌+◌, ◌-◌, ◌≤◌, arith, rules, length, take, drop, length-take, length-drop}
+use Rattle.roff_escape.proofs.Names.{◌≡◌, refl, subst, ◌∙◌, ℕ, ◌+◌, ◌-◌, ◌≤◌, arith, length, take, drop, length-drop}
 use Rattle.roff_escape.proofs.Names.{length-take-le, among, Copies}
 use Rattle.splitter.proofs.Before.{before-short}
 use Rattle.roff_escape.proofs.Plain.{run_plain, block-part, copies_start, copies_run, copies_join}

@@ -1,7 +1,5 @@
-use Rattle.roff_escape.proofs.Names.{◌≡◌, refl, subst, ◌∙◌, ℕ, ◌+◌, ◌-◌, ◌≤◌, arith, rules, length, take, drop, length-take, length-drop}
-use Rattle.roff_escape.proofs.Names.{length-take-le, among, Copies}
-use Rattle.splitter.proofs.Before.{before-short}
-use Rattle.roff_escape.proofs.Plain.{run_plain, block-part, copies_start, copies_run, copies_join}
+use Rattle.roff_escape.proofs.Names.{◌≡◌, ◌+◌, ◌-◌, length, take}
+use Rattle.roff_escape.proofs.Names.{Copies}
 use Rattle.roff_escape.proofs.escape.copy_plain.Given as goal
 
 -- Invariant: the plain bytes from `at` up to i stand in the room after the first `len`, and n counts both.

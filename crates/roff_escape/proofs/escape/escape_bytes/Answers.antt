@@ -1,5 +1,5 @@
-use Rattle.roff_escape.proofs.Names.{◌-◌, rules, length, drop, drop_of_length-le}
-use Rattle.roff_escape.proofs.Escaping.{Escaped, escaped-start, escaped_byte, escaped-end, from-here}
+use Rattle.roff_escape.proofs.Names.{drop_of_length-le}
+use Rattle.roff_escape.proofs.Escaping.{escaped_byte, escaped-end, from-here}
 use Rattle.roff_escape.proofs.escape.escape_bytes.Goals as goal
 
 pub loop-i-preserved : goal.loop-i-preserved
@@ -17,7 +17,8 @@ pub returns : goal.returns
 returns c =
     let a = c.args in
     let l = c.loop-i in
-    let told = escaped-end a.mode a.start (a.bytes.now) (a.room.now) a.len l.invariant (drop_of_length-le (a.bytes.now) {i = l.i} c.loop-i-test.false) in record {
+    let told = escaped-end a.mode a.start (a.bytes.now) (a.room.now) a.len l.invariant
+    (drop_of_length-le (a.bytes.now) {i = l.i} c.loop-i-test.false) in record {
       text = told.0;
       line = told.1;
     }

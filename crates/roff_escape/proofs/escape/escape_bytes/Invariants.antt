@@ -1,5 +1,5 @@
-use Rattle.roff_escape.proofs.Names.{◌-◌, rules, length, drop, drop_of_length-le}
-use Rattle.roff_escape.proofs.Escaping.{Escaped, escaped-start, escaped_byte, escaped-end, from-here}
+use Rattle.roff_escape.proofs.Names.{◌-◌, length, drop}
+use Rattle.roff_escape.proofs.Escaping.{Escaped}
 use Rattle.roff_escape.proofs.escape.escape_bytes.Given as goal
 
 -- Invariant: what stands in the room up to n, and the bytes from i on escaped, is all of them escaped (Escaped).

@@ -1,7 +1,7 @@
-use Rattle.roff_escape.proofs.Names.{◌≡◌, sym, ap, ◌∙◌, not, ⊎_elim, List, ◌∷◌, ℕ, ◌+◌, ◌-◌, ◌≤◌, ◌<◌, ◌^◌, min, arith, rules, not-true, length}
+use Rattle.roff_escape.proofs.Names.{◌≡◌, sym, ap, ◌∙◌, not, List, ◌∷◌, ℕ, ◌+◌, ◌-◌, ◌≤◌, ◌<◌, min, arith, not-true, length}
 use Rattle.roff_escape.proofs.Names.{take, drop, drop_of_length-le, length-take-le, get_or-take, and_left, text_mode}
-use Rattle.roff_escape.proofs.Escaping.{escaped-start, escaped_byte, escaped-end, from-here}
-use Rattle.roff_escape.proofs.Plain.{TextFrom, text-part, text_same, text-plain, copies_below}
+use Rattle.roff_escape.proofs.Escaping.{escaped_byte, escaped-end, from-here}
+use Rattle.roff_escape.proofs.Plain.{TextFrom, text-part, text_same, text-plain}
 use Rattle.roff_escape.proofs.escape.escape_text.Goals.{After-copy_plain-k, Joined-plain_here, then-plain_here+else-stop-i, else-plain_here}
 use Rattle.roff_escape.proofs.escape.escape_text.Goals as goal
 
@@ -52,19 +52,21 @@ here c =
     let x = take min.result (a.bytes.now) in
     let t = drop a.from x in
     let long = up_to (a.bytes.now) a.to min.result min.ensures in
-    elim c.if-plain_here.branch [ then-plain_here+else-stop-i w ↦ (
-      text_same a.strip a.start t x (a.room.now) a.len l.fresh w.room-is w.n-is w.i-is
-          (text-plain a.strip a.start t x (a.room.now) a.len l.invariant.0
-          (not-true l.fresh (and_left (not l.fresh) _ (sym Plain-here.ensures ∙ w.if-plain_here.true))) w.copy_plain-k.new.room w.copy_plain-k.result
-          (omega (arith, loop-test.true)) w.copy_plain-k.auto.room w.copy_plain-k.ensures),
-      omega (arith, w.i-is, w.if-stop-i.false),
-      omega (arith, w.i-is, w.copy_plain-k.ensures.order),
-    )
-    | else-plain_here w ↦ (
-      text_same a.strip a.start t x (a.room.now) a.len l.fresh w.room-is w.n-is w.i-is l.invariant.0,
-      omega (arith, w.i-is, loop-test.true),
-      omega (arith, w.i-is),
-    ) ]
+    elim c.if-plain_here.branch [
+      | then-plain_here+else-stop-i w ↦ (
+        text_same a.strip a.start t x (a.room.now) a.len l.fresh w.room-is w.n-is w.i-is
+            (text-plain a.strip a.start t x (a.room.now) a.len l.invariant.0
+            (not-true l.fresh (and_left (not l.fresh) _ (sym Plain-here.ensures ∙ w.if-plain_here.true))) w.copy_plain-k.new.room w.copy_plain-k.result
+            (omega (arith, loop-test.true)) w.copy_plain-k.auto.room w.copy_plain-k.ensures),
+        omega (arith, w.i-is, w.if-stop-i.false),
+        omega (arith, w.i-is, w.copy_plain-k.ensures.order),
+      )
+      | else-plain_here w ↦ (
+        text_same a.strip a.start t x (a.room.now) a.len l.fresh w.room-is w.n-is w.i-is l.invariant.0,
+        omega (arith, w.i-is, loop-test.true),
+        omega (arith, w.i-is),
+      )
+    ]
 
 pub loop-i-preserved : goal.loop-i-preserved
 loop-i-preserved c =
@@ -77,8 +79,9 @@ loop-i-preserved c =
     let x = take stop bytes in
     let long = up_to bytes a.to stop after-min.min-stop.ensures in
     let i = j.if-plain_here.i in
-    let left = from-here x i (omega (arith, (here (goal.at.loop-i-preserved c).Joined-plain_here).1)) ∙ ap (λ (b : ℕ). b ∷ drop (i + 1) x) (get_or-take stop bytes i 0 (here (goal.at.loop-i-preserved c).Joined-plain_here).1) in (
-      rw c.starts_text_line-fresh.ensures (escaped_byte (text_mode a.strip) a.start (drop a.from x) (a.room.now) a.len (here (goal.at.loop-i-preserved c).Joined-plain_here).0 _ _
+    let k = here (goal.at.loop-i-preserved c).Joined-plain_here in
+    let left = from-here x i (omega (arith, k.1)) ∙ ap (λ (b : ℕ). b ∷ drop (i + 1) x) (get_or-take stop bytes i 0 k.1) in (
+      rw c.starts_text_line-fresh.ensures (escaped_byte (text_mode a.strip) a.start (drop a.from x) (a.room.now) a.len k.0 _ _
           left g.new.room g.result g.auto.room g.ensures),
       g.type_inv,
     )
@@ -94,7 +97,7 @@ returns-then-stop-i c =
     let long = up_to bytes a.to min.result min.ensures in
     let e = text-part bytes a.from a.to min.result min.ensures in
     let told = escaped-end (text_mode a.strip) a.start (drop a.from x) (a.room.now) a.len (copied (goal.at.returns-then-stop-i c).After-copy_plain-k)
-      (drop_of_length-le x {i = after-copy-plain.copy_plain-k.result} (omega (arith, c.if-stop-i.true))) in record {
+    (drop_of_length-le x {i = after-copy-plain.copy_plain-k.result} (omega (arith, c.if-stop-i.true))) in record {
       text = rw e told.0;
       line = rw e told.1;
     }
@@ -109,7 +112,7 @@ returns c =
     let long = up_to bytes a.to min.result min.ensures in
     let e = text-part bytes a.from a.to min.result min.ensures in
     let told = escaped-end (text_mode a.strip) a.start (drop a.from x) (a.room.now) a.len l.invariant.0
-      (drop_of_length-le x {i = l.i} (omega (arith, c.loop-i-test.false))) in record {
+    (drop_of_length-le x {i = l.i} (omega (arith, c.loop-i-test.false))) in record {
       text = rw e told.0;
       line = rw e told.1;
     }

@@ -1,3 +1,4 @@
+use Rattle.roff_escape.proofs.Names.{arith}
 use Rattle.roff_escape.proofs.Names.{sym, ap, plain}
 use Rattle.roff_escape.proofs.Plain.{plain_other}
 use Rattle.roff_escape.proofs.escape.is_plain.Goals as goal
@@ -19,4 +20,4 @@ unfolding plain
 returns-in-92 c = sym (ap plain c.in-92.is)
 
 pub returns-in_default : goal.returns-in_default
-returns-in_default c = plain_other c.args.c c.in_default.in_default-own.rest.0.0.0.1 c.in_default.in_default-own.rest.0.0.1 c.in_default.in_default-own.rest.0.1 c.in_default.in_default-own.rest.1
+returns-in_default c = plain_other c.args.c (omega arith) (omega arith) (omega arith) (omega arith)

@@ -6,4 +6,4 @@ pub returns-in-92 : goal.returns-in-92
 returns-in-92 c = puts _ _ _ _ _ _ (backslash-some _ c.in-92.is) c.put.ensures
 
 pub returns-in_default : goal.returns-in_default
-returns-in_default c = puts _ _ _ _ _ _ (backslash-none _ c.in_default.in_default-own.rest.1) (puts_nothing (c.args.room.now) c.args.len)
+returns-in_default c = puts _ _ _ _ _ _ (backslash-none _ (search rules)) (puts_nothing (c.args.room.now) c.args.len)

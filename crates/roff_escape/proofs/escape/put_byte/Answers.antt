@@ -1,4 +1,4 @@
-use Rattle.roff_escape.proofs.Names.{ap, rules, Escape, escape_byte}
+use Rattle.roff_escape.proofs.Names.{ap, Escape, escape_byte}
 use Rattle.roff_escape.proofs.Escaping.{puts}
 use Rattle.roff_escape.proofs.escape.put_byte.Goals as goal
 

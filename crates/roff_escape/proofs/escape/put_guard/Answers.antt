@@ -1,4 +1,4 @@
-use Rattle.roff_escape.proofs.Names.{rules, not-true, not-false}
+use Rattle.roff_escape.proofs.Names.{rules}
 use Rattle.roff_escape.proofs.Escaping.{puts, puts_nothing, guard-some, guard-other, guard_none}
 use Rattle.roff_escape.proofs.escape.put_guard.Goals as goal
 
@@ -13,4 +13,4 @@ returns-in-46 c =
 pub returns-in_default : goal.returns-in_default
 returns-in_default c =
     let args = c.args in
-    puts _ _ _ _ _ _ (guard-other _ _ c.in_default.in_default-own.rest.1 c.if-not-start.false) (puts_nothing (args.room.now) args.len)
+    puts _ _ _ _ _ _ (guard-other _ _ (search rules) c.if-not-start.false) (puts_nothing (args.room.now) args.len)

@@ -1,4 +1,4 @@
-use borrow.Author.Rules.{rules}
+use Rattle.roff_escape.proofs.Names.{arith}
 use Rattle.roff_escape.proofs.Escaping.{puts, replaced_apostrophe, replaced-line, replaced-other}
 use Rattle.roff_escape.proofs.escape.put_replaced.Goals as goal
 
@@ -16,4 +16,4 @@ returns-in-10 c =
 pub returns-in_default : goal.returns-in_default
 returns-in_default c =
     let args = c.args in
-    puts _ _ _ _ _ _ (replaced-other args.ends _ c.in_default.in_default-own.rest.0.1 c.in_default.in_default-own.rest.1) c.put-in_default.ensures
+    puts _ _ _ _ _ _ (replaced-other args.ends _ (omega arith) (omega arith)) c.put-in_default.ensures

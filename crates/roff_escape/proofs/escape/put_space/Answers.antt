@@ -6,4 +6,4 @@ pub returns-in-32 : goal.returns-in-32
 returns-in-32 c = puts _ _ _ _ _ _ (spaces-some _ c.in-32.is) c.put_all.ensures
 
 pub returns-in_default : goal.returns-in_default
-returns-in_default c = puts _ _ _ _ _ _ (spaces-other _ c.in_default.in_default-own.rest.1) c.put.ensures
+returns-in_default c = puts _ _ _ _ _ _ (spaces-other _ (search rules)) c.put.ensures

@@ -1,4 +1,4 @@
-use Rattle.roff_escape.proofs.Names.{◌∙◌, rules, special_byte}
+use Rattle.roff_escape.proofs.Names.{◌∙◌, special_byte}
 use Rattle.roff_escape.proofs.Escaping.{puts_two}
 use Rattle.roff_escape.proofs.escape.put_special.Goals as goal
 

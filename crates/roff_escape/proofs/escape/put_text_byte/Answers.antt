@@ -1,4 +1,4 @@
-use Rattle.roff_escape.proofs.Names.{sym, ap, ◌∙◌, ℕ, rules, special_byte}
+use Rattle.roff_escape.proofs.Names.{sym, ap, ◌∙◌, ℕ, special_byte}
 use Rattle.roff_escape.proofs.Escaping.{puts}
 use Rattle.roff_escape.proofs.Plain.{text_byte, hyphen_byte}
 use Rattle.roff_escape.proofs.escape.put_text_byte.Goals as goal

@@ -1,4 +1,4 @@
-use Rattle.roff_escape.proofs.Names.{sym, ap, ◌∙◌, rules, if_true, if_false, Escape, starts_line}
+use Rattle.roff_escape.proofs.Names.{sym, ap, ◌∙◌, if_true, if_false, Escape, starts_line}
 use Rattle.roff_escape.proofs.escape.starts_text_line.Goals as goal
 
 pub returns-then-strip : goal.returns-then-strip

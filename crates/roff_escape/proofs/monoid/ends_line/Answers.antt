@@ -1,4 +1,4 @@
-use Rattle.roff_escape.proofs.Names.{◌-◌, arith, rules, length}
+use Rattle.roff_escape.proofs.Names.{◌-◌, arith, length}
 use Rattle.roff_escape.proofs.Escaping.{line-none, line-last}
 use Rattle.roff_escape.proofs.monoid.ends_line.Goals as goal
 

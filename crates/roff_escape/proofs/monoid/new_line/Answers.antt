@@ -1,4 +1,4 @@
-use Rattle.roff_escape.proofs.Names.{sym, ◌∙◌, rules}
+use Rattle.roff_escape.proofs.Names.{sym, ◌∙◌}
 use Rattle.roff_escape.proofs.Escaping.{puts, puts_nothing}
 use Rattle.roff_escape.proofs.Composing.{no-line_fresh, here_fresh, no-line_unasked, here_unasked, line_asked, here_asked}
 use Rattle.roff_escape.proofs.monoid.new_line.Goals as goal

@@ -1,4 +1,4 @@
-use Rattle.roff_escape.proofs.Names.{sym, ◌∙◌, rules}
+use Rattle.roff_escape.proofs.Names.{sym, ◌∙◌}
 use Rattle.roff_escape.proofs.Escaping.{puts, as_is-escape, as_is-line}
 use Rattle.roff_escape.proofs.Composing.{piece_made}
 use Rattle.roff_escape.proofs.monoid.push_str.Goals as goal

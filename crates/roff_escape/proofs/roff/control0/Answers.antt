@@ -1,4 +1,4 @@
-use Rattle.roff_escape.proofs.Names.{rules, linebreak, control0, control_name}
+use Rattle.roff_escape.proofs.Names.{linebreak, control0, control_name}
 use Rattle.roff_escape.proofs.Composing.{pushed_then}
 use Rattle.roff_escape.proofs.roff.control0.Goals as goal
 

@@ -1,4 +1,4 @@
-use Rattle.roff_escape.proofs.Names.{rules, if◌then◌else◌, encode, bytes, control_name}
+use Rattle.roff_escape.proofs.Names.{if◌then◌else◌, encode, bytes, control_name}
 use Rattle.roff_escape.proofs.Composing.{pushed_then}
 use Rattle.roff_escape.proofs.roff.control_name.Goals as goal
 

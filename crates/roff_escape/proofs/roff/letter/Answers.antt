@@ -1,4 +1,3 @@
-use borrow.Author.Rules.{rules}
 use Rattle.roff_escape.proofs.Composing.{font_roman, font_bold, font_italic}
 use Rattle.roff_escape.proofs.roff.letter.Goals as goal
 

@@ -1,4 +1,4 @@
-use Rattle.roff_escape.proofs.Names.{refl, rules, part, plaintext, text_mode}
+use Rattle.roff_escape.proofs.Names.{refl, part, plaintext, text_mode}
 use Rattle.roff_escape.proofs.Composing.{piece-put, text_unasked}
 use Rattle.roff_escape.proofs.roff.plaintext.Goals as goal
 

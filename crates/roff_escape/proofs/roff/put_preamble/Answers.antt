@@ -1,4 +1,4 @@
-use Rattle.roff_escape.proofs.Names.{refl, rules, if◌then◌else◌, encode, bytes, preamble}
+use Rattle.roff_escape.proofs.Names.{refl, if◌then◌else◌, encode, bytes, preamble}
 use Rattle.roff_escape.proofs.Composing.{first_made}
 use Rattle.roff_escape.proofs.roff.put_preamble.Goals as goal
 

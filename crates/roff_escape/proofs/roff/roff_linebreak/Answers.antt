@@ -1,4 +1,4 @@
-use Rattle.roff_escape.proofs.Names.{rules, linebreak}
+use Rattle.roff_escape.proofs.Names.{linebreak}
 use Rattle.roff_escape.proofs.roff.roff_linebreak.Goals as goal
 
 pub returns : goal.returns

@@ -1,4 +1,4 @@
-use Rattle.roff_escape.proofs.Names.{sym, ap, ◌∙◌, [], ◌∷◌, Bool, rules, part, if◌then◌else◌, encode, bytes, plaintext, text}
+use Rattle.roff_escape.proofs.Names.{sym, ap, ◌∙◌, [], ◌∷◌, Bool, part, if◌then◌else◌, encode, bytes, plaintext, text}
 use Rattle.roff_escape.proofs.Composing.{pushed_then, pushed-same}
 use Rattle.roff_escape.proofs.roff.text.Goals as goal
 
