@@ -1,5 +1,5 @@
-use Rattle.html_lines.proofs.Names.{ap, ◌-◌, arith, rules, eq-eqb, ne_eqb, length, escaped, wrote_same}
-use Rattle.html_lines.proofs.Lines.{Left, left-start, left_run, left_byte, left-past, left_end}
+use Rattle.html_lines.proofs.Names.{ap, arith, eq-eqb, ne_eqb, escaped, wrote_same}
+use Rattle.html_lines.proofs.Lines.{Left, left_run, left_byte, left-past, left_end}
 use Rattle.html_lines.proofs.put_up_to_end.Goals.{After-put_all-n}
 use Rattle.html_lines.proofs.put_up_to_end.Goals as goal
 

@@ -114,8 +114,9 @@ records-preserved c =
     on-done _ _ _ _ o r c.records-test.true c.in-Text.is (c.put_plain-run.auto.room ∙ i.0 ∙ e)
     (body_at (sym e) words) _ _ c.end_code-len-in-Text.auto.room c.end_code-len-in-Text.ensures
     (elim c.if-body-from.branch [
-      then-body-from w ↦ placed-done _ at (sym (first-none _ at w.if-body-from.true))
-      | else-body-from+in_default w ↦ ended _ at _ w.in_default.is (w.step_at.ensures.chunk, w.step_at.ensures.within) ])
+      | then-body-from w ↦ placed-done _ at (sym (first-none _ at w.if-body-from.true))
+      | else-body-from+in_default w ↦ ended _ at _ w.in_default.is (w.step_at.ensures.chunk, w.step_at.ensures.within)
+    ])
 
 pub returns-clause-text : goal.returns-clause-text
 returns-clause-text c = on-end _ _ _ _ c.records.invariant _ c.records-test.false c.finish.ensures.text
