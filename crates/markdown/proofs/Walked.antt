@@ -17,8 +17,8 @@ use Rattle.splitter.specs.declared.Piece.TheVariants.{Raw, Space, Paragraph, Lin
 use Rattle.splitter.proofs.Answers.{Took}
 use Rattle.renderer.proofs.Shown.{shown_in, shown_then, shown_by, shown-write, shown_changed}
 use Rattle.renderer.proofs.Leads.{Leads, leads-start, leads-on, chunks_then}
-use Rattle.html_rules.specs.Markdown.{State, plain, initial, with_style, with_skip, with_fenced, opening, closing, term_ends, code_ends, change, body_ends, finish}
-use Rattle.html_rules.specs.Markdown.{chunk, turn}
+use Rattle.html_rules.specs.Markdown.{State, plain, initial, with_style, with_skip, with_fenced, opening, closing, term_ends, code_ends, change, body_ends}
+use Rattle.html_rules.specs.Markdown.{finish, chunk, turn}
 use Rattle.html_marks.specs.InnerParts.{is_meta}
 use Rattle.markdown_marks.specs.InnerParts.{started_text, ended_text, Few}
 use Rattle.html_rules.proofs.Rest as walking
@@ -80,7 +80,8 @@ module _ (limit : ℕ) (full : Bool) (tags document : List ℕ) where
     open_few = i.open_few;
     leads = bind_assoc (shown new n [] lay) (marked_from full limit y from' d) (after at)
         ∙ ap (λ (r : Result State). r >>= after at)
-        (subst (λ (k : ℕ). (shown new n [] lay >>= marked_from full k y from' d) ≡ (shown room len [] lay >>= marked_from full k y from d)) s (m.same f full []))
+        (subst (λ (k : ℕ). (shown new n [] lay >>= marked_from full k y from' d) ≡ (shown room len [] lay >>= marked_from full k y from d)) s
+        (m.same f full []))
         ∙ sym (bind_assoc (shown room len [] lay) (marked_from full limit y from d) (after at))
         ∙ i.leads;
   }
@@ -262,7 +263,8 @@ module _ (limit : ℕ) (full : Bool) (tags document : List ℕ) where
 
         -- the chunks are done, or one ended the walk of the body; the code lines end
         module _ {y old : List ℕ} {k : ℕ} {l₁ : Markdown} {c : Cursor} (s : length old ≡ limit) (i : InBody old h.next k l₁ y c)
-            (new : List ℕ) (n : ℕ) (u : length new ≡ length old) (w : tags ≡ all_tags → seen new n ≡ (seen old k >>= extended (length old) (code_ends l₁))) where
+            (new : List ℕ) (n : ℕ) (u : length new ≡ length old)
+            (w : tags ≡ all_tags → seen new n ≡ (seen old k >>= extended (length old) (code_ends l₁))) where
           ends : (l₂ : Markdown) → l₂.fenced ≡ l₁.fenced → Leads whole (after h.next) (shown old k [] l₂)
               → Leads whole (rest h.next) (shown new n [] (with_fenced false l₂))
           unfolding body_ends

@@ -1,4 +1,4 @@
-use Rattle.html.proofs.Names.{◌≡◌, refl, sym, ◌∙◌, ℕ, ◌-◌, ◌<◌, List, arith, length, cursor, took, Read as At}
+use Rattle.html.proofs.Names.{refl, sym, ◌∙◌, ℕ, ◌-◌, ◌<◌, List, arith, length, cursor, took, Read as At}
 use Rattle.records.specs.declared.Head.{Head}
 use Rattle.splitter.proofs.Steps.{first-none, placed-done}
 use Rattle.html.proofs.Walked.{on-start, on_read, on_out, on-end, on_unknown, on-start-low, on-entered, on-end-low, on-left, on_meta}

@@ -1,4 +1,3 @@
-use borrow.Author.Rules.{rules}
 use Rattle.html_rules.proofs.Writes.{wrote_same}
 use Rattle.html_escape.proofs.Entities.{bracket-left, bracket-right, bracket-other}
 use Rattle.html_escape.proofs.put_bracket.Goals as goal

@@ -1,12 +1,7 @@
-use mathlib.Core.Path.{◌≡◌, refl, sym, ◌∙◌}
-use Prim.Native.Nat.{◌-◌, ◌≤◌}
+use mathlib.Core.Path.{sym, ◌∙◌}
 use native.Mathlib.Omega.{arith}
-use borrow.Author.Rules.{rules}
-use lib.ListN.{length}
-use Rattle.base.specs.Result.{◌>>=◌}
-use Rattle.room.specs.Room.{seen}
 use Rattle.html_escape.specs.InnerParts.{entity_of}
-use Rattle.html_escape.proofs.Escapes.{rest, escaped-more, escaped-done}
+use Rattle.html_escape.proofs.Escapes.{escaped-more, escaped-done}
 use Rattle.html_escape.proofs.put_escaped.Goals as goal
 
 pub loop-i-preserved : goal.loop-i-preserved

@@ -1,18 +1,18 @@
-use mathlib.Core.Path.{◌≡◌, refl, sym, ◌∙◌}
+use mathlib.Core.Path.{◌≡◌}
 use Prim.Native.Nat.{◌-◌, ◌≤◌}
-use native.Mathlib.Omega.{arith}
-use borrow.Author.Rules.{rules}
 use lib.ListN.{length}
 use Rattle.base.specs.Result.{◌>>=◌}
 use Rattle.room.specs.Room.{seen}
 use Rattle.html_escape.specs.InnerParts.{entity_of}
-use Rattle.html_escape.proofs.Escapes.{rest, escaped-more, escaped-done}
+use Rattle.html_escape.proofs.Escapes.{rest}
 use Rattle.html_escape.proofs.put_escaped.Given as goal
 
 -- What the room shows, and then the escapes of the bytes from `i` on, is what the room showed at first, and then the escapes of all bytes.
 -- The bytes that are left become fewer.
 abbrev pub invariant-loop-i : goal.invariant-loop-i
-invariant-loop-i l = (l.i ≤ length l.text) × (length l.room ≡ length l.initial.room) × ((seen l.room l.n >>= rest (entity_of l.how) (length l.initial.room) l.text l.i)
+invariant-loop-i l =
+    (l.i ≤ length l.text) × (length l.room ≡ length l.initial.room)
+    × ((seen l.room l.n >>= rest (entity_of l.how) (length l.initial.room) l.text l.i)
     ≡ (seen l.initial.room l.len >>= rest (entity_of l.how) (length l.initial.room) l.text 0))
 
 abbrev pub decreases-loop-i : goal.decreases-loop-i

@@ -1,4 +1,3 @@
-use borrow.Author.Rules.{rules}
 use Rattle.html_rules.proofs.Writes.{wrote_same}
 use Rattle.html_escape.proofs.Entities.{strict_amp, strict_other}
 use Rattle.html_escape.proofs.put_strict.Goals as goal

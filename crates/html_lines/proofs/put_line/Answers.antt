@@ -1,5 +1,4 @@
-use Rattle.html_lines.proofs.Names.{rules}
-use Rattle.html_lines.proofs.Lines.{lined_outside, lined_first, lined_later}
+use Rattle.html_lines.proofs.Lines.{lined_first, lined_later}
 use Rattle.html_lines.proofs.put_line.Goals as goal
 
 pub returns-in-First : goal.returns-in-First

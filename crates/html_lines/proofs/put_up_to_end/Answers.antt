@@ -1,5 +1,5 @@
-use Rattle.html_lines.proofs.Names.{ap, ◌-◌, arith, rules, eq-eqb, ne_eqb, length, escaped, wrote_same}
-use Rattle.html_lines.proofs.Lines.{Left, left-start, left_run, left_byte, left-past, left_end}
+use Rattle.html_lines.proofs.Names.{ap, arith, eq-eqb, ne_eqb, escaped, wrote_same}
+use Rattle.html_lines.proofs.Lines.{Left, left_run, left_byte, left-past, left_end}
 use Rattle.html_lines.proofs.put_up_to_end.Goals.{After-put_all-n}
 use Rattle.html_lines.proofs.put_up_to_end.Goals as goal
 
@@ -28,7 +28,9 @@ returns-then-body-i c =
 
 pub returns-then-body-i-eq10 : goal.returns-then-body-i-eq10
 returns-then-body-i-eq10 c =
-    let told = left_end _ _ _ _ _ (ran (goal.at.returns-then-body-i-eq10 c).After-put_all-n) (omega (arith, c.if-body-i.false)) (eq-eqb _ _ c.if-body-i-eq10.true) in record {
+    let told =
+        left_end _ _ _ _ _ (ran (goal.at.returns-then-body-i-eq10 c).After-put_all-n) (omega (arith, c.if-body-i.false))
+        (eq-eqb _ _ c.if-body-i-eq10.true) in record {
       text = told.0;
       place = told.1;
     }

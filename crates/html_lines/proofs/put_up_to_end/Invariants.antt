@@ -1,5 +1,5 @@
-use Rattle.html_lines.proofs.Names.{ap, ◌-◌, arith, rules, eq-eqb, ne_eqb, length, escaped, wrote_same}
-use Rattle.html_lines.proofs.Lines.{Left, left-start, left_run, left_byte, left-past, left_end}
+use Rattle.html_lines.proofs.Names.{◌-◌, length}
+use Rattle.html_lines.proofs.Lines.{Left}
 use Rattle.html_lines.proofs.put_up_to_end.Given as goal
 
 -- The loop's invariant: of the line, the bytes from `i` on are left; written after what is shown, they give the whole line. What is left of

@@ -1,4 +1,3 @@
-use borrow.Author.Rules.{rules}
 use Rattle.html_rules.proofs.Writes.{wrote_twice}
 use Rattle.html_marks.proofs.put_spans.Goals as goal
 

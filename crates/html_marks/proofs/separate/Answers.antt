@@ -1,5 +1,4 @@
 use mathlib.Core.Path.{sym, ◌∙◌}
-use borrow.Author.Rules.{rules}
 use Rattle.html_marks.proofs.Marks.{separated-empty, separated_ends, separated-put}
 use Rattle.html_marks.proofs.separate.Goals as goal
 

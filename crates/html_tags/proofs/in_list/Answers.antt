@@ -1,4 +1,3 @@
-use Rattle.html_tags.proofs.Names.{rules}
 use Rattle.html_tags.proofs.Blocks.{none_innermost, innermost}
 use Rattle.html_tags.proofs.in_list.Goals as goal
 

@@ -1,4 +1,4 @@
-use Rattle.html_tags.proofs.Names.{rules, if◌then◌else◌, bytes, encode, tags}
+use Rattle.html_tags.proofs.Names.{if◌then◌else◌, bytes, encode, tags}
 use Rattle.html_tags.proofs.opening_span.Goals as goal
 
 pub returns-in-Text : goal.returns-in-Text

@@ -1,4 +1,4 @@
-use Rattle.html_tags.proofs.Names.{ap, ◌∙◌, List, ℕ, rules, wrote_same}
+use Rattle.html_tags.proofs.Names.{ap, ◌∙◌, List, ℕ, wrote_same}
 use Rattle.html_marks.specs.InnerParts.{spanned}
 use Rattle.html_tags.proofs.Blocks.{block-other, block_header}
 use Rattle.html_tags.proofs.put_block.Goals as goal

@@ -1,5 +1,5 @@
-use Rattle.html_tags.proofs.Names.{rules, wrote_same}
-use Rattle.html_tags.proofs.Blocks.{chunk-raw, chunk_space, chunk-paragraph, chunk_break}
+use Rattle.html_tags.proofs.Names.{wrote_same}
+use Rattle.html_tags.proofs.Blocks.{chunk_space, chunk-paragraph, chunk_break}
 use Rattle.html_tags.proofs.put_chunk.Goals as goal
 
 pub returns-in-Space : goal.returns-in-Space

@@ -1,4 +1,3 @@
-use borrow.Author.Rules.{rules}
 use Rattle.markdown_chunks.proofs.Texts.{fence_ticked, fence_other, fence_space}
 use Rattle.markdown_chunks.proofs.fence_after.Goals as goal
 

@@ -1,8 +1,4 @@
-use Prim.Native.Nat.{◌-◌}
-use borrow.Author.Rules.{rules}
-use Rattle.html_rules.specs.Markdown.{paragraph_text}
-use Rattle.markdown_marks.proofs.Texts.{span_is}
-use Rattle.markdown_chunks.proofs.Texts.{by_rule, piece-raw, piece_space, piece-paragraph, piece_break}
+use Rattle.markdown_chunks.proofs.Texts.{by_rule, piece_break}
 use Rattle.markdown_chunks.proofs.put_chunk.Goals as goal
 
 pub returns-in-LineBreak : goal.returns-in-LineBreak

@@ -1,5 +1,4 @@
 use mathlib.Core.Path.{◌∙◌}
-use borrow.Author.Rules.{rules}
 use Rattle.markdown_chunks.proofs.Texts.{line_wrote}
 use Rattle.markdown_chunks.proofs.put_line.Goals as goal
 

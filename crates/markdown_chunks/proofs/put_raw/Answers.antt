@@ -1,5 +1,3 @@
-use Prim.Native.Nat.{◌-◌}
-use borrow.Author.Rules.{rules}
 use Rattle.html_rules.specs.Markdown.{code_begins, code_stops}
 use Rattle.html_rules.proofs.Writes.{wrote_same}
 use Rattle.markdown_marks.proofs.Texts.{span_is}

@@ -1,4 +1,3 @@
-use borrow.Author.Rules.{rules}
 use Rattle.html_rules.proofs.Writes.{wrote_same}
 use Rattle.markdown_chunks.proofs.Texts.{word-mono, word-plain}
 use Rattle.markdown_chunks.proofs.put_word.Goals as goal

@@ -1,9 +1,4 @@
-use mathlib.Core.Logic.{⊎_elim}
-use Prim.Native.Nat.{◌+◌, ◌-◌, ◌^◌, ◌≤◌, ◌<◌}
-use native.Mathlib.Omega.{arith}
-use borrow.Author.Rules.{rules}
-use Rattle.base.proofs.Choice.{le_or_lt}
-use Rattle.markdown_chunks.proofs.Advance.{markdown-start, onward_run}
+use Rattle.markdown_chunks.proofs.Advance.{onward_run}
 use Rattle.markdown_chunks.proofs.put_words.Goals as goal
 
 pub returns : goal.returns

@@ -1,4 +1,4 @@
-use Rattle.markdown_marks.proofs.Names.{rules, if◌then◌else◌, bytes, encode, tags}
+use Rattle.markdown_marks.proofs.Names.{if◌then◌else◌, bytes, encode, tags}
 use Rattle.markdown_marks.proofs.closing_span.Goals as goal
 
 pub returns-in-Text : goal.returns-in-Text

@@ -1,4 +1,4 @@
-use Rattle.markdown_marks.proofs.Names.{ap, ℕ, rules, with_mono, ended, end_of}
+use Rattle.markdown_marks.proofs.Names.{ap, ℕ, with_mono, ended, end_of}
 use Rattle.markdown_marks.proofs.Flags.{inline-end}
 use Rattle.markdown_marks.proofs.end_lay.Goals as goal
 

@@ -1,4 +1,4 @@
-use Rattle.markdown_marks.proofs.Names.{rules, if◌then◌else◌, bytes, encode, ended, tags, end_of}
+use Rattle.markdown_marks.proofs.Names.{if◌then◌else◌, bytes, encode, ended, tags, end_of}
 use Rattle.markdown_marks.proofs.end_span.Goals as goal
 
 pub returns-in-Header : goal.returns-in-Header

@@ -1,4 +1,4 @@
-use Rattle.markdown_marks.proofs.Names.{rules, not-true, not-false, if◌then◌else◌, bytes, encode, started, tags, start_of}
+use Rattle.markdown_marks.proofs.Names.{not-true, not-false, if◌then◌else◌, bytes, encode, started, tags, start_of}
 use Rattle.markdown_marks.proofs.lead_span.Goals as goal
 
 pub returns-then-not-l : goal.returns-then-not-l
@@ -28,18 +28,18 @@ returns-in-ItemTerm c = rw c.in-ItemTerm.is
 pub returns-then-l : goal.returns-then-l
 unfolding start_of started tags bytes encode if◌then◌else◌
 returns-then-l c = rw (
-      c.in-ItemBody.is,
-      not-false c.args.l.listed c.if-not-l.false,
-      c.if-l.true,
-    )
+  c.in-ItemBody.is,
+  not-false c.args.l.listed c.if-not-l.false,
+  c.if-l.true,
+)
 
 pub returns-else-l : goal.returns-else-l
 unfolding start_of started tags bytes encode if◌then◌else◌
 returns-else-l c = rw (
-      c.in-ItemBody.is,
-      not-false c.args.l.listed c.if-not-l.false,
-      c.if-l.false,
-    )
+  c.in-ItemBody.is,
+  not-false c.args.l.listed c.if-not-l.false,
+  c.if-l.false,
+)
 
 pub returns-in-DefinitionList : goal.returns-in-DefinitionList
 unfolding start_of started tags bytes encode if◌then◌else◌

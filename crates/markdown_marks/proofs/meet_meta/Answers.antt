@@ -1,4 +1,4 @@
-use Rattle.markdown_marks.proofs.Names.{subst, ℕ, rules, refused, wrote_then}
+use Rattle.markdown_marks.proofs.Names.{subst, ℕ, refused, wrote_then}
 use Rattle.renderer.specs.Rendered.{Inside}
 use Rattle.markdown_marks.proofs.meet_meta.Goals as goal
 

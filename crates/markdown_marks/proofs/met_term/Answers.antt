@@ -1,4 +1,4 @@
-use Rattle.markdown_marks.proofs.Names.{arith, rules}
+use Rattle.markdown_marks.proofs.Names.{arith}
 use Rattle.markdown_marks.proofs.Flags.{no_item, item}
 use Rattle.markdown_marks.proofs.met_term.Goals as goal
 

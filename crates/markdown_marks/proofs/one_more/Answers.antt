@@ -1,4 +1,3 @@
-use borrow.Author.Rules.{rules}
 use Rattle.markdown_marks.proofs.Flags.{one_more, no_more}
 use Rattle.markdown_marks.proofs.one_more.Goals as goal
 

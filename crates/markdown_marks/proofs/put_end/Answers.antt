@@ -1,4 +1,3 @@
-use borrow.Author.Rules.{rules}
 use Rattle.markdown_marks.proofs.Texts.{ended_wrote}
 use Rattle.markdown_marks.proofs.put_end.Goals as goal
 

@@ -1,4 +1,4 @@
-use Rattle.markdown_marks.proofs.Names.{◌∙◌, rules}
+use Rattle.markdown_marks.proofs.Names.{◌∙◌}
 use Rattle.markdown_marks.proofs.Texts.{start_wrote}
 use Rattle.markdown_marks.proofs.put_texts.Goals as goal
 

@@ -1,4 +1,4 @@
-use Rattle.markdown_marks.proofs.Names.{rules, started, start_of}
+use Rattle.markdown_marks.proofs.Names.{started, start_of}
 use Rattle.markdown_marks.proofs.Flags.{inline-start, mono-start}
 use Rattle.markdown_marks.proofs.start_lay.Goals as goal
 

@@ -1,4 +1,3 @@
-use borrow.Author.Rules.{rules}
 use Rattle.markdown_marks.proofs.Flags.{no-term, next-term}
 use Rattle.markdown_marks.proofs.term_ends.Goals as goal
 
