@@ -53,7 +53,8 @@ items_pass (i ∷ is) p w left (merge.also h k) e = of (items_pass is (p + lengt
         let b = passed (p + length T) block.ItemBody i.body within (all_records is ++ w) left h.body.whole t.after in
         let n : p + length T + length B ≡ p + length (T ++ B) = omega (arith, length-append T B) in
         let m = r (ap (λ (k : ℕ). reads k 0 within (all_records is ++ w)) (sym n) ∙ b.after) in
-        let l : p + length (T ++ B) + length (all_records is) ≡ p + length (T ++ B ++ all_records is) = omega (arith, length-append (T ++ B) (all_records is)) in
+        let l : p + length (T ++ B) + length (all_records is) ≡ p + length (T ++ B ++ all_records is) =
+        omega (arith, length-append (T ++ B) (all_records is)) in
         record {
           items = merge.also (λ q. reads_before T B q within within (block_passes block.ItemTerm i.term (p + 6) t.inside q)
               ∙ block_passes block.ItemBody i.body (p + length T + 6) b.inside (q + length T)) m.items;
@@ -107,7 +108,8 @@ module _ {s t : List ℕ} {is js : List Item} (cs : check s ≡ gives []) (ct : 
 
 -- Printing order
 
-printing-append : (a b : List ℕ) (p : ℕ) (stack left : List ℕ) → reads p 0 stack a ≡ gives left → printing_order (a ++ b) ≡ printing_order a ++ printing_order b
+printing-append : (a b : List ℕ) (p : ℕ) (stack left : List ℕ) → reads p 0 stack a ≡ gives left
+    → printing_order (a ++ b) ≡ printing_order a ++ printing_order b
 unfolding printing_order
 printing-append a b p stack left e =
     order-anywhere (a ++ b) 0 p 0

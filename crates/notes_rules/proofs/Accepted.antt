@@ -111,7 +111,8 @@ reads-records (x ∷ xs) p stack (one_more v w) h =
 
 -- they are read where up to 31 blocks are open, and open one more at a time
 module _ (stack : List ℕ) (low : length stack < 32) where
-  reads-part : (b : Block) (x : List ℕ) (p : ℕ) → Valid x → length (around b (text_records x)) ≤ 32768 → reads p 0 stack (around b (text_records x)) ≡ gives stack
+  reads-part : (b : Block) (x : List ℕ) (p : ℕ) → Valid x → length (around b (text_records x)) ≤ 32768
+      → reads p 0 stack (around b (text_records x)) ≡ gives stack
   unfolding text_records
   reads-part b x p v h =
       let n = length-around b (text_records x) in

@@ -62,7 +62,8 @@ module _ (due after : List Range) (w : Bool) (b : ℕ) (step : (y : List ℕ) �
       → First due w (grown (styled_as w b) (x ∷ xs))
   first-joined x xs e f v = subst (First due w) (sym (if_true _ _ (same-beq w x.literal e))) (refl, step x.body f, v)
 
-grown-none : (due : List Range) (w : Bool) (b : ℕ) → ((y : List ℕ) → well_formed [] y ≡ true → well_formed due (b ∷ y) ≡ true) → (xs : List Stretch) → Valids xs
+grown-none : (due : List Range) (w : Bool) (b : ℕ) → ((y : List ℕ) → well_formed [] y ≡ true → well_formed due (b ∷ y) ≡ true)
+    → (xs : List Stretch) → Valids xs
     → First due w (grown (styled_as w b) xs)
 grown-none due w b step [] v = (refl, step [] refl, v)
 grown-none due w b step (x ∷ xs) (one_more e v) =

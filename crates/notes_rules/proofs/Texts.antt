@@ -39,7 +39,8 @@ module _ (one within : Bool) (b : ℕ) (s : List ℕ) where
   unfolding without_from
   from-pair e f = if_false _ _ e ∙ if_true _ _ f
 
-  from_byte : eqb b 0x0A ≡ false → eqb b 0x60 && (within || ticked (text_left one s)) ≡ false → without_from 0 one within (b ∷ s) ≡ b ∷ without_from 0 one within s
+  from_byte : eqb b 0x0A ≡ false → eqb b 0x60 && (within || ticked (text_left one s)) ≡ false
+      → without_from 0 one within (b ∷ s) ≡ b ∷ without_from 0 one within s
   unfolding without_from
   from_byte e f = if_false _ _ e ∙ if_false _ _ f
 
@@ -226,7 +227,8 @@ pass_marker one within (b ∷ c ∷ s) = refl
 
 without-marked : (t : List ℕ) → marked t ≡ true → without t ≡ without_from 0 true false (drop 2 t)
 unfolding without marker_size
-without-marked t e = ap (λ (k : ℕ). without_from k (marked t) false t) (if_true _ _ e) ∙ ap (λ (m : Bool). without_from 2 m false t) e ∙ pass_marker true false t
+without-marked t e =
+    ap (λ (k : ℕ). without_from k (marked t) false t) (if_true _ _ e) ∙ ap (λ (m : Bool). without_from 2 m false t) e ∙ pass_marker true false t
 
 without-plain : (t : List ℕ) → marked t ≡ false → without t ≡ without_from 0 false false t
 unfolding without

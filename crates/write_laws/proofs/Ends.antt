@@ -28,7 +28,8 @@ cut_character = (refl, refl)
 -- written, where one call leaves the room as it was
 pub second_refused : (writes_all (replicate 7 0) 0 style.Text a (b ∷ []) ≡ refused 13 0) × (writes (replicate 7 0) 0 style.Text (a ++ b) ≡ refused 13 0)
     × (room_after_all (replicate 7 0) 0 style.Text a (b ∷ []) ≡ text style.Text a)
-unfolding writes_all room_after_all or_unchanged writes so_far short open_blocks reads first accept record_fits little kind_of styles size token_at one_text fit written
+unfolding writes_all room_after_all or_unchanged writes so_far short open_blocks reads first accept record_fits little kind_of styles size
+    token_at one_text fit written
     text stored little_bytes ◌>>=◌ if◌then◌else◌ row_of table
 second_refused = (refl, refl, refl)
 

@@ -27,7 +27,8 @@ loop-i-preserved c =
     let test = c.loop-i-test in
     elim c.if-s-i-eq10.branch [
       | then-s-i-eq10+else-one+else-not-ordinary_at w ↦ going_feed (a.s.now) a.one a.at here.i here.invariant test.true w.if-s-i-eq10.true
-          (ap (λ (t : Bool). t || not (ordinary (drop (here.i + 1) (a.s.now)))) w.if-one.false ∙ ap not (sym w.ordinary_at.ensures ∙ w.if-not-ordinary_at.false))
+          (ap (λ (t : Bool). t || not (ordinary (drop (here.i + 1) (a.s.now)))) w.if-one.false
+          ∙ ap not (sym w.ordinary_at.ensures ∙ w.if-not-ordinary_at.false))
       | else-s-i-eq10 w ↦ going_byte (a.s.now) a.one a.at here.i here.invariant test.true w.if-s-i-eq10.false
     ]
 

@@ -6,7 +6,9 @@ use Rattle.notes_text.proofs.put_run.Given as goal
 -- The bytes left fall.
 
 abbrev pub invariant-loop-i : goal.invariant-loop-i
-invariant-loop-i l = (l.i ≤ length l.s) × Puts (seen l.initial.room l.len) (length l.initial.room) l.room l.n (lead l.literal (styled l.within (drop l.i l.s))) (lead l.literal (styled l.literal (drop l.from l.s)))
+invariant-loop-i l = (l.i ≤ length l.s)
+    × Puts (seen l.initial.room l.len) (length l.initial.room) l.room l.n (lead l.literal (styled l.within (drop l.i l.s)))
+    (lead l.literal (styled l.literal (drop l.from l.s)))
 
 abbrev pub decreases-loop-i : goal.decreases-loop-i
 decreases-loop-i l = length l.s - l.i

@@ -8,7 +8,8 @@ use Rattle.notes_text.proofs.put_text.Given as goal
 -- The bytes left fall.
 
 abbrev pub invariant-loop-at : goal.invariant-loop-at
-invariant-loop-at l = (l.at ≤ length l.s) × Puts (seen l.initial.room l.len) (length l.initial.room) l.room l.n (records_at l.s l.at l.within) (text_records l.s)
+invariant-loop-at l = (l.at ≤ length l.s)
+    × Puts (seen l.initial.room l.len) (length l.initial.room) l.room l.n (records_at l.s l.at l.within) (text_records l.s)
 
 abbrev pub decreases-loop-at : goal.decreases-loop-at
 decreases-loop-at l = length l.s - l.at
