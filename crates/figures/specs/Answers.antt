@@ -1,5 +1,4 @@
 -- What the functions answer, seen as the rules' results.
-use Rattle.std.specs.Prelude.{ℕ}
 use Rattle.base.specs.Result.{Result, gives, refused}
 use Rattle.refusal.specs.Numbers.{refusal_number, refusal_place}
 use Rattle.figures.specs.declared.Figures.{Figures}

@@ -1,5 +1,5 @@
 -- The numbers and the text of a line of the list of samples, whose first lines tell its form. No rule of 01 stands here.
-use Rattle.std.specs.Prelude.{ℕ, zero, suc, ◌+◌, ◌-◌, ◌*◌, ◌%◌, ◌^◌, Bool, false, ◌&&◌, List, [], ◌∷◌, length, drop, ◌==◌, nat_le, slice_index}
+use Rattle.std.specs.Prelude.{ℕ, zero, suc, ◌+◌, ◌-◌, ◌*◌, ◌%◌, ◌^◌, Bool, ◌&&◌, List, [], ◌∷◌, length, drop, ◌==◌, nat_le, slice_index}
 use Rattle.base.specs.Choice.{if◌then◌else◌, among}
 use Rattle.splitter.specs.Split.{Chunk, raw, paragraph, line_break}
 use Rattle.compared.specs.InnerCompared.{same}

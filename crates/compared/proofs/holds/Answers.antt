@@ -1,5 +1,5 @@
-use Rattle.compared.proofs.Names.{refl, sym, ◌∙◌, ◌-◌, ◌≤◌, arith, rules, length, holds}
-use Rattle.compared.proofs.Filling.{Left, holds-next, holds-other, holds_all}
+use Rattle.compared.proofs.Names.{sym, ◌∙◌, arith, holds}
+use Rattle.compared.proofs.Filling.{holds-next, holds-other, holds_all}
 use Rattle.compared.proofs.holds.Goals as goal
 
 pub returns-then-room-i : goal.returns-then-room-i

@@ -1,5 +1,5 @@
-use Rattle.compared.proofs.Names.{refl, sym, ◌∙◌, ◌-◌, ◌≤◌, arith, rules, length, holds}
-use Rattle.compared.proofs.Filling.{Left, holds-next, holds-other, holds_all}
+use Rattle.compared.proofs.Names.{◌-◌, ◌≤◌, length}
+use Rattle.compared.proofs.Filling.{Left}
 use Rattle.compared.proofs.holds.Given as goal
 
 -- What is left to compare from `i` on says whether all is the same.

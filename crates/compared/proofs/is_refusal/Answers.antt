@@ -1,4 +1,4 @@
-use Rattle.compared.proofs.Names.{refl, rules}
+use Rattle.compared.proofs.Names.{refl}
 use Rattle.compared.proofs.Answers.{refusal-other, refusal-by}
 use Rattle.compared.proofs.is_refusal.Goals as goal
 

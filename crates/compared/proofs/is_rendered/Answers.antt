@@ -1,4 +1,4 @@
-use Rattle.compared.proofs.Names.{sym, ◌∙◌, rules, not-true, not-false}
+use Rattle.compared.proofs.Names.{sym, ◌∙◌}
 use Rattle.compared.proofs.Answers.{text-refused, text_elsewhere, text-longer, text_held, not-refused, refused-text, refused_held}
 use Rattle.compared.proofs.is_rendered.Goals as goal
 

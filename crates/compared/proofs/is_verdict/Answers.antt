@@ -1,4 +1,4 @@
-use Rattle.compared.proofs.Names.{◌∙◌, rules}
+use Rattle.compared.proofs.Names.{◌∙◌}
 use Rattle.compared.proofs.Answers.{accepted_other, accepted_by, refused-by}
 use Rattle.compared.proofs.is_verdict.Goals as goal
 

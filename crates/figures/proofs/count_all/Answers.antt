@@ -1,5 +1,4 @@
-use Rattle.figures.proofs.Names.{◌≡◌, refl, sym, ap, ◌∙◌, ◌+◌, ◌-◌, ◌≤◌, arith, rules, not-true, not-false, length, nothing, Bounded, from}
-use Rattle.figures.proofs.Texts.{part-short}
+use Rattle.figures.proofs.Names.{sym, ap, ◌∙◌, arith, from}
 use Rattle.figures.proofs.Laws.{from_end, from_cut, from-other, next-inside, from_next}
 use Rattle.figures.proofs.count_all.Goals as goal
 

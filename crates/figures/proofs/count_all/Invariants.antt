@@ -1,6 +1,4 @@
-use Rattle.figures.proofs.Names.{◌≡◌, refl, sym, ap, ◌∙◌, ◌+◌, ◌-◌, ◌≤◌, arith, rules, not-true, not-false, length, nothing, Bounded, from}
-use Rattle.figures.proofs.Texts.{part-short}
-use Rattle.figures.proofs.Laws.{from_end, from_cut, from-other, next-inside, from_next}
+use Rattle.figures.proofs.Names.{◌≡◌, ◌-◌, ◌≤◌, length, nothing, Bounded, from}
 use Rattle.figures.proofs.count_all.Given as goal
 
 -- The figures so far, with those of the documents from here on, are those of the whole bundle; and they are small enough to be added to.

@@ -1,5 +1,5 @@
-use Rattle.figures.proofs.Names.{arith, rules, length, console, shelf}
-use Rattle.figures.proofs.Texts.{text-inside, text-printed, text_few, none-printed}
+use Rattle.figures.proofs.Names.{arith}
+use Rattle.figures.proofs.Texts.{text-printed, text_few}
 use Rattle.figures.proofs.count_text.Goals as goal
 
 pub returns-in-Text : goal.returns-in-Text

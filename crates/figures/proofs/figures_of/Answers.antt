@@ -1,4 +1,4 @@
-use Rattle.figures.proofs.Names.{◌∙◌, rules}
+use Rattle.figures.proofs.Names.{◌∙◌}
 use Rattle.figures.proofs.Laws.{figures_long, figures_all}
 use Rattle.figures.proofs.figures_of.Goals as goal
 

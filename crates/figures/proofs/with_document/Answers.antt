@@ -1,4 +1,4 @@
-use Rattle.figures.proofs.Names.{refl, arith, rules, length, part}
+use Rattle.figures.proofs.Names.{refl, arith, length, part}
 use Rattle.figures.proofs.Texts.{some-counted, none-counted, few_at_most, part-lent}
 use Rattle.figures.proofs.Laws.{plus-text, plus-refused}
 use Rattle.figures.proofs.with_document.Goals as goal

@@ -13,8 +13,10 @@ loop-i-preserved c =
     let s = c.args.s.now in
     let l = c.loop-i in
     let due = c.if-due-eq0.false in
-    elim c.if-s-i-eq10.branch [ then-s-i-eq10 w ↦ (omega arith, omega arith, rw w.due-is (pass_feed s l.i l.due _ l.invariant.2 (omega arith) due w.if-s-i-eq10.true))
-    | else-s-i-eq10 w ↦ (omega arith, omega arith, rw w.due-is (pass_other s l.i l.due _ l.invariant.2 (omega arith) due w.if-s-i-eq10.false)) ]
+    elim c.if-s-i-eq10.branch [
+      | then-s-i-eq10 w ↦ (omega arith, omega arith, rw w.due-is (pass_feed s l.i l.due _ l.invariant.2 (omega arith) due w.if-s-i-eq10.true))
+      | else-s-i-eq10 w ↦ (omega arith, omega arith, rw w.due-is (pass_other s l.i l.due _ l.invariant.2 (omega arith) due w.if-s-i-eq10.false))
+    ]
 
 pub returns : goal.returns
 returns c = let l = c.loop-i in pass_ends (c.args.s.now) l.i l.due _ l.invariant.2 c.loop-i-test.false

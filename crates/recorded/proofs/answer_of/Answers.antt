@@ -1,4 +1,3 @@
-use Rattle.recorded.proofs.Names.{rules}
 use Rattle.recorded.proofs.Cases.{answer-is}
 use Rattle.recorded.proofs.answer_of.Goals as goal
 

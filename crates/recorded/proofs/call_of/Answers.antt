@@ -1,4 +1,4 @@
-use Rattle.recorded.proofs.Names.{ap, ◌∙◌, List, ℕ, rules, eqb, drop, get_or, number_in, past}
+use Rattle.recorded.proofs.Names.{ap, ◌∙◌, List, ℕ, eqb, drop, get_or, number_in, past}
 use Rattle.recorded.proofs.Cases.{call-is}
 use Rattle.recorded.proofs.call_of.Goals as goal
 

@@ -1,4 +1,4 @@
-use Rattle.recorded.proofs.Names.{◌∙◌, ◌+◌, rules, get_or, length-set}
+use Rattle.recorded.proofs.Names.{◌∙◌}
 use Rattle.recorded.proofs.Cases.{counted-more, counted_full, counted_none}
 use Rattle.recorded.proofs.count.Goals as goal
 

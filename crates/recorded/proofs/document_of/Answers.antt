@@ -1,4 +1,3 @@
-use Rattle.recorded.proofs.Names.{rules}
 use Rattle.recorded.proofs.Cases.{document-is}
 use Rattle.recorded.proofs.document_of.Goals as goal
 

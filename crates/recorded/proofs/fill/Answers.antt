@@ -1,4 +1,4 @@
-use Rattle.recorded.proofs.Names.{◌≡◌, refl, sym, ap, ◌∙◌, ℕ, ◌-◌, ◌≤◌, arith, rules, length, take, get_or, length-set, pattern, filled}
+use Rattle.recorded.proofs.Names.{◌≡◌, refl, sym, ap, ◌∙◌, ℕ, arith, length, get_or, length-set, pattern, filled}
 use Rattle.compared.specs.InnerCompared.{filled_by}
 use Rattle.compared.proofs.Filling.{filled_more}
 use lib.Seq.{take_all}

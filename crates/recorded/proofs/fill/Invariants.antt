@@ -1,7 +1,5 @@
-use Rattle.recorded.proofs.Names.{◌≡◌, refl, sym, ap, ◌∙◌, ℕ, ◌-◌, ◌≤◌, arith, rules, length, take, get_or, length-set, pattern, filled}
+use Rattle.recorded.proofs.Names.{◌≡◌, ◌-◌, ◌≤◌, length, take, pattern}
 use Rattle.compared.specs.InnerCompared.{filled_by}
-use Rattle.compared.proofs.Filling.{filled_more}
-use lib.Seq.{take_all}
 use Rattle.recorded.proofs.fill.Given as goal
 
 -- The bytes up to `i` are those of the room before a call.

@@ -1,5 +1,5 @@
-use Rattle.recorded.proofs.Names.{◌≡◌, refl, sym, ap, ◌∙◌, ◌-◌, ◌≤◌, arith, rules, length, get_or, pattern, keeps}
-use Rattle.compared.proofs.Filling.{Left, holds-next, holds-other, holds_all}
+use Rattle.recorded.proofs.Names.{◌≡◌, sym, ap, ◌∙◌, arith, get_or, pattern, keeps}
+use Rattle.compared.proofs.Filling.{holds-next, holds-other, holds_all}
 use Rattle.recorded.proofs.keeps.Goals as goal
 
 pub returns-then-room-i : goal.returns-then-room-i

@@ -1,5 +1,5 @@
-use Rattle.recorded.proofs.Names.{◌≡◌, refl, sym, ap, ◌∙◌, ◌-◌, ◌≤◌, arith, rules, length, get_or, pattern, keeps}
-use Rattle.compared.proofs.Filling.{Left, holds-next, holds-other, holds_all}
+use Rattle.recorded.proofs.Names.{◌-◌, ◌≤◌, length, pattern}
+use Rattle.compared.proofs.Filling.{Left}
 use Rattle.recorded.proofs.keeps.Given as goal
 
 -- What is left to compare from `i` on says whether all is the same.

@@ -1,4 +1,4 @@
-use Rattle.recorded.proofs.Names.{ap, ◌∙◌, ℕ, rules, drop, past}
+use Rattle.recorded.proofs.Names.{ap, ◌∙◌, ℕ, drop, past}
 use Rattle.recorded.proofs.past.Goals as goal
 
 pub returns : goal.returns

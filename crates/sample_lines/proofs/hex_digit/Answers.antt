@@ -1,4 +1,4 @@
-use Rattle.sample_lines.proofs.Names.{arith, rules}
+use Rattle.sample_lines.proofs.Names.{arith}
 use Rattle.sample_lines.proofs.Lines.{hex_low, hex_digit_lem, hex_between, hex_letter, hex_high}
 use Rattle.sample_lines.proofs.hex_digit.Goals as goal
 

@@ -1,5 +1,4 @@
-use Rattle.sample_lines.proofs.Names.{◌∙◌, rules}
-use Rattle.sample_lines.proofs.Lines.{chunk-raw, chunk_space, chunk-paragraph, chunk_break}
+use Rattle.sample_lines.proofs.Lines.{chunk-paragraph, chunk_break}
 use Rattle.sample_lines.proofs.is_chunk.Goals as goal
 
 pub returns-in-Paragraph : goal.returns-in-Paragraph

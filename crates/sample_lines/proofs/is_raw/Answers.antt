@@ -1,4 +1,4 @@
-use Rattle.sample_lines.proofs.Names.{◌∙◌, rules}
+use Rattle.sample_lines.proofs.Names.{◌∙◌}
 use Rattle.sample_lines.proofs.Lines.{raw-other, raw_width, raw-text}
 use Rattle.sample_lines.proofs.is_raw.Goals as goal
 

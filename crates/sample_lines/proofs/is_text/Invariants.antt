@@ -1,6 +1,4 @@
-use Rattle.sample_lines.proofs.Names.{◌≡◌, refl, sym, ◌∙◌, ◌-◌, ◌≤◌, arith, rules, length, drop, same, text_from}
-use Rattle.compared.proofs.Comparing.{same_rest, other-rest, longer-rest, no-rest}
-use Rattle.sample_lines.proofs.Lines.{text-end}
+use Rattle.sample_lines.proofs.Names.{◌≡◌, ◌-◌, ◌≤◌, length, drop, same, text_from}
 use Rattle.sample_lines.proofs.is_text.Given as goal
 
 -- What is left of the text beside the text from `i` on says whether all is the same.

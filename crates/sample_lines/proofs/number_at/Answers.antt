@@ -1,4 +1,4 @@
-use Rattle.sample_lines.proofs.Names.{◌≡◌, refl, sym, ◌∙◌, ◌-◌, ◌≤◌, arith, rules, length, drop, number_from, number_at}
+use Rattle.sample_lines.proofs.Names.{sym, ◌∙◌, arith}
 use Rattle.sample_lines.proofs.Lines.{number_more, number-end, number-below, number_above, number_large}
 use Rattle.sample_lines.proofs.number_at.Goals as goal
 

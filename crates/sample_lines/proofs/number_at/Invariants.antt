@@ -1,5 +1,4 @@
-use Rattle.sample_lines.proofs.Names.{◌≡◌, refl, sym, ◌∙◌, ◌-◌, ◌≤◌, arith, rules, length, drop, number_from, number_at}
-use Rattle.sample_lines.proofs.Lines.{number_more, number-end, number-below, number_above, number_large}
+use Rattle.sample_lines.proofs.Names.{◌≡◌, ◌-◌, ◌≤◌, length, drop, number_from, number_at}
 use Rattle.sample_lines.proofs.number_at.Given as goal
 
 -- From the place reached and with the value so far the rule gives what it gives from the start.

@@ -1,4 +1,4 @@
-use Rattle.sample_lines.proofs.Names.{◌≡◌, refl, sym, ◌∙◌, [], ◌∷◌, ◌-◌, rules, length, ◌>>=◌, seen, extended, text_from}
+use Rattle.sample_lines.proofs.Names.{sym, ◌∙◌, [], ◌∷◌, length, seen, text_from}
 use Rattle.sample_lines.proofs.Lines.{text-end}
 use Rattle.sample_lines.proofs.Writing.{wrote_on, wrote_last}
 use Rattle.sample_lines.proofs.put_text.Goals as goal

@@ -1,6 +1,4 @@
-use Rattle.sample_lines.proofs.Names.{◌≡◌, refl, sym, ◌∙◌, [], ◌∷◌, ◌-◌, rules, length, ◌>>=◌, seen, extended, text_from}
-use Rattle.sample_lines.proofs.Lines.{text-end}
-use Rattle.sample_lines.proofs.Writing.{wrote_on, wrote_last}
+use Rattle.sample_lines.proofs.Names.{◌≡◌, ◌-◌, length, ◌>>=◌, seen, extended, text_from}
 use Rattle.sample_lines.proofs.put_text.Given as goal
 
 -- What stands in the room, and the text from `i` on, give what the whole text gives from the start.

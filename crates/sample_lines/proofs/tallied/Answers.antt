@@ -1,4 +1,3 @@
-use Rattle.std.proofs.Common.{rules}
 use Rattle.sample_lines.proofs.Lines.{tally_same, tally_differ}
 use Rattle.sample_lines.proofs.tallied.Goals as goal
 

@@ -1,4 +1,4 @@
-use Rattle.sample_lines.proofs.Names.{◌≡◌, ap, ◌+◌, ◌-◌, ◌≤◌, arith, rules, length, text_from}
+use Rattle.sample_lines.proofs.Names.{ap, arith, length}
 use Rattle.sample_lines.proofs.Lines.{text-end}
 use Rattle.sample_lines.proofs.text_size.Goals as goal
 

@@ -1,5 +1,4 @@
-use Rattle.sample_lines.proofs.Names.{◌≡◌, ap, ◌+◌, ◌-◌, ◌≤◌, arith, rules, length, text_from}
-use Rattle.sample_lines.proofs.Lines.{text-end}
+use Rattle.sample_lines.proofs.Names.{◌≡◌, ◌+◌, ◌-◌, ◌≤◌, length, text_from}
 use Rattle.sample_lines.proofs.text_size.Given as goal
 
 -- The bytes counted and those of the text from `i` on are all of it, and no more were counted than passed.

@@ -1,4 +1,4 @@
-use Rattle.sample_lines.proofs.Names.{arith, rules}
+use Rattle.sample_lines.proofs.Names.{arith}
 use Rattle.sample_lines.proofs.Lines.{written_last, written-plain, written-two}
 use Rattle.sample_lines.proofs.written_at.Goals as goal
 

@@ -1,4 +1,4 @@
-use Rattle.sample_lines.proofs.Names.{ap, ◌∙◌, [], ◌∷◌, ℕ, rules, length, seen, repeated}
+use Rattle.sample_lines.proofs.Names.{ap, ◌∙◌, [], ◌∷◌, ℕ, length, seen, repeated}
 use Rattle.sample_lines.proofs.Adding.{adds-text, adds-starts, adds_ends, adds_zeros, adds_bytes}
 use Rattle.sample_lines.proofs.Writing.{wrote_as}
 use Rattle.sample_lines.proofs.documents.add.Goals as goal

@@ -1,4 +1,4 @@
-use Rattle.sample_lines.proofs.Names.{arith, rules, length, seen}
+use Rattle.sample_lines.proofs.Names.{length, seen}
 use Rattle.sample_lines.proofs.Adding.{blocks_are}
 use Rattle.sample_lines.proofs.Writing.{wrote_as}
 use Rattle.sample_lines.proofs.documents.put_blocks.Goals as goal

@@ -1,4 +1,4 @@
-use Rattle.sample_lines.proofs.Names.{ap, ◌∙◌, ℕ, rules, length, ◌>>=◌, seen, extended, text_from}
+use Rattle.sample_lines.proofs.Names.{ap, ◌∙◌, ℕ, length, ◌>>=◌, seen, extended, text_from}
 use Rattle.sample_lines.proofs.Adding.{record_wrote}
 use Rattle.sample_lines.proofs.documents.put_record.Goals as goal
 

@@ -1,5 +1,4 @@
-use Rattle.sample_lines.proofs.Names.{◌≡◌, refl, sym, ap, ◌∙◌, ℕ, ◌-◌, ◌≤◌, arith, rules, length, ◌>>=◌, seen, extended, repeated}
-use native.Mathlib.Nat.{sub-zero}
+use Rattle.sample_lines.proofs.Names.{sym, ◌∙◌, ◌-◌, arith, length, seen, repeated}
 use Rattle.sample_lines.proofs.Adding.{repeated-more, repeated-none}
 use Rattle.sample_lines.proofs.Writing.{wrote_on, wrote_last}
 use Rattle.sample_lines.proofs.documents.put_times.Goals as goal

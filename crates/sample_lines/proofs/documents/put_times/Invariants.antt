@@ -1,7 +1,4 @@
-use Rattle.sample_lines.proofs.Names.{◌≡◌, refl, sym, ap, ◌∙◌, ℕ, ◌-◌, ◌≤◌, arith, rules, length, ◌>>=◌, seen, extended, repeated}
-use native.Mathlib.Nat.{sub-zero}
-use Rattle.sample_lines.proofs.Adding.{repeated-more, repeated-none}
-use Rattle.sample_lines.proofs.Writing.{wrote_on, wrote_last}
+use Rattle.sample_lines.proofs.Names.{◌≡◌, ◌-◌, ◌≤◌, length, ◌>>=◌, seen, extended, repeated}
 use Rattle.sample_lines.proofs.documents.put_times.Given as goal
 
 -- What stands in `d`, and the bytes as often as they are still to be put, give what all of them give from the start.
