@@ -255,3 +255,6 @@ adds-by b n =
 
 pub adds-not : (b : ℕ) → b / 64 ≡ 2 → adds b ≡ 0
 adds-not b e = adds_none b (omega arith) (omega arith)
+
+-- what each byte adds, by its two top bits
+pub ruleset counted = (adds-by, adds-not)

@@ -413,6 +413,7 @@ pub fn valid(s: &[u8]) -> bool
 }
 
 // How many of the bytes from a to e start a character.
+#[tactic(auto, using(crate::proofs::Laws::count_step, crate::proofs::Laws::counted))]
 fn some(s: &[u8], a: usize, e: usize) -> u8
     requires { (a ≤ e) × (e ≤ length s.now) × (e ≤ a + 128) }
     ensures { Counted s.now a e result }
