@@ -1,5 +1,5 @@
 //! Links `libsefgrunn.a` from the directory that SEFGRUNN_LIB_DIR names, or else from where
-//! `rt staticlib sefgrunn` writes it beside this package.
+//! `tools/library` writes it beside this package.
 
 use std::env;
 use std::path::{Path, PathBuf};
@@ -15,7 +15,7 @@ fn main() {
     let library = dir.join("libsefgrunn.a");
     assert!(
         library.is_file(),
-        "{} does not exist: run 'rt staticlib sefgrunn', or name its directory in SEFGRUNN_LIB_DIR",
+        "{} does not exist: run 'tools/library', or name its directory in SEFGRUNN_LIB_DIR",
         library.display()
     );
     let dir = dir.canonicalize().expect("a directory that exists has a path");

@@ -51,11 +51,10 @@ fn rules(version: &str, table: &Table) -> String {
     let mut text = format!(
         "-- The upper-case table of Unicode {version} (02, point 6): UnicodeData.txt with the unconditional entries of SpecialCasing.txt, as the\n\
          -- oracle's compiler has them. Made by oracle/examples/upper.rs.\n\
-         use mathlib.Core.List.{{List, [], _∷_}}\n\
-         use Prim.Native.Nat.{{ℕ}}\n\n\
+         use Rattle.std.specs.Prelude.{{List, [], ◌∷◌, ℕ}}\n\n\
          -- a mapped character, and the characters that it maps to\n\
-         pub data Entry : Type 0 where\n  _becomes_ : ℕ → List ℕ → Entry\n\n\
-         infix 5 _becomes_\n\
+         pub data Entry : Type 0 where\n  ◌becomes◌ : ℕ → List ℕ → Entry\n\n\
+         infix 5 ◌becomes◌\n\
          unfoldable pub table : List Entry\ntable =\n"
     );
     for (i, (from, to)) in table.iter().enumerate() {
@@ -117,8 +116,10 @@ fn columns(version: &str, table: &Table) -> String {
     ] {
         assert!(column.iter().all(|&c| c < FAR), "{name} has a number of more than 16 bits");
         writeln!(text, "\n// {about}\npub const {name}: [u16; {size}] = [").unwrap();
-        for c in column {
-            writeln!(text, "    0x{c:04X},").unwrap();
+        // as `rt fmt` lays a table out
+        for line in column.chunks(12) {
+            let line: Vec<String> = line.iter().map(|c| format!("0x{c:04X},")).collect();
+            writeln!(text, "    {}", line.join(" ")).unwrap();
         }
         writeln!(text, "];").unwrap();
     }
@@ -333,9 +334,13 @@ mod tests {
         assert!(text.contains(&format!("pub const NEAR: usize = {};", table.len())), "{text}");
         assert!(text.contains("pub const FAR: usize = 0;"));
         assert!(text.contains(&format!("pub const ALL: usize = {};", table.len())), "{text}");
+        assert!(text
+            .lines()
+            .filter(|line| line.starts_with("    0x"))
+            .all(|line| line.len() <= 99));
         // ß and ŉ grow
-        assert!(text.contains("    0xD800,\n") && text.contains("    0xD803,\n"));
-        assert!(text.contains("    0x0053,\n    0x0053,\n    0x0000,\n    0x02BC,\n    0x004E,\n"));
+        assert!(text.contains(" 0xD800,") && text.contains(" 0xD803,"));
+        assert!(text.contains("\n    0x0053, 0x0053, 0x0000, 0x02BC, 0x004E, 0x0000,"));
     }
 
     /// Of SpecialCasing.txt the unconditional entries count, and what the database does not have explains a difference.

@@ -69,8 +69,7 @@ fn out_of_range(place: &mut usize) -> u32
 }
 
 // Refusals 1 to 8; `place` is the refusal's, and 0 where the document is accepted.
-#[unsafe(no_mangle)]
-pub extern "C" fn sefgrunn_check(document: &[u8], place: &mut usize) -> u32
+pub fn sefgrunn_check(document: &[u8], place: &mut usize) -> u32
     ensures number { result ≡ number_of (check document.now) }
     ensures place { place.new ≡ place_of (check document.now) }
 {
@@ -105,8 +104,7 @@ fn measure_asked(characters: bool) -> Measure
 }
 
 // `Doc::render_console` with `Color::Monochrome`; by characters, the measure that 02 adds.
-#[unsafe(no_mangle)]
-pub extern "C" fn sefgrunn_console(
+pub fn sefgrunn_console(
     document: &[u8],
     width: usize,
     full: bool,
@@ -134,8 +132,7 @@ pub extern "C" fn sefgrunn_console(
 }
 
 // How much room to lend to `sefgrunn_console`, so that it never answers 13: `at` is so many bytes, or the refusal's place.
-#[unsafe(no_mangle)]
-pub extern "C" fn sefgrunn_room_bound(document: &[u8], at: &mut usize) -> u32
+pub fn sefgrunn_room_bound(document: &[u8], at: &mut usize) -> u32
     ensures number { result ≡ number_of (room_bound document.now) }
     ensures at { at.new ≡ length_or_place (room_bound document.now) }
 {
@@ -150,8 +147,7 @@ pub extern "C" fn sefgrunn_room_bound(document: &[u8], at: &mut usize) -> u32
 }
 
 // The chunk of a body at a cursor, which moves past it; 0 where there is none.
-#[unsafe(no_mangle)]
-pub extern "C" fn sefgrunn_next_chunk(
+pub fn sefgrunn_next_chunk(
     body: &[u8],
     at: &mut usize,
     ticks: &mut u32,
@@ -176,8 +172,7 @@ pub extern "C" fn sefgrunn_next_chunk(
 }
 
 // The tabstop, and the start of the first ItemTerm end whose count is 24, or the document's length.
-#[unsafe(no_mangle)]
-pub extern "C" fn sefgrunn_tabstop(document: &[u8], tabstop: &mut usize, at: &mut usize) -> u32
+pub fn sefgrunn_tabstop(document: &[u8], tabstop: &mut usize, at: &mut usize) -> u32
     ensures number { result ≡ number_of (tabstop_in document.now) }
     ensures tabstop { tabstop.new ≡ or_zero (tabstop_in document.now) }
     ensures at { at.new ≡ length_or_place (settled_in document.now) }
@@ -197,8 +192,7 @@ pub extern "C" fn sefgrunn_tabstop(document: &[u8], tabstop: &mut usize, at: &mu
 }
 
 // Whether a document has house shape, 1 or 0; and the place of the first record after which no further records could lead to it.
-#[unsafe(no_mangle)]
-pub extern "C" fn sefgrunn_house_shape(document: &[u8], shaped: &mut u32, place: &mut usize) -> u32
+pub fn sefgrunn_house_shape(document: &[u8], shaped: &mut u32, place: &mut usize) -> u32
     ensures { ShapeTold document.now result shaped.new place.new }
 {
     let answer = shape::house_shape(document);
@@ -220,8 +214,7 @@ pub extern "C" fn sefgrunn_house_shape(document: &[u8], shaped: &mut u32, place:
 }
 
 // A document into the joined form, or 1 to 8, or 13.
-#[unsafe(no_mangle)]
-pub extern "C" fn sefgrunn_join(document: &[u8], room: &mut [u8], at: &mut usize) -> u32
+pub fn sefgrunn_join(document: &[u8], room: &mut [u8], at: &mut usize) -> u32
     ensures number { result ≡ number_of (joins_into (length room.old) document.now) }
     ensures at { at.new ≡ length_or_place (measured (joins_into (length room.old) document.now)) }
     ensures room { room.new ≡ filled (length room.old) (joins_into (length room.old) document.now) }
@@ -231,8 +224,7 @@ pub extern "C" fn sefgrunn_join(document: &[u8], room: &mut [u8], at: &mut usize
 }
 
 // A joined form back into a document, or 1, 17, 2 to 8 and 18, or 13.
-#[unsafe(no_mangle)]
-pub extern "C" fn sefgrunn_unjoin(joined: &[u8], room: &mut [u8], at: &mut usize) -> u32
+pub fn sefgrunn_unjoin(joined: &[u8], room: &mut [u8], at: &mut usize) -> u32
     ensures number { result ≡ number_of (unjoins_into (length room.old) joined.now) }
     ensures at { at.new ≡ length_or_place (measured (unjoins_into (length room.old) joined.now)) }
     ensures room { room.new ≡ filled (length room.old) (unjoins_into (length room.old) joined.now) }
@@ -242,8 +234,7 @@ pub extern "C" fn sefgrunn_unjoin(joined: &[u8], room: &mut [u8], at: &mut usize
 }
 
 // Refusals 1, 17, 2 to 8 and 18 of a joined form; `place` is the refusal's, and 0 where it is accepted.
-#[unsafe(no_mangle)]
-pub extern "C" fn sefgrunn_joined_check(joined: &[u8], place: &mut usize) -> u32
+pub fn sefgrunn_joined_check(joined: &[u8], place: &mut usize) -> u32
     ensures number { result ≡ number_of (check_joined joined.now) }
     ensures place { place.new ≡ place_of (check_joined joined.now) }
 {
@@ -255,8 +246,7 @@ pub extern "C" fn sefgrunn_joined_check(joined: &[u8], place: &mut usize) -> u32
 }
 
 // The figures of a bundle, or 16, 15, 14: `texts` are the accepted documents, `others` the refused ones. After a refusal the four numbers are 0.
-#[unsafe(no_mangle)]
-pub extern "C" fn sefgrunn_figures(
+pub fn sefgrunn_figures(
     bundle: &[u8],
     documents: &mut usize,
     texts: &mut usize,
@@ -291,14 +281,7 @@ pub extern "C" fn sefgrunn_figures(
 }
 
 // `Doc::render_html`.
-#[unsafe(no_mangle)]
-pub extern "C" fn sefgrunn_html(
-    document: &[u8],
-    full: bool,
-    css: bool,
-    room: &mut [u8],
-    at: &mut usize,
-) -> u32
+pub fn sefgrunn_html(document: &[u8], full: bool, css: bool, room: &mut [u8], at: &mut usize) -> u32
     ensures number { result ≡ number_of (html (length room.old) false full css document.now) }
     ensures at { at.new ≡ length_or_place (measured (html (length room.old) false full css document.now)) }
     ensures room { room.new ≡ filled (length room.old) (html (length room.old) false full css document.now) }
@@ -308,8 +291,7 @@ pub extern "C" fn sefgrunn_html(
 }
 
 // Strict HTML, which 01 adds.
-#[unsafe(no_mangle)]
-pub extern "C" fn sefgrunn_html_strict(
+pub fn sefgrunn_html_strict(
     document: &[u8],
     full: bool,
     css: bool,
@@ -325,13 +307,7 @@ pub extern "C" fn sefgrunn_html_strict(
 }
 
 // `Doc::render_markdown`.
-#[unsafe(no_mangle)]
-pub extern "C" fn sefgrunn_markdown(
-    document: &[u8],
-    full: bool,
-    room: &mut [u8],
-    at: &mut usize,
-) -> u32
+pub fn sefgrunn_markdown(document: &[u8], full: bool, room: &mut [u8], at: &mut usize) -> u32
     ensures number { result ≡ number_of (markdown (length room.old) full document.now) }
     ensures at { at.new ≡ length_or_place (measured (markdown (length room.old) full document.now)) }
     ensures room { room.new ≡ filled (length room.old) (markdown (length room.old) full document.now) }
@@ -341,8 +317,7 @@ pub extern "C" fn sefgrunn_markdown(
 }
 
 // `Doc::render_roff` given `Roff::new()`.
-#[unsafe(no_mangle)]
-pub extern "C" fn sefgrunn_roff(document: &[u8], room: &mut [u8], at: &mut usize) -> u32
+pub fn sefgrunn_roff(document: &[u8], room: &mut [u8], at: &mut usize) -> u32
     ensures number { result ≡ number_of (roff (length room.old) document.now) }
     ensures at { at.new ≡ length_or_place (measured (roff (length room.old) document.now)) }
     ensures room { room.new ≡ filled (length room.old) (roff (length room.old) document.now) }
@@ -352,8 +327,7 @@ pub extern "C" fn sefgrunn_roff(document: &[u8], room: &mut [u8], at: &mut usize
 }
 
 // The document that Markdown notes stand for.
-#[unsafe(no_mangle)]
-pub extern "C" fn sefgrunn_notes(notes: &[u8], room: &mut [u8], at: &mut usize) -> u32
+pub fn sefgrunn_notes(notes: &[u8], room: &mut [u8], at: &mut usize) -> u32
     ensures number { result ≡ number_of (taken_in (length room.old) notes.now) }
     ensures at { at.new ≡ length_or_place (measured (taken_in (length room.old) notes.now)) }
     ensures room { room.new ≡ filled (length room.old) (taken_in (length room.old) notes.now) }
@@ -364,8 +338,7 @@ pub extern "C" fn sefgrunn_notes(notes: &[u8], room: &mut [u8], at: &mut usize) 
 }
 
 // The console text of a joined form, with places there.
-#[unsafe(no_mangle)]
-pub extern "C" fn sefgrunn_joined_console(
+pub fn sefgrunn_joined_console(
     joined: &[u8],
     width: usize,
     full: bool,
@@ -388,8 +361,7 @@ pub extern "C" fn sefgrunn_joined_console(
 }
 
 // The HTML of a joined form.
-#[unsafe(no_mangle)]
-pub extern "C" fn sefgrunn_joined_html(
+pub fn sefgrunn_joined_html(
     joined: &[u8],
     full: bool,
     css: bool,
@@ -405,8 +377,7 @@ pub extern "C" fn sefgrunn_joined_html(
 }
 
 // The strict HTML of a joined form.
-#[unsafe(no_mangle)]
-pub extern "C" fn sefgrunn_joined_html_strict(
+pub fn sefgrunn_joined_html_strict(
     joined: &[u8],
     full: bool,
     css: bool,
@@ -422,13 +393,7 @@ pub extern "C" fn sefgrunn_joined_html_strict(
 }
 
 // The Markdown of a joined form.
-#[unsafe(no_mangle)]
-pub extern "C" fn sefgrunn_joined_markdown(
-    joined: &[u8],
-    full: bool,
-    room: &mut [u8],
-    at: &mut usize,
-) -> u32
+pub fn sefgrunn_joined_markdown(joined: &[u8], full: bool, room: &mut [u8], at: &mut usize) -> u32
     ensures number { result ≡ number_of (joined_markdown (length room.old) full joined.now) }
     ensures at { at.new ≡ length_or_place (measured (joined_markdown (length room.old) full joined.now)) }
     ensures room { room.new ≡ filled (length room.old) (joined_markdown (length room.old) full joined.now) }
@@ -438,8 +403,7 @@ pub extern "C" fn sefgrunn_joined_markdown(
 }
 
 // The roff of a joined form.
-#[unsafe(no_mangle)]
-pub extern "C" fn sefgrunn_joined_roff(joined: &[u8], room: &mut [u8], at: &mut usize) -> u32
+pub fn sefgrunn_joined_roff(joined: &[u8], room: &mut [u8], at: &mut usize) -> u32
     ensures number { result ≡ number_of (joined_roff (length room.old) joined.now) }
     ensures at { at.new ≡ length_or_place (measured (joined_roff (length room.old) joined.now)) }
     ensures room { room.new ≡ filled (length room.old) (joined_roff (length room.old) joined.now) }
@@ -449,8 +413,7 @@ pub extern "C" fn sefgrunn_joined_roff(joined: &[u8], room: &mut [u8], at: &mut 
 }
 
 // How many pages a text has at a height; 0 after a refusal.
-#[unsafe(no_mangle)]
-pub extern "C" fn sefgrunn_page_count(text: &[u8], height: usize, count: &mut usize) -> u32
+pub fn sefgrunn_page_count(text: &[u8], height: usize, count: &mut usize) -> u32
     ensures number { result ≡ number_of (page_count height text.now) }
     ensures count { count.new ≡ or_zero (page_count height text.now) }
 {
@@ -468,8 +431,7 @@ pub extern "C" fn sefgrunn_page_count(text: &[u8], height: usize, count: &mut us
 }
 
 // A page of a text, as a part of it: where it starts, and how many bytes it has; both 0 after a refusal.
-#[unsafe(no_mangle)]
-pub extern "C" fn sefgrunn_page(
+pub fn sefgrunn_page(
     text: &[u8],
     height: usize,
     page: usize,
@@ -512,8 +474,7 @@ fn stored(built: Built, len: &mut usize, place: &mut usize) -> u32
 }
 
 // `Doc::write_str`, in the style with a number from 1 to 5.
-#[unsafe(no_mangle)]
-pub extern "C" fn sefgrunn_write(
+pub fn sefgrunn_write(
     room: &mut [u8],
     len: &mut usize,
     style: u32,
@@ -538,13 +499,7 @@ pub extern "C" fn sefgrunn_write(
 }
 
 // The start of the block with an index from 0 to 11.
-#[unsafe(no_mangle)]
-pub extern "C" fn sefgrunn_open(
-    room: &mut [u8],
-    len: &mut usize,
-    block: u32,
-    place: &mut usize,
-) -> u32
+pub fn sefgrunn_open(room: &mut [u8], len: &mut usize, block: u32, place: &mut usize) -> u32
     ensures number { result ≡ number_of (opens_in room.old len.old block) }
     ensures length { len.new ≡ length_after len.old (measured (opens_in room.old len.old block)) }
     ensures place { place.new ≡ place_of (opens_in room.old len.old block) }
@@ -563,13 +518,7 @@ pub extern "C" fn sefgrunn_open(
 }
 
 // The end of the block with an index from 0 to 11.
-#[unsafe(no_mangle)]
-pub extern "C" fn sefgrunn_close(
-    room: &mut [u8],
-    len: &mut usize,
-    block: u32,
-    place: &mut usize,
-) -> u32
+pub fn sefgrunn_close(room: &mut [u8], len: &mut usize, block: u32, place: &mut usize) -> u32
     ensures number { result ≡ number_of (closes_in room.old len.old block) }
     ensures length { len.new ≡ length_after len.old (measured (closes_in room.old len.old block)) }
     ensures place { place.new ≡ place_of (closes_in room.old len.old block) }
@@ -588,13 +537,7 @@ pub extern "C" fn sefgrunn_close(
 }
 
 // `Doc::doc`.
-#[unsafe(no_mangle)]
-pub extern "C" fn sefgrunn_doc(
-    room: &mut [u8],
-    len: &mut usize,
-    added: &[u8],
-    place: &mut usize,
-) -> u32
+pub fn sefgrunn_doc(room: &mut [u8], len: &mut usize, added: &[u8], place: &mut usize) -> u32
     ensures number { result ≡ number_of (adds_doc room.old len.old added.now) }
     ensures length { len.new ≡ length_after len.old (measured (adds_doc room.old len.old added.now)) }
     ensures place { place.new ≡ place_of (adds_doc room.old len.old added.now) }
@@ -605,13 +548,7 @@ pub extern "C" fn sefgrunn_doc(
 }
 
 // `Doc::em_doc`.
-#[unsafe(no_mangle)]
-pub extern "C" fn sefgrunn_em_doc(
-    room: &mut [u8],
-    len: &mut usize,
-    added: &[u8],
-    place: &mut usize,
-) -> u32
+pub fn sefgrunn_em_doc(room: &mut [u8], len: &mut usize, added: &[u8], place: &mut usize) -> u32
     ensures number { result ≡ number_of (adds_em_doc room.old len.old added.now) }
     ensures length { len.new ≡ length_after len.old (measured (adds_em_doc room.old len.old added.now)) }
     ensures place { place.new ≡ place_of (adds_em_doc room.old len.old added.now) }
@@ -622,13 +559,7 @@ pub extern "C" fn sefgrunn_em_doc(
 }
 
 // 02: one option list from two products.
-#[unsafe(no_mangle)]
-pub extern "C" fn sefgrunn_merge(
-    first: &[u8],
-    second: &[u8],
-    room: &mut [u8],
-    at: &mut usize,
-) -> u32
+pub fn sefgrunn_merge(first: &[u8], second: &[u8], room: &mut [u8], at: &mut usize) -> u32
     ensures { MergeTold room.old first.now second.now result at.new room.new }
 {
     let answer = merge::merge(first, second, room);
@@ -649,8 +580,7 @@ fn drafted(answer: Drafted, draft: &mut [u64; 8], place: &mut usize) -> u32
 }
 
 // The draft of the document in the first `length` bytes of the room, by one check.
-#[unsafe(no_mangle)]
-pub extern "C" fn sefgrunn_draft_resume(
+pub fn sefgrunn_draft_resume(
     room: &[u8],
     length: usize,
     draft: &mut [u64; 8],
@@ -665,8 +595,7 @@ pub extern "C" fn sefgrunn_draft_resume(
 }
 
 // `sefgrunn_write` by a draft.
-#[unsafe(no_mangle)]
-pub extern "C" fn sefgrunn_draft_write(
+pub fn sefgrunn_draft_write(
     room: &mut [u8],
     draft: &mut [u64; 8],
     style: u32,
@@ -690,8 +619,7 @@ pub extern "C" fn sefgrunn_draft_write(
 }
 
 // `sefgrunn_open` by a draft.
-#[unsafe(no_mangle)]
-pub extern "C" fn sefgrunn_draft_open(
+pub fn sefgrunn_draft_open(
     room: &mut [u8],
     draft: &mut [u64; 8],
     block: u32,
@@ -714,8 +642,7 @@ pub extern "C" fn sefgrunn_draft_open(
 }
 
 // `sefgrunn_close` by a draft.
-#[unsafe(no_mangle)]
-pub extern "C" fn sefgrunn_draft_close(
+pub fn sefgrunn_draft_close(
     room: &mut [u8],
     draft: &mut [u64; 8],
     block: u32,
@@ -738,8 +665,7 @@ pub extern "C" fn sefgrunn_draft_close(
 }
 
 // `sefgrunn_doc` by a draft.
-#[unsafe(no_mangle)]
-pub extern "C" fn sefgrunn_draft_doc(
+pub fn sefgrunn_draft_doc(
     room: &mut [u8],
     draft: &mut [u64; 8],
     added: &[u8],
@@ -754,8 +680,7 @@ pub extern "C" fn sefgrunn_draft_doc(
 }
 
 // `sefgrunn_em_doc` by a draft.
-#[unsafe(no_mangle)]
-pub extern "C" fn sefgrunn_draft_em_doc(
+pub fn sefgrunn_draft_em_doc(
     room: &mut [u8],
     draft: &mut [u64; 8],
     added: &[u8],
