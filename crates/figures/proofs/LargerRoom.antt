@@ -7,7 +7,8 @@ use Rattle.records.specs.declared.Kind.TheVariants as kind
 use Rattle.splitter.specs.Split.{Chunk, raw, paragraph, line_break, is_space, Placed, split}
 use Rattle.room.proofs.Laws.{extended_in, extended-out}
 use Rattle.renderer.specs.Walk.{write, last, walk, body}
-use Rattle.console_rules.specs.Console.{State, initial, line_end, due_line, due_blank, pad_gutter, place, reach, pad, put, fold, tick, started, ended, gap_ahead}
+use Rattle.console_rules.specs.Console.{State, initial, line_end, due_line, due_blank, pad_gutter, place, reach, pad, put, fold, tick, started, ended}
+use Rattle.console_rules.specs.Console.{gap_ahead}
 use Rattle.console_rules.specs.Console.{raw_chunk, chunk, body_chunk, turn, tabstop, finish, measure_of, console_by}
 use Rattle.console_rules.specs.declared.Settings.{Settings}
 

@@ -56,7 +56,8 @@ case_read old mid new number part rest n is size long first second = (
   is,
   size,
   omega (arith, length-append part rest, long),
-  subst (λ l. Consumes old new (number ++ l)) (sym (ap (λ m. take m (part ++ rest)) (sym long) ∙ take-append_seam part rest)) (Consumes-trans old mid new number part first second),
+  subst (λ l. Consumes old new (number ++ l)) (sym (ap (λ m. take m (part ++ rest)) (sym long) ∙ take-append_seam part rest))
+      (Consumes-trans old mid new number part first second),
 )
 
 -- A buffer that a read filled has what was read.

@@ -127,7 +127,8 @@ module _ (letter width n : ℕ) (document : List ℕ) (w : Wanted) (text : List 
       rendered-by r n w.number w.place [] room _ by.0 by.1
       ∙ sym (if_false (is_answer n (by_letter letter width n document) 0 (length x) x) _ (ne_eqb w.number 0 e))
 
-  pub wanted_text_lem : (x : List ℕ) → w.number ≡ 0 → x ≡ wanted_text letter text w → is_rendered r room 0 (length x) x ≡ is_wanted letter width n document w text
+  pub wanted_text_lem : (x : List ℕ) → w.number ≡ 0 → x ≡ wanted_text letter text w → is_rendered r room 0
+      (length x) x ≡ is_wanted letter width n document w text
   unfolding is_wanted
   wanted_text_lem x e f =
       rendered-by r n 0 (length x) x room _ by.0 by.1

@@ -10,7 +10,8 @@ use Rattle.console.proofs.walk.Given as goal
 -- What falls: the bytes of the document after `at`; inside, the bytes of the body after `from`.
 
 abbrev pub invariant-chunks : goal.invariant-chunks
-invariant-chunks l = Writing l.document l.set l.tab.0 (length l.initial.room) l.body l.margin.0 l.start l.next (take l.count l.margins) l.room l.m (cursor l.from l.code)
+invariant-chunks l = Writing l.document l.set l.tab.0 (length l.initial.room) l.body l.margin.0 l.start l.next (take l.count l.margins) l.room l.m
+    (cursor l.from l.code)
 
 abbrev pub decreases-chunks : goal.decreases-chunks
 decreases-chunks l = length l.body + 1 - l.from

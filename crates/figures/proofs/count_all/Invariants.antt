@@ -5,7 +5,8 @@ use Rattle.figures.proofs.count_all.Given as goal
 -- The bytes that are left fall.
 
 abbrev pub invariant-loop-at : goal.invariant-loop-at
-invariant-loop-at l = (l.at ≤ length l.bundle) × (length l.room ≡ 65_536) × (l.f.documents ≤ l.at) × Bounded l.f × (from l.bundle l.at l.f ≡ from l.bundle 0 nothing)
+invariant-loop-at l = (l.at ≤ length l.bundle) × (length l.room ≡ 65_536) × (l.f.documents ≤ l.at) × Bounded l.f ×
+    (from l.bundle l.at l.f ≡ from l.bundle 0 nothing)
 
 abbrev pub decreases-loop-at : goal.decreases-loop-at
 decreases-loop-at l = length l.bundle - l.at

@@ -27,7 +27,8 @@ returns-then-not-has_text c =
     let has-text = c.has_text in
     let if2 = c.if-not-has_text in
     let textless = sym has-text.ensures ∙ if2.true in
-    let told = refused_both _ refuse2.new.room refuse2.ensures.answer refuse2.ensures.room (joined-textless _ (a.joined.now) if1.false a.asked textless) in record {
+    let told = refused_both _ refuse2.new.room refuse2.ensures.answer refuse2.ensures.room (joined-textless _ (a.joined.now) if1.false a.asked textless) in
+        record {
       answer = told.0;
       room = told.1;
     }
@@ -43,7 +44,8 @@ returns-then-too_wide c =
     let if3 = c.if-too_wide in
     let text = sym has-text.ensures ∙ if2.false in
     let wide = sym too_wide.ensures ∙ if3.true in
-    let told = refused_both _ refuse3.new.room refuse3.ensures.answer refuse3.ensures.room (joined-wide _ (a.joined.now) if1.false text a.asked wide) in record {
+    let told = refused_both _ refuse3.new.room refuse3.ensures.answer refuse3.ensures.room (joined-wide _ (a.joined.now) if1.false text a.asked wide) in
+        record {
       answer = told.0;
       room = told.1;
     }
