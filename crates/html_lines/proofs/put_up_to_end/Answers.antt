@@ -29,8 +29,8 @@ returns-then-body-i c =
 pub returns-then-body-i-eq10 : goal.returns-then-body-i-eq10
 returns-then-body-i-eq10 c =
     let told =
-        left_end _ _ _ _ _ (ran (goal.at.returns-then-body-i-eq10 c).After-put_all-n) (omega (arith, c.if-body-i.false))
-        (eq-eqb _ _ c.if-body-i-eq10.true) in record {
+    left_end _ _ _ _ _ (ran (goal.at.returns-then-body-i-eq10 c).After-put_all-n) (omega (arith, c.if-body-i.false))
+    (eq-eqb _ _ c.if-body-i-eq10.true) in record {
       text = told.0;
       place = told.1;
     }

@@ -3,6 +3,6 @@ use Rattle.joined_render.proofs.refuse.Goals as goal
 
 pub returns : goal.returns
 returns c = record {
-      answer = refl;
-      room = c.clear_from.ensures ∙ padded-none (length (c.args.room.now));
-    }
+  answer = refl;
+  room = c.clear_from.ensures ∙ padded-none (length (c.args.room.now));
+}

@@ -20,5 +20,5 @@ returns c =
       at = rw (← m.ensures) at;
       room = rw (← m.ensures) r.ensures.room;
       demand3 = rw (← m.ensures) three;
-      enough = rw (← m.ensures) (room_enough set (length (a.room.now)) (a.document.now) _ number);
+      enough = room_enough set (length (a.room.now)) (a.document.now) _ number;
     }
