@@ -1,20 +1,20 @@
 -- A choice taken apart, laws of `&&`, and numbers compared. Assumes nothing.
 use Rattle.base.proofs.Names.{◌≡◌, refl, sym, ◌⊎◌, inl, inr, Bool, true, false, ◌&&◌, false≢true, ℕ, ◌≤◌, ◌<◌, leb, eqb, leb-true, leb-false}
-use Rattle.base.proofs.Names.{eqb-true, eqb-false, if◌then◌else◌}
+use Rattle.base.proofs.Names.{eqb-true, eqb-false, when◌then◌else◌}
 
 -- what holds of either side, given the test, holds of the choice
-pub pick {ℓ} : {A : Type 0} (P : A → Type ℓ) (c : Bool) {a b : A} → (c ≡ true → P a) → (c ≡ false → P b) → P (if c then a else b)
-unfolding if◌then◌else◌
+pub pick {ℓ} : {A : Type 0} (P : A → Type ℓ) (c : Bool) {a b : A} → (c ≡ true → P a) → (c ≡ false → P b) → P (when c then a else b)
+unfolding when◌then◌else◌
 pick P true f g = f refl
 pick P false f g = g refl
 
 -- the choice, where the test is known
-pub if_true : {A : Type 0} {c : Bool} (a b : A) → c ≡ true → if c then a else b ≡ a
-unfolding if◌then◌else◌
+pub if_true : {A : Type 0} {c : Bool} (a b : A) → c ≡ true → when c then a else b ≡ a
+unfolding when◌then◌else◌
 if_true a b e = rw e
 
-pub if_false : {A : Type 0} {c : Bool} (a b : A) → c ≡ false → if c then a else b ≡ b
-unfolding if◌then◌else◌
+pub if_false : {A : Type 0} {c : Bool} (a b : A) → c ≡ false → when c then a else b ≡ b
+unfolding when◌then◌else◌
 if_false a b e = rw e
 
 pub and_left : (a b : Bool) → a && b ≡ true → a ≡ true

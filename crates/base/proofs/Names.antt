@@ -1,7 +1,7 @@
 -- Names of other crates and libraries that the proofs of this crate cite, by where they are from.
 pub use Prim.Native.Nat.{◌+◌, ◌-◌, ◌<◌, ◌≤◌, suc, zero, ℕ}
 unfoldable pub use Rattle.base.specs.Bytes.{starts_with}
-unfoldable pub use Rattle.base.specs.Choice.{if◌then◌else◌}
+unfoldable pub use Rattle.base.specs.Choice.{when◌then◌else◌}
 pub use borrow.Author.Rules.{rules}
 pub use borrow.Author.Tests.{eq-eqb, eqb-false, eqb-true, le-leb, leb-false, leb-true, lt-leb, ne_eqb}
 pub use lib.Dec.{eqb, leb}

@@ -1,5 +1,5 @@
 -- Rules one after another, what is given at their end, and a property of it. Assumes nothing.
-use Rattle.base.proofs.Names.{ℕ, ◌≡◌, refl, Bool, true, false, arith, if◌then◌else◌}
+use Rattle.base.proofs.Names.{ℕ, ◌≡◌, refl, Bool, true, false, arith, when◌then◌else◌}
 use Rattle.base.specs.Result.{Result, gives, refused, ◌>>=◌}
 
 pub bind_assoc : {A B C : Type 0} (r : Result A) (f : A → Result B) (g : B → Result C) → (r >>= λ x. f x >>= g) ≡ (r >>= f >>= g)
@@ -58,12 +58,12 @@ bind_gives (gives a) f b e = (a, refl, e)
 bind_gives (refused n p) f b e = absurd (refused-gives e)
 
 -- where one side of a choice refuses, what is given is the other's
-pub if_gives : {A : Type 0} (t : Bool) (r : Result A) (n p : ℕ) (b : A) → (if t then r else refused n p) ≡ gives b → (t ≡ true) × (r ≡ gives b)
-unfolding if◌then◌else◌
+pub if_gives : {A : Type 0} (t : Bool) (r : Result A) (n p : ℕ) (b : A) → (when t then r else refused n p) ≡ gives b → (t ≡ true) × (r ≡ gives b)
+unfolding when◌then◌else◌
 if_gives true r n p b e = (refl, e)
 if_gives false r n p b e = absurd (refused-gives e)
 
-pub else_gives : {A : Type 0} (t : Bool) (r : Result A) (n p : ℕ) (b : A) → (if t then refused n p else r) ≡ gives b → (t ≡ false) × (r ≡ gives b)
-unfolding if◌then◌else◌
+pub else_gives : {A : Type 0} (t : Bool) (r : Result A) (n p : ℕ) (b : A) → (when t then refused n p else r) ≡ gives b → (t ≡ false) × (r ≡ gives b)
+unfolding when◌then◌else◌
 else_gives true r n p b e = absurd (refused-gives e)
 else_gives false r n p b e = (refl, e)

@@ -1,6 +1,6 @@
 -- Bytes out of others, at their start, and at their end.
 use Rattle.std.specs.Prelude.{ℕ, ◌+◌, ◌-◌, Bool, true, false, ◌&&◌, List, [], ◌∷◌, ◌++◌, leb, eqb, length, take, drop}
-use Rattle.base.specs.Choice.{if◌then◌else◌}
+use Rattle.base.specs.Choice.{when◌then◌else◌}
 
 -- the bytes from a place up to another
 abbrev pub part : List ℕ → ℕ → ℕ → List ℕ
@@ -12,7 +12,7 @@ pasted room at x = take at room ++ x ++ drop (at + length x) room
 
 -- the same, where the room holds them; else the room as it was
 unfoldable pub overwritten : List ℕ → ℕ → List ℕ → List ℕ
-overwritten room at x = if leb (at + length x) (length room) then pasted room at x else room
+overwritten room at x = when leb (at + length x) (length room) then pasted room at x else room
 
 -- s starts with some bytes
 unfoldable pub starts_with : List ℕ → List ℕ → Bool

@@ -1,6 +1,6 @@
 -- The answer and the room by the rules' result, and the rules up to the document so far. Assumes nothing.
 use Rattle.buffer.proofs.Names.{ℕ, ◌+◌, ◌-◌, ◌≤◌, ◌<◌, ◌≡◌, sym, ap, ◌∙◌, Bool, true, false, ◌&&◌, List, ◌++◌, leb, ltb, length, take, length-take-le}
-use Rattle.buffer.proofs.Names.{arith, le-leb, lt-leb, leb-true, ltb-false, le-ltb, lt-ltb, if◌then◌else◌, Result, gives, refused, ◌>>=◌, measured}
+use Rattle.buffer.proofs.Names.{arith, le-leb, lt-leb, leb-true, ltb-false, le-ltb, lt-ltb, when◌then◌else◌, Result, gives, refused, ◌>>=◌, measured}
 use Rattle.buffer.proofs.Names.{if_true, if_false, and_left, and_right, same_test, number, open_blocks, short, utf8, Style, written, so_far, fit}
 use Rattle.buffer.proofs.Names.{writes, built_as, kept, pasted, longer, Accepted, Goes}
 use Rattle.base.proofs.Results.{bind_gives, if_gives, else_gives, gives_same}
@@ -41,15 +41,15 @@ so_far-gives room n doc e =
     (leb-true n (length room) f.0, ltb-false 32768 (length (take n room)) g.0, sym (gives_same g.1))
 
 pub so_far-past : (room : List ℕ) (n : ℕ) → length room < n → refused 13 0 ≡ (so_far room n >>= open_blocks)
-unfolding so_far ◌>>=◌ if◌then◌else◌
+unfolding so_far ◌>>=◌ when◌then◌else◌
 so_far-past room n h = rw (lt-leb n (length room) h)
 
 pub so_far_long : (room : List ℕ) (n : ℕ) → n ≤ length room → 32768 < n → refused 1 0 ≡ (so_far room n >>= open_blocks)
-unfolding so_far short ◌>>=◌ if◌then◌else◌
+unfolding so_far short ◌>>=◌ when◌then◌else◌
 so_far_long room n h l = rw (le-leb n (length room) h, length-take-le n room h, lt-ltb 32768 n l)
 
 pub so_far_in : (room : List ℕ) (n : ℕ) → n ≤ length room → n ≤ 32768 → open_blocks (take n room) ≡ (so_far room n >>= open_blocks)
-unfolding so_far short ◌>>=◌ if◌then◌else◌
+unfolding so_far short ◌>>=◌ when◌then◌else◌
 so_far_in room n h l = rw (le-leb n (length room) h, length-take-le n room h, le-ltb 32768 n l)
 
 -- it is accepted
@@ -130,10 +130,10 @@ room_small room n e f = leb-true n 32768 (and_right (leb n (length room)) (leb n
 module _ {room : List ℕ} {n : ℕ} {stack : List ℕ} (s : SoFar room n stack) (st : Style) (x : List ℕ) where
   pub writes-not : utf8 x ≡ false → writes room n st x ≡ refused 5 0
   unfolding writes
-  writes-not e = so_far-on s (λ doc _. if utf8 x then fit room (written st x 0 doc) else refused 5 0) ∙ if_false _ _ e
+  writes-not e = so_far-on s (λ doc _. when utf8 x then fit room (written st x 0 doc) else refused 5 0) ∙ if_false _ _ e
 
   pub writes_in : {r k : ℕ} → utf8 x ≡ true → Goes st (take n room) r → k ≡ number st → fit room (longer (take n room) r k x) ≡ writes room n st x
   unfolding writes
   writes_in {r} {k} e g f =
       ap (λ (k : ℕ). fit room (longer (take n room) r k x)) f
-      ∙ sym (so_far-on s (λ doc _. if utf8 x then fit room (written st x 0 doc) else refused 5 0) ∙ if_true _ _ e ∙ ap (fit room) (g.writes x))
+      ∙ sym (so_far-on s (λ doc _. when utf8 x then fit room (written st x 0 doc) else refused 5 0) ∙ if_true _ _ e ∙ ap (fit room) (g.writes x))

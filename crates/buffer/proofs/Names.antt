@@ -2,7 +2,7 @@
 pub use Prim.Native.Nat.{◌+◌, ◌-◌, ◌/◌, ◌<◌, ◌≤◌, max, suc, zero, ℕ}
 pub use Rattle.base.proofs.Choice.{and_both, and_left, and_right, if_false, if_true, same_test}
 pub use Rattle.base.specs.Bytes.{overwritten, pasted}
-unfoldable pub use Rattle.base.specs.Choice.{if◌then◌else◌}
+unfoldable pub use Rattle.base.specs.Choice.{when◌then◌else◌}
 pub use Rattle.base.specs.Result.{Result, gives, measured, refused}
 unfoldable pub use Rattle.base.specs.Result.{◌>>=◌}
 pub use Rattle.buffer.specs.Answers.{Of01, built_as, kept}

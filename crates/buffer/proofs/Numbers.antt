@@ -1,5 +1,5 @@
 -- The rules of the builder refuse with numbers of 01. Assumes nothing.
-use Rattle.buffer.proofs.Names.{ℕ, zero, suc, ◌+◌, ◌≤◌, ◌≡◌, sym, subst, Bool, true, false, List, [], ◌∷◌, length, arith, if◌then◌else◌, Result}
+use Rattle.buffer.proofs.Names.{ℕ, zero, suc, ◌+◌, ◌≤◌, ◌≡◌, sym, subst, Bool, true, false, List, [], ◌∷◌, length, arith, when◌then◌else◌, Result}
 use Rattle.buffer.proofs.Names.{gives, refused, ◌>>=◌, measured, size, Kind, opens, closes, bodiless, accept, first, reads, open_blocks, short, closed}
 use Rattle.buffer.proofs.Names.{check, so_far, fit, add, Of01}
 use Rattle.records.specs.declared.Kind.TheVariants as kind
@@ -14,8 +14,8 @@ unfolding ◌>>=◌
 low_bind (gives x) f l k = k x
 low_bind (refused n p) f l k = l
 
-low_if : (t : Bool) {a b : Result (List ℕ)} → Low a → Low b → Low (if t then a else b)
-unfolding if◌then◌else◌
+low_if : (t : Bool) {a b : Result (List ℕ)} → Low a → Low b → Low (when t then a else b)
+unfolding when◌then◌else◌
 low_if true l m = l
 low_if false l m = m
 

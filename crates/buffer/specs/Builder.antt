@@ -1,7 +1,7 @@
 -- The builder (01, 'The builder writes ..', and 'Port order', `src/buffer.rs`): a document whose blocks may be open stands in the first
 -- bytes of a room, and a call gives the document after it, or a refusal.
 use Rattle.std.specs.Prelude.{ℕ, zero, suc, ◌+◌, Bool, false, ◌&&◌, List, [], ◌∷◌, ◌++◌, leb, eqb, length, take, drop}
-use Rattle.base.specs.Choice.{if◌then◌else◌}
+use Rattle.base.specs.Choice.{when◌then◌else◌}
 use Rattle.base.specs.Result.{Result, gives, refused, ◌>>=◌}
 use Rattle.utf8.specs.Utf8.{utf8}
 use Rattle.splitter.specs.Split.{line}
@@ -32,30 +32,30 @@ unfoldable pub written : Style → List ℕ → ℕ → List ℕ → List ℕ
 written st x pass [] = text st x
 written st x (suc pass) (b ∷ s) = b ∷ written st x pass s
 written st x zero (b ∷ s) =
-    if one_text st (b ∷ s) then text st ((token_at 0 (b ∷ s)).body ++ x) else b ∷ written st x (5 + size (b ∷ s)) s
+    when one_text st (b ∷ s) then text st ((token_at 0 (b ∷ s)).body ++ x) else b ∷ written st x (5 + size (b ∷ s)) s
 
 -- 'the part before its first `\n` becomes Emphasis, the part after it Text inside Section3 followed by the other records; with no
 -- `\n`, the other records are dropped'
 unfoldable pub first_line : List ℕ → List ℕ → List ℕ
 first_line x others =
-    if eqb (length (line x)) (length x) then text style.Emphasis x else
+    when eqb (length (line x)) (length x) then text style.Emphasis x else
     text style.Emphasis (line x) ++ around block.Section3 (text style.Text (drop (length (line x) + 1) x) ++ others)
 
 -- what `Doc::em_doc` makes of a document: 'if the first record is style Text, ..'
 unfoldable pub emphasised : List ℕ → List ℕ
 emphasised [] = []
 emphasised (b ∷ s) =
-    if is_text style.Text (token_at 0 (b ∷ s)).kind
+    when is_text style.Text (token_at 0 (b ∷ s)).kind
     then first_line (token_at 0 (b ∷ s)).body (drop (6 + size (b ∷ s)) (b ∷ s))
     else b ∷ s
 
 -- '13 when the length so far passes the room, then 1 .. of the document so far'
 unfoldable pub so_far : List ℕ → ℕ → Result (List ℕ)
-so_far room n = if leb n (length room) then short (take n room) else refused 13 0
+so_far room n = when leb n (length room) then short (take n room) else refused 13 0
 
 -- '13 when the result exceeds the room or 32,768 bytes'
 unfoldable pub fit : List ℕ → List ℕ → Result (List ℕ)
-fit room x = if leb (length x) (length room) && leb (length x) max_bytes then gives x else refused 13 0
+fit room x = when leb (length x) (length room) && leb (length x) max_bytes then gives x else refused 13 0
 
 -- 'then 6 or 7 of the result, then 13': some records are added to a document with some open blocks; the places of 6 and 7 'are where
 -- the record would stand'
@@ -68,7 +68,7 @@ module _ (room : List ℕ) (n : ℕ) where
   writes st x =
       so_far room n >>= λ doc.
       open_blocks doc >>= λ _.
-      if utf8 x then fit room (written st x 0 doc) else refused 5 0
+      when utf8 x then fit room (written st x 0 doc) else refused 5 0
 
   -- 'opens or closes a block'
   unfoldable pub opens_block : Block → Result (List ℕ)

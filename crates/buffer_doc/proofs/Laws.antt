@@ -2,7 +2,7 @@
 use Rattle.buffer_doc.proofs.Names.{ℕ, zero, suc, ◌+◌, ◌-◌, ◌≤◌, ◌<◌, ◌≡◌, refl, sym, ap, ap₂, ◌∙◌, subst, Bool, true, false, List, [], ◌∷◌, ◌++◌}
 use Rattle.buffer_doc.proofs.Names.{append_assoc, append-nil, leb, length, take, drop, length-append, arith, eqb-true, lt-leb, part, Result, gives}
 use Rattle.buffer_doc.proofs.Names.{refused, ◌>>=◌, pushed, popped, if_true, if_false, length-pushed, Token, index, size, token_at, opens, bodiless}
-use Rattle.buffer_doc.proofs.Names.{accept, first, reads, open_blocks, check, stored, text, start, end, around, Read, Head, utf8, line, if◌then◌else◌}
+use Rattle.buffer_doc.proofs.Names.{accept, first, reads, open_blocks, check, stored, text, start, end, around, Read, Head, utf8, line, when◌then◌else◌}
 use Rattle.buffer_doc.proofs.Names.{Lines, titled, made_of, text_sane, text-after, written_pass, Block, reads-some, open_after, accept-gives}
 use Rattle.buffer_doc.proofs.Names.{first_gives, check-gives, is_text, so_far, fit, add, emphasised, adds_as, adds_doc, adds_em_doc, length-stored}
 use mathlib.Core.Logic.{◌⊎◌, inl, inr, ⊎_elim}
@@ -396,7 +396,7 @@ module _ (st : Style) (x : List ℕ) (v : utf8 x ≡ true) where
   pub after_write : (room : List ℕ) (n : ℕ) (new : List ℕ) → writes room n st x ≡ gives new → After (take n room) new (λ stack. stack) x
   unfolding writes open_blocks document_text
   after_write room n new e =
-      let m = made room n (λ doc _. if utf8 x then fit room (written st x 0 doc) else refused 5 0) new e in
+      let m = made room n (λ doc _. when utf8 x then fit room (written st x 0 doc) else refused 5 0) new e in
       let f = if_gives (utf8 x) _ _ _ new m.result in
       let g = fit_gives room (written st x 0 (take n room)) new f.1 in
       let k = written_keeps (take n room) 0 0 [] m.stack (omega arith) m.opened g.1 in

@@ -3,7 +3,7 @@ pub use Prim.Native.Nat.{◌+◌, ◌-◌, ◌<◌, ◌≤◌, suc, zero, ℕ}
 pub use Rattle.base.proofs.Choice.{and_both, if_false, if_true}
 pub use Rattle.base.proofs.Stack.{length-popped, length-pushed}
 pub use Rattle.base.specs.Bytes.{overwritten, part, pasted}
-unfoldable pub use Rattle.base.specs.Choice.{if◌then◌else◌}
+unfoldable pub use Rattle.base.specs.Choice.{when◌then◌else◌}
 pub use Rattle.base.specs.Result.{Result, gives, measured, refused}
 unfoldable pub use Rattle.base.specs.Result.{◌>>=◌}
 unfoldable pub use Rattle.base.specs.Stack.{popped, pushed, top}

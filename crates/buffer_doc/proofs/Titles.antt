@@ -1,7 +1,7 @@
 -- `Doc::em_doc`: the first line as Emphasis, the rest in Section3; what is read of it, and what is written. Assumes nothing.
 use Rattle.buffer_doc.proofs.Names.{ℕ, ◌+◌, ◌-◌, ◌≤◌, ◌<◌, ◌≡◌, refl, sym, ap, ap₂, ◌∙◌, Bool, true, false, false≢true, List, [], ◌∷◌, ◌++◌}
 use Rattle.buffer_doc.proofs.Names.{append_assoc, append-nil, length, take, drop, get_or, length-append, length-drop, take-append-drop, length-take-le}
-use Rattle.buffer_doc.proofs.Names.{take-take, drop-drop, arith, eq-eqb, ne_eqb, eqb-true, part, pasted, overwritten, if◌then◌else◌, gives, refused}
+use Rattle.buffer_doc.proofs.Names.{take-take, drop-drop, arith, eq-eqb, ne_eqb, eqb-true, part, pasted, overwritten, when◌then◌else◌, gives, refused}
 use Rattle.buffer_doc.proofs.Names.{pushed, if_true, if_false, length-pushed, utf8, is_line_end, line, Token, size, token_at, reads, check, Read, stored}
 use Rattle.buffer_doc.proofs.Names.{text, start, end, around, head, Head, read-token, AcceptedAt, accepted_at_0, check-gives, open_whole}
 use Rattle.buffer_doc.proofs.Names.{open_sane_here, open_next, is_text, emphasised, section, Nests, Lines, titled, length-head, length-stored}
@@ -147,12 +147,12 @@ module _ {s : List ℕ} {line next : ℕ} (l : Lines s line next) where
 -- Which it is
 
 line_stops : (s : List ℕ) → length (line s) < length s → get_or s (length (line s)) 0 ≡ 0x0A
-unfolding before if◌then◌else◌
+unfolding before when◌then◌else◌
 line_stops [] h = let z : ⊥ = omega arith in absurd z
 line_stops (b ∷ s) h = go (λ k. line_stops s k) (is_line_end b) refl h
   where
     go : (length (line s) < length s → get_or s (length (line s)) 0 ≡ 0x0A) → (t : Bool) → is_line_end b ≡ t
-        → length (if t then [] else b ∷ before is_line_end s) < length (b ∷ s) → get_or (b ∷ s) (length (if t then [] else b ∷ before is_line_end s)) 0 ≡ 0x0A
+        → length (when t then [] else b ∷ before is_line_end s) < length (b ∷ s) → get_or (b ∷ s) (length (when t then [] else b ∷ before is_line_end s)) 0 ≡ 0x0A
     go rest true e h = eqb-true b 0x0A e
     go rest false e h = rest (omega arith)
 

@@ -1,7 +1,7 @@
 -- What the functions inside this crate promise each other; no rule of 01 stands here.
 use Rattle.std.specs.Prelude.{ℕ, ◌+◌, ◌-◌, ◌≤◌, ◌<◌, ◌≡◌, Bool, true, false, List, [], ◌++◌, ltb, length, take, drop}
 use Rattle.base.specs.Bytes.{part}
-use Rattle.base.specs.Choice.{if◌then◌else◌}
+use Rattle.base.specs.Choice.{when◌then◌else◌}
 use Rattle.base.specs.Result.{gives, refused, measured, ◌>>=◌}
 use Rattle.document.specs.Document.{reads, check, max_bytes, max_open}
 use Rattle.records.specs.Stored.{head, text, start, end, around}
@@ -26,7 +26,7 @@ count_after kind.Unknown n = n
 pub record Nests (s : List ℕ) (from depth r : ℕ) : Type 0 where
   pub inside : r ≤ length s
   pub reading : (q : ℕ) (stack : List ℕ) → length stack ≡ depth
-      → reads (q + from) 0 stack (drop from s) ≡ if ltb r (length s) then refused 7 (q + r) else gives stack
+      → reads (q + from) 0 stack (drop from s) ≡ when ltb r (length s) then refused 7 (q + r) else gives stack
 
 -- a room with a document so far, and how many of its blocks are open
 pub record Ready (room : List ℕ) (len depth : ℕ) : Type 0 where

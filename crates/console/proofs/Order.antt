@@ -5,7 +5,7 @@ use mathlib.Core.List.{List}
 use lib.ListN.{length, take}
 use lib.Seq.{take-append_seam}
 use borrow.Author.Tests.{lt-ltb, le-ltb}
-use Rattle.base.specs.Choice.{if◌then◌else◌}
+use Rattle.base.specs.Choice.{when◌then◌else◌}
 use Rattle.base.specs.Result.{Result, gives, refused, ◌>>=◌}
 use Rattle.white.specs.White.{printing}
 use Rattle.records.specs.Records.{tokens}
@@ -23,21 +23,21 @@ use Rattle.console.specs.Answers.{Stands, Demand3}
 
 module _ (set : Settings) (room : ℕ) (s : List ℕ) where
   pub console_long : 32_768 < length s → console set room s ≡ refused 1 0
-  unfolding console console_by short ◌>>=◌ if◌then◌else◌
+  unfolding console console_by short ◌>>=◌ when◌then◌else◌
   console_long h = rw (lt-ltb 32_768 (length s) h)
 
   module _ (few : length s ≤ 32_768) where
     pub console-wide : 10_000 < set.width → console set room s ≡ refused 9 0
-    unfolding console console_by short narrow ◌>>=◌ if◌then◌else◌
+    unfolding console console_by short narrow ◌>>=◌ when◌then◌else◌
     console-wide h = rw (le-ltb 32_768 (length s) few, lt-ltb 10_000 set.width h)
 
     module _ (low : set.width ≤ 10_000) where
       pub console-refused : (n p : ℕ) → check s ≡ refused n p → console set room s ≡ refused n p
-      unfolding console console_by short narrow ◌>>=◌ if◌then◌else◌
+      unfolding console console_by short narrow ◌>>=◌ when◌then◌else◌
       console-refused n p e = rw (le-ltb 32_768 (length s) few, le-ltb 10_000 set.width low, e)
 
       pub console-text : (x : List ℕ) → check s ≡ gives x → console set room s ≡ text_by (measure_of set) set room (tabstop (tokens 0 0 s)) (tokens 0 0 s)
-      unfolding console console_by short narrow ◌>>=◌ if◌then◌else◌
+      unfolding console console_by short narrow ◌>>=◌ when◌then◌else◌
       console-text x e = rw (le-ltb 32_768 (length s) few, le-ltb 10_000 set.width low, e)
 
 -- an answer that is the rules' refusal, and the one that is their text

@@ -7,7 +7,7 @@ use native.Mathlib.Omega.{arith}
 use lib.Dec.{eqb}
 use lib.ListN.{length, take}
 use borrow.Author.Tests.{eq-eqb, ne_eqb, le-leb, lt-leb}
-use Rattle.base.specs.Choice.{if◌then◌else◌}
+use Rattle.base.specs.Choice.{when◌then◌else◌}
 use Rattle.base.specs.Result.{Result, gives, refused, ◌>>=◌}
 use Rattle.base.specs.Stack.{top, pushed, popped}
 use Rattle.base.proofs.Choice.{pick, if_true, if_false}
@@ -48,7 +48,7 @@ module _ (limit : ℕ) where
   -- a start, and an end
   pub started-by : (tab : ℕ) (b : Block) (g : Bool) (s : State)
       → started limit tab b g s ≡ (tick_if limit (index b) s >>= λ t. gives (beside (start_lay (index b) g) (start_margins tab (index b) g) t))
-  unfolding started tick_if start_lay start_more start_margins pushes if◌then◌else◌ ◌>>=◌
+  unfolding started tick_if start_lay start_more start_margins pushes when◌then◌else◌ ◌>>=◌
   started-by tab block.Header g s = refl
   started-by tab block.Section2 g s = refl
   started-by tab block.Section3 g s = refl
@@ -64,7 +64,7 @@ module _ (limit : ℕ) where
   started-by tab block.Mono g s = refl
 
   pub ended_by : (b : Block) (s : State) → ended limit b s ≡ (tick_if limit (index b) s >>= λ t. gives (beside (end_lay (index b)) (end_margins (index b)) t))
-  unfolding ended tick_if end_lay end_margins pushes if◌then◌else◌ ◌>>=◌
+  unfolding ended tick_if end_lay end_margins pushes when◌then◌else◌ ◌>>=◌
   ended_by block.Header s = refl
   ended_by block.Section2 s = refl
   ended_by block.Section3 s = refl
@@ -74,8 +74,8 @@ module _ (limit : ℕ) where
   ended_by block.DefinitionList s = refl
   ended_by block.Block s = go s.lay.passing
     where
-      go : (t : Bool) → ◌≡◌ {A = Result State} (gives (outdent limit (if t then with_lay (with_gap false false) s else with_lay with_blank s)))
-          (gives (beside (λ l. if t then with_gap false false l else with_blank l) popped s))
+      go : (t : Bool) → ◌≡◌ {A = Result State} (gives (outdent limit (when t then with_lay (with_gap false false) s else with_lay with_blank s)))
+          (gives (beside (λ l. when t then with_gap false false l else with_blank l) popped s))
       go true = refl
       go false = refl
   ended_by block.InlineBlock s = refl

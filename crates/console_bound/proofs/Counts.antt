@@ -1,6 +1,6 @@
 -- The bound as code counts it, record by record. Assumes nothing.
 use Rattle.console_bound.proofs.Names.{ℕ, ◌+◌, ◌*◌, ◌-◌, ◌≤◌, ◌<◌, ◌≡◌, refl, sym, ap, ◌∙◌, Bool, true, false, ◌||◌, List, length, drop}
-use Rattle.console_bound.proofs.Names.{length-append, length-drop, arith, if◌then◌else◌, Result, gives, refused, measured, ◌>>=◌, pick, Token, tokens}
+use Rattle.console_bound.proofs.Names.{length-append, length-drop, arith, when◌then◌else◌, Result, gives, refused, measured, ◌>>=◌, pick, Token, tokens}
 use Rattle.console_bound.proofs.Names.{tokens_from, is_start, is_end, joined, Kind, check, console, ref, refs, bound_on, bound, room_bound}
 use lib.Seq.{length-take-le}
 use Rattle.base.specs.Bytes.{part}
@@ -15,19 +15,19 @@ use Rattle.console_bound.proofs.Room.{console_by_room, console_by-within, consol
 -- a start, an end, or neither
 module _ (k : Kind) where
   pub ref-start : is_start 9 k ≡ true → 1 ≡ ref k
-  unfolding ref if◌then◌else◌
+  unfolding ref when◌then◌else◌
   ref-start h = rw h
 
   pub ref-end : is_end 9 k ≡ true → 1 ≡ ref k
-  unfolding ref if◌then◌else◌
+  unfolding ref when◌then◌else◌
   ref-end h = rw h (go (is_start 9 k))
     where
-      go : (x : Bool) → ◌≡◌ {A = ℕ} 1 (if x || true then 1 else 0)
+      go : (x : Bool) → ◌≡◌ {A = ℕ} 1 (when x || true then 1 else 0)
       go true = refl
       go false = refl
 
   pub ref_neither : is_start 9 k ≡ false → is_end 9 k ≡ false → 0 ≡ ref k
-  unfolding ref if◌then◌else◌
+  unfolding ref when◌then◌else◌
   ref_neither h g = rw (h, g)
 
 pub ref_small : (k : Kind) → ref k ≤ 1

@@ -1,7 +1,7 @@
 -- The console's text never has more bytes than the bound, so never outgrows a room of so many, whatever a chunk counts for in the fold test.
 -- Assumes nothing.
 use Rattle.console_bound.proofs.Names.{ℕ, ◌+◌, ◌*◌, ◌-◌, ◌≤◌, ◌≡◌, Bool, List, [], ◌∷◌, ◌++◌, length, replicate, length-append, length-replicate}
-use Rattle.console_bound.proofs.Names.{arith, if◌then◌else◌, gives, refused, ◌>>=◌, top, pick, trim, Token, tokens, joined, Kind, Chunk, raw}
+use Rattle.console_bound.proofs.Names.{arith, when◌then◌else◌, gives, refused, ◌>>=◌, top, pick, trim, Token, tokens, joined, Kind, Chunk, raw}
 use Rattle.console_bound.proofs.Names.{paragraph, line_break, Placed, split, extended, console, Settings, ref, refs, bound_on, bound}
 use lib.Dec.{leb}
 use borrow.Author.Tests.{leb-false, ltb-false}
@@ -95,7 +95,7 @@ module _ (room limit : ℕ) where
   tick_fits k s h = write_fits (0x60 ∷ []) 1 k (with_lay (λ l. with_column (l.column.0 + 1) l) s) (omega arith) h
 
   started_fits : (tab : ℕ) (b : Block) (g : Bool) (k : ℕ) (s : State) → Left (ref (kind.Start b) + k) s → Fits Ample (Left k) (started room tab b g s)
-  unfolding if◌then◌else◌ started ref
+  unfolding when◌then◌else◌ started ref
   started_fits tab block.Header g k s h = same k _ (omega arith)
   started_fits tab block.Section2 g k s h = same k _ (omega arith)
   started_fits tab block.Section3 g k s h = same k _ (omega arith)
@@ -110,7 +110,7 @@ module _ (room limit : ℕ) where
   started_fits tab block.Mono g k s h = same k _ (omega arith)
 
   ended_fits : (b : Block) (k : ℕ) (s : State) → Left (ref (kind.End b) + k) s → Fits Ample (Left k) (ended room b s)
-  unfolding if◌then◌else◌ ended ref
+  unfolding when◌then◌else◌ ended ref
   ended_fits block.Header k s h = same k _ (omega arith)
   ended_fits block.Section2 k s h = same k _ (omega arith)
   ended_fits block.Section3 k s h = same k _ (omega arith)

@@ -1,5 +1,5 @@
 -- The bound by computation: of some documents, and of one with the bound 57 whose text needs 56 bytes. Assumes nothing.
-use Rattle.console_bound.proofs.Names.{ℕ, ◌≡◌, refl, true, List, [], ◌∷◌, ◌++◌, if◌then◌else◌, gives, refused, measured, ◌>>=◌, top, pushed, popped}
+use Rattle.console_bound.proofs.Names.{ℕ, ◌≡◌, refl, true, List, [], ◌∷◌, ◌++◌, when◌then◌else◌, gives, refused, measured, ◌>>=◌, top, pushed, popped}
 use Rattle.console_bound.proofs.Names.{whites, white, blank, trim, little, styles, blocks, kind_of, size, token_at, tokens, record_fits, joined, opens}
 use Rattle.console_bound.proofs.Names.{closes, bodiless, accept, first, reads, open_blocks, short, closed, check, before, is_space, after_line_end}
 use Rattle.console_bound.proofs.Names.{ticked, step, placed, split, extended, Settings, ref, refs, bound_on, bound, room_bound}
@@ -39,7 +39,7 @@ pub bounds_hold : (room_bound [] ≡ gives 1)
     × (room_bound near ≡ gives 57)
     × (room_bound deep ≡ gives 55)
     × (room_bound (end block.Header) ≡ refused 6 0)
-unfolding if◌then◌else◌ ◌>>=◌ top pushed popped table row_of little styles blocks kind_of size token_at tokens record_fits joined opens closes bodiless accept
+unfolding when◌then◌else◌ ◌>>=◌ top pushed popped table row_of little styles blocks kind_of size token_at tokens record_fits joined opens closes bodiless accept
     first reads open_blocks short closed check little_bytes stored text start end around ref refs bound_on bound room_bound
 bounds_hold = (refl, refl, refl, refl, refl, refl, refl)
 
@@ -49,7 +49,7 @@ Needs56 m = (con.console (wide m) 55 near ≡ refused 13 0) × (measured (con.co
 
 -- so 52 times the bytes would not do, in either measure
 pub near_needs : Needs56 measure.Bytes × Needs56 measure.Characters
-unfolding if◌then◌else◌ starts_with ends_with ◌>>=◌ top pushed popped table row_of whites white blank trim little styles blocks kind_of size token_at
+unfolding when◌then◌else◌ starts_with ends_with ◌>>=◌ top pushed popped table row_of whites white blank trim little styles blocks kind_of size token_at
     tokens record_fits opens closes bodiless accept first reads open_blocks short closed check little_bytes stored text start end around before after_line_end
     ticked step placed split is_space extended write empty skip_start skip_end walk body con.term_start con.term_end con.term con.terms con.tabstop
     con.empty_block con.gap_ahead con.line_end con.due_line con.due_blank con.pad_gutter con.place con.reach con.pad con.put con.fold con.tick con.started

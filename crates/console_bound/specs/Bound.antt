@@ -1,6 +1,6 @@
 -- How much room to lend (02, point 10): a bound on the console's text at any moment, counted from the records.
 use Rattle.std.specs.Prelude.{ℕ, ◌+◌, ◌*◌, ◌||◌, List, [], ◌∷◌, length}
-use Rattle.base.specs.Choice.{if◌then◌else◌}
+use Rattle.base.specs.Choice.{when◌then◌else◌}
 use Rattle.base.specs.Result.{Result, gives, ◌>>=◌}
 use Rattle.records.specs.Records.{Token, tokens, is_start, is_end, joined}
 use Rattle.records.specs.declared.Kind.{Kind}
@@ -8,7 +8,7 @@ use Rattle.document.specs.Document.{check}
 
 -- a TermRef start or end is one, any other record none: TermRef has the index 9
 unfoldable pub ref : Kind → ℕ
-ref k = if is_start 9 k || is_end 9 k then 1 else 0
+ref k = when is_start 9 k || is_end 9 k then 1 else 0
 
 -- 'the number of TermRef starts and ends'
 unfoldable pub refs : List Token → ℕ

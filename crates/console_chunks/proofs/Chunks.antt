@@ -3,7 +3,7 @@ use Rattle.std.proofs.Common.{◌≡◌, ℕ, zero, suc, ◌+◌, ◌-◌, ◌<�
 use mathlib.Core.Bool.{and-false}
 use borrow.Author.Tests.{lt-leb}
 use Rattle.base.specs.Result.{Result, gives, refused, ◌>>=◌}
-use Rattle.base.specs.Choice.{if◌then◌else◌}
+use Rattle.base.specs.Choice.{when◌then◌else◌}
 use Rattle.base.specs.Bytes.{ends_with}
 use Rattle.base.proofs.Choice.{if_true, if_false, le_or_lt}
 use Rattle.white.specs.White.{trim}
@@ -144,7 +144,7 @@ module _ (room kept : List ℕ) (m : Mark) where
     module _ (measure : List ℕ → ℕ) (set : Settings) where
       -- after what is due
       abbrev rest : ℕ → State → Result State
-      rest limit s = if folds set.width s.lay.column (record { 0 = measure x }) then fold limit margin at x w s else put limit margin at x w s
+      rest limit s = when folds set.width s.lay.column (record { 0 = measure x }) then fold limit margin at x w s else put limit margin at x w s
 
       pub raw-first : (r : Result State) → m.len.0 ≡ 0 → r ≡ (state_at room kept m >>= put (length room) margin at x w)
           → r ≡ (state_at room kept m >>= raw_chunk measure set (length room) margin at x w)
@@ -167,13 +167,13 @@ module _ (room kept : List ℕ) (m : Mark) where
 
       pub rest-dropped : (r : Result State) → folds set.width m.lay.column (record { 0 = measure x }) ≡ true → is_space x ≡ true
           → r ≡ (state_at room kept m >>= folded (length room)) → r ≡ (state_at room kept m >>= rest (length room))
-      unfolding fold if◌then◌else◌
+      unfolding fold when◌then◌else◌
       rest-dropped r e s f = f ∙ agree room m.len.0 kept m.lay _ (rest (length room)) (λ h. rw (e, s) (sym (bind_end (folded (length room) here))))
 
       pub rest_folded : (c : ℕ) (r₁ r₂ : Result State) → folds set.width m.lay.column (record { 0 = measure x }) ≡ true → is_space x ≡ false
           → c ≡ length room
           → r₁ ≡ (state_at room kept m >>= folded (length room)) → r₂ ≡ (r₁ >>= put c margin at x w) → r₂ ≡ (state_at room kept m >>= rest (length room))
-      unfolding fold if◌then◌else◌
+      unfolding fold when◌then◌else◌
       rest_folded c r₁ r₂ e s k f g =
           bind_two (state_at room kept m) r₁ r₂ _ (put (length room) margin at x w) f (rw k at g)
           ∙ agree room m.len.0 kept m.lay _ (rest (length room)) (λ h. rw (e, s))

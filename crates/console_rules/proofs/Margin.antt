@@ -8,7 +8,7 @@ use lib.Dec.{ltb}
 use lib.ListN.{length}
 use native.Mathlib.Omega.{arith}
 use borrow.Author.Tests.{le-ltb, ltb-false}
-use Rattle.base.specs.Choice.{if◌then◌else◌}
+use Rattle.base.specs.Choice.{when◌then◌else◌}
 use Rattle.base.specs.Stack.{top}
 use Rattle.base.specs.Result.{Result, gives, refused, ◌>>=◌}
 use Rattle.base.proofs.Choice.{if_true, if_false}
@@ -43,8 +43,8 @@ unfolding ◌>>=◌
 not_bind (gives a) f h k = k a
 not_bind (refused n p) f (other h) k = other h
 
-not_if : {A : Type 0} (b : Bool) {x y : Result A} → Not10 x → Not10 y → Not10 (if b then x else y)
-unfolding if◌then◌else◌
+not_if : {A : Type 0} (b : Bool) {x y : Result A} → Not10 x → Not10 y → Not10 (when b then x else y)
+unfolding when◌then◌else◌
 not_if true h k = h
 not_if false h k = k
 
@@ -178,26 +178,26 @@ module _ (room : ℕ) where
     not_written (dropped s) = given
 
     abbrev after : ℕ → Ready → Result State
-    after p r = if too_far room margin r then refused 10 p else written r
+    after p r = when too_far room margin r then refused 10 p else written r
 
     put-after : (p : ℕ) (s : State) → put room margin p x w s ≡ after p (printed s)
-    unfolding put pad too_far if◌then◌else◌ ◌>>=◌
+    unfolding put pad too_far when◌then◌else◌ ◌>>=◌
     put-after p s = go (ltb 50 (missing room margin s))
       where
-        go : (b : Bool) → ((if b then refused 10 p else reach room margin s) >>= λ s₁. pad_gutter room (missing room margin s) s₁ >>= λ s₂. place room x w s₂)
-            ≡ (if b then refused 10 p else padded s)
+        go : (b : Bool) → ((when b then refused 10 p else reach room margin s) >>= λ s₁. pad_gutter room (missing room margin s) s₁ >>= λ s₂. place room x w s₂)
+            ≡ (when b then refused 10 p else padded s)
         go true = refl
         go false = refl
 
-    dropped_or : (p : ℕ) (b : Bool) (s : State) → (if b then gives s else put room margin p x w s) ≡ after p (if b then dropped s else printed s)
-    unfolding if◌then◌else◌ too_far
+    dropped_or : (p : ℕ) (b : Bool) (s : State) → (when b then gives s else put room margin p x w s) ≡ after p (when b then dropped s else printed s)
+    unfolding when◌then◌else◌ too_far
     dropped_or p true s = refl
     dropped_or p false s = put-after p s
 
 -- a choice, and then the rest
 if_bind : {A B : Type 0} (b : Bool) (f : A → Result B) {x y : Result B} (x' y' : Result A) → x ≡ (x' >>= f) → y ≡ (y' >>= f)
-    → (if b then x else y) ≡ ((if b then x' else y') >>= f)
-unfolding if◌then◌else◌
+    → (when b then x else y) ≡ ((when b then x' else y') >>= f)
+unfolding when◌then◌else◌
 if_bind true f x' y' h k = h
 if_bind false f x' y' h k = k
 
@@ -213,11 +213,11 @@ module _ (measure : List ℕ → ℕ) (set : Settings) (room : ℕ) where
     then' = after room margin x w p
 
     fold-after : (s : State) → fold room margin p x w s
-        ≡ ((line_end room (with_out (trim s.out) s) >>= λ s₃. gives (if is_space x then dropped s₃ else printed s₃)) >>= then')
+        ≡ ((line_end room (with_out (trim s.out) s) >>= λ s₃. gives (when is_space x then dropped s₃ else printed s₃)) >>= then')
     unfolding fold ◌>>=◌
     fold-after s =
         bind_same (line_end room (with_out (trim s.out) s)) _ _ (λ s₃. dropped_or room margin x w p (is_space x) s₃)
-        ∙ bind_assoc (line_end room (with_out (trim s.out) s)) (λ s₃. gives (if is_space x then dropped s₃ else printed s₃)) then'
+        ∙ bind_assoc (line_end room (with_out (trim s.out) s)) (λ s₃. gives (when is_space x then dropped s₃ else printed s₃)) then'
 
     -- a text chunk is what is written before its padding, the test of its margin, and the rest
     raw-after : (s : State) → raw_chunk measure set room margin p x w s ≡ (ready measure set room x s >>= then')
@@ -236,11 +236,11 @@ module _ (measure : List ℕ → ℕ) (set : Settings) (room : ℕ) where
 
     raw_when : (s : State) (q : ℕ) → raw_chunk measure set room margin p x w s ≡ refused 10 q
         → (r : Ready) × (ready measure set room x s ≡ gives r) × (too_far room margin r ≡ true) × (q ≡ p)
-    unfolding ◌>>=◌ if◌then◌else◌
+    unfolding ◌>>=◌ when◌then◌else◌
     raw_when s q e = go (ready measure set room x s) refl (sym (raw-after s) ∙ e)
       where
         at_ready : (r : Ready) → ready measure set room x s ≡ gives r → (b : Bool) → too_far room margin r ≡ b
-            → (if b then refused 10 p else written room margin x w r) ≡ refused 10 q
+            → (when b then refused 10 p else written room margin x w r) ≡ refused 10 q
             → (r : Ready) × (ready measure set room x s ≡ gives r) × (too_far room margin r ≡ true) × (q ≡ p)
         at_ready r f true g h = (r, f, g, same_place h)
         at_ready r f false g h = absurd (not-refused (written room margin x w r) (not_written room margin x w r) h)
@@ -260,10 +260,10 @@ module _ (measure : List ℕ → ℕ) (set : Settings) (room : ℕ) where
     body-far {q = q} [] s x' = elim x' [ ]
     body-far (c ∷ cs) s (far.here {x = x} {w = w} e f g h) =
         rw h
-        (ap (λ (r : Result State). r >>= λ t. if last set.full c.chunk then gives t else Chunks cs t)
+        (ap (λ (r : Result State). r >>= λ t. when last set.full c.chunk then gives t else Chunks cs t)
         (ap (λ (d : Chunk). chunk measure set room margin (start + c.place) d s) e ∙ raw-far margin (start + c.place) x w s f g))
     body-far (c ∷ cs) s (far.later {t = t} e f g) =
-        ap (λ (r : Result State). r >>= λ t. if last set.full c.chunk then gives t else Chunks cs t) e ∙ if_false _ _ f ∙ body-far cs t g
+        ap (λ (r : Result State). r >>= λ t. when last set.full c.chunk then gives t else Chunks cs t) e ∙ if_false _ _ f ∙ body-far cs t g
 
     chunk_when : (c : Placed) (d : Chunk) → c.chunk ≡ d → (cs : List Placed) (s : State) (q : ℕ)
         → chunk measure set room margin (start + c.place) d s ≡ refused 10 q → FarChunk measure set room margin start q (c ∷ cs) s
@@ -275,19 +275,19 @@ module _ (measure : List ℕ → ℕ) (set : Settings) (room : ℕ) where
     chunk_when c line_break e cs s q h = absurd (not-refused _ (not-line_end room s) h)
 
     body_when : (cs : List Placed) (s : State) (q : ℕ) → Chunks cs s ≡ refused 10 q → FarChunk measure set room margin start q cs s
-    unfolding body ◌>>=◌ if◌then◌else◌
+    unfolding body ◌>>=◌ when◌then◌else◌
     body_when [] s q e = absurd (refused-gives (sym e))
     body_when (c ∷ cs) s q e = go (λ t h. body_when cs t q h) (body_chunk measure set room margin start c s) refl e
       where
         next : ((t : State) → Chunks cs t ≡ refused 10 q → FarChunk measure set room margin start q cs t) → (t : State)
             → body_chunk measure set room margin start c s ≡ gives t → (b : Bool) → last set.full c.chunk ≡ b
-            → (if b then gives t else Chunks cs t) ≡ refused 10 q → FarChunk measure set room margin start q (c ∷ cs) s
+            → (when b then gives t else Chunks cs t) ≡ refused 10 q → FarChunk measure set room margin start q (c ∷ cs) s
         next rest t f true g h = absurd (refused-gives (sym h))
         next rest t f false g h = far.later f g (rest t h)
 
         go : ((t : State) → Chunks cs t ≡ refused 10 q → FarChunk measure set room margin start q cs t)
             → (r : Result State) → body_chunk measure set room margin start c s ≡ r
-            → (r >>= λ t. if last set.full c.chunk then gives t else Chunks cs t) ≡ refused 10 q → FarChunk measure set room margin start q (c ∷ cs) s
+            → (r >>= λ t. when last set.full c.chunk then gives t else Chunks cs t) ≡ refused 10 q → FarChunk measure set room margin start q (c ∷ cs) s
         go rest (gives t) f h = next rest t f (last set.full c.chunk) refl h
         go rest (refused n k) f h = chunk_when c c.chunk refl cs s q (f ∙ h)
 
@@ -310,10 +310,10 @@ module _ (measure : List ℕ → ℕ) (set : Settings) (room : ℕ) where
 
     turn_when : (t : Token) (k : Kind) → t.kind ≡ k → (ts : List Token) (s : State) (q : ℕ)
         → turn measure set room tab t.place t.start k t.body ts s ≡ refused 10 q → FarRecord measure set room tab q (t ∷ ts) s
-    unfolding turn if◌then◌else◌
+    unfolding turn when◌then◌else◌
     turn_when t (kind.Text st) e ts s q h = go (hides s.lay.skip) refl h
       where
-        go : (b : Bool) → hides s.lay.skip ≡ b → (if b then gives s else Chunks (top s.kept) t.start (split t.body) s) ≡ refused 10 q
+        go : (b : Bool) → hides s.lay.skip ≡ b → (when b then gives s else Chunks (top s.kept) t.start (split t.body) s) ≡ refused 10 q
             → FarRecord measure set room tab q (t ∷ ts) s
         go true f i = absurd (refused-gives (sym i))
         go false f i = far.here {st = st} e f (body_when (top s.kept) t.start (split t.body) s q i)
@@ -348,10 +348,10 @@ module _ (measure : List ℕ → ℕ) (set : Settings) (room : ℕ) where
     width_passes h = if_false _ _ (le-ltb 10_000 set.width h)
 
     passed_width : (w : ℕ) → narrow set.width ≡ gives w → set.width ≤ 10_000
-    unfolding narrow if◌then◌else◌
+    unfolding narrow when◌then◌else◌
     passed_width w e = go (ltb 10_000 set.width) refl e
       where
-        go : (b : Bool) → ltb 10_000 set.width ≡ b → (if b then refused 9 0 else gives set.width) ≡ gives w → set.width ≤ 10_000
+        go : (b : Bool) → ltb 10_000 set.width ≡ b → (when b then refused 9 0 else gives set.width) ≡ gives w → set.width ≤ 10_000
         go true f h = absurd (refused-gives h)
         go false f h = ltb-false 10_000 set.width f
 

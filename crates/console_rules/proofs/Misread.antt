@@ -3,7 +3,7 @@ use Prim.Native.Nat.{ℕ}
 use mathlib.Core.Path.{◌≡◌, refl, ap}
 use mathlib.Core.Bool.{Bool, true, false}
 use mathlib.Core.List.{List, [], ◌∷◌}
-use Rattle.base.specs.Choice.{if◌then◌else◌}
+use Rattle.base.specs.Choice.{when◌then◌else◌}
 use Rattle.base.specs.Result.{Result, gives, refused, ◌>>=◌}
 use Rattle.base.specs.Stack.{popped}
 use Rattle.base.proofs.Results.{All, given, refusal}
@@ -29,7 +29,7 @@ module _ (room : ℕ) where
       go q (refused n p) f = rw f
 
   pub start-shown : (n tab : ℕ) (b : Block) (g : Bool) (s : State) → text (started room tab b g (with_lay (with_skip n) s)) ≡ text (started room tab b g s)
-  unfolding started tick if◌then◌else◌ ◌>>=◌
+  unfolding started tick when◌then◌else◌ ◌>>=◌
   start-shown n tab block.Header g s = refl
   start-shown n tab block.Section2 g s = refl
   start-shown n tab block.Section3 g s = refl
@@ -45,7 +45,7 @@ module _ (room : ℕ) where
   start-shown n tab block.Mono g s = refl
 
   pub end-shown : (n : ℕ) (b : Block) (s : State) → text (ended room b (with_lay (with_skip n) s)) ≡ text (ended room b s)
-  unfolding ended tick if◌then◌else◌ ◌>>=◌
+  unfolding ended tick when◌then◌else◌ ◌>>=◌
   end-shown n block.Header s = refl
   end-shown n block.Section2 s = refl
   end-shown n block.Section3 s = refl
@@ -56,7 +56,7 @@ module _ (room : ℕ) where
   end-shown n block.Block s = go s.lay.passing
     where
       here : Bool → State → State
-      here x t = outdent room (if x then with_lay (with_gap false false) t else with_lay with_blank t)
+      here x t = outdent room (when x then with_lay (with_gap false false) t else with_lay with_blank t)
 
       go : (x : Bool) → text (gives (here x (with_lay (with_skip n) s))) ≡ text (gives (here x s))
       go true = refl
@@ -77,7 +77,7 @@ module _ (room : ℕ) where
       go (refused n p) = refusal
 
   pub end_pops : (b : Block) (s : State) → All (λ (t : State). t.kept ≡ popped s.kept) (ended room b s)
-  unfolding ended tick if◌then◌else◌
+  unfolding ended tick when◌then◌else◌
   end_pops block.Header s = given refl
   end_pops block.Section2 s = given refl
   end_pops block.Section3 s = given refl
@@ -87,7 +87,7 @@ module _ (room : ℕ) where
   end_pops block.DefinitionList s = given refl
   end_pops block.Block s = given (go s.lay.passing)
     where
-      go : (x : Bool) → popped (if x then with_lay (with_gap false false) s else with_lay with_blank s).kept ≡ popped s.kept
+      go : (x : Bool) → popped (when x then with_lay (with_gap false false) s else with_lay with_blank s).kept ≡ popped s.kept
       go true = refl
       go false = refl
   end_pops block.InlineBlock s = given refl

@@ -7,7 +7,7 @@ use lib.Dec.{leb}
 use lib.ListN.{length, replicate}
 use borrow.Author.Tests.{eqb-true, leb-true}
 use native.Mathlib.Nat.{le_trans}
-use Rattle.base.specs.Choice.{if◌then◌else◌}
+use Rattle.base.specs.Choice.{when◌then◌else◌}
 use Rattle.base.specs.Result.{gives, ◌>>=◌}
 use Rattle.base.specs.Stack.{top}
 use Rattle.base.proofs.Choice.{pick, and_both}
@@ -45,19 +45,19 @@ abbrev pub Shows : ℕ → List ℕ → State → Type 0
 Shows room x s = Showing room x s.out s.lay.skip
 
 line-blank : blank (0x0A ∷ []) ≡ true
-unfolding if◌then◌else◌ blank row_of table white whites
+unfolding when◌then◌else◌ blank row_of table white whites
 line-blank = refl
 
 tick_valid : Valid (0x60 ∷ [])
-unfolding if◌then◌else◌ row_of table
+unfolding when◌then◌else◌ row_of table
 tick_valid = refl
 
 tick-printing : printing (0x60 ∷ []) ≡ 0x60 ∷ []
-unfolding if◌then◌else◌ printing row_of table white whites
+unfolding when◌then◌else◌ printing row_of table white whites
 tick-printing = refl
 
 space_blank : blank (0x20 ∷ []) ≡ true
-unfolding if◌then◌else◌ blank row_of table white whites
+unfolding when◌then◌else◌ blank row_of table white whites
 space_blank = refl
 
 spaces-blank : (n : ℕ) → blank (replicate n 0x20) ≡ true
@@ -148,7 +148,7 @@ module _ (room : ℕ) where
 
   started-shows : (tab : ℕ) (b : Block) (g : Bool) (p : ℕ) (y x : List ℕ) (s : State) → Shows room x s
       → All (Shows room (x ++ adds (kind.Start b) y)) (started room tab b g s)
-  unfolding if◌then◌else◌ started adds skip_start
+  unfolding when◌then◌else◌ started adds skip_start
   started-shows tab block.Header g p y x s h = same x _ h
   started-shows tab block.Section2 g p y x s h = same x _ h
   started-shows tab block.Section3 g p y x s h = same x _ h
@@ -164,7 +164,7 @@ module _ (room : ℕ) where
 
   ended-shows : (b : Block) (p : ℕ) (y x : List ℕ) (s : State) → Shows room x s
       → All (Shows room (x ++ adds (kind.End b) y)) (ended room b s)
-  unfolding if◌then◌else◌ ended adds skip_end
+  unfolding when◌then◌else◌ ended adds skip_end
   ended-shows block.Header p y x s h = same x _ h
   ended-shows block.Section2 p y x s h = same x _ h
   ended-shows block.Section3 p y x s h = same x _ h
@@ -193,7 +193,7 @@ module _ (measure : List ℕ → ℕ) (set : Settings) (room : ℕ) where
   module _ (full : set.full ≡ true) where
     chunk-shows : (margin p : ℕ) (c : Chunk) (x : List ℕ) (s : State) → Sound c → Shows room x s
         → All (Shows room (x ++ said c)) (chunk measure set room margin p c s)
-    unfolding chunk if◌then◌else◌
+    unfolding chunk when◌then◌else◌
     chunk-shows margin p (raw z w) x s v h = raw_chunk-shows margin p z w x s v h
     chunk-shows margin p line_break x s v h = rw (append-nil x) (line_end-shows room x s h)
     chunk-shows margin p paragraph x s v h = all_bind (Shows room x) _ _ _ (line_end-shows room x s h) λ s₁ h₁. rw full (same room x s₁ h₁)

@@ -5,7 +5,7 @@ use mathlib.Core.Bool.{Bool, true, false}
 use mathlib.Core.List.{List, [], ◌∷◌}
 use lib.ListN.{length}
 use native.Mathlib.Omega.{arith}
-use Rattle.base.specs.Choice.{if◌then◌else◌}
+use Rattle.base.specs.Choice.{when◌then◌else◌}
 use Rattle.base.specs.Stack.{top}
 use Rattle.base.specs.Result.{Result, gives, refused, ◌>>=◌}
 use Rattle.records.specs.Records.{Token, tokens}
@@ -33,8 +33,8 @@ then_same_but : {A B : Type 0} (P : ℕ → ℕ → Type 0) (x : Result A) (f g 
 then_same_but P x f g k = bind_same_but P x x f g same k
 
 if_same_but : {A : Type 0} (P : ℕ → ℕ → Type 0) (b : Bool) {x x' y y' : Result A} → SameBut10 P x x' → SameBut10 P y y'
-    → SameBut10 P (if b then x else y) (if b then x' else y')
-unfolding if◌then◌else◌
+    → SameBut10 P (when b then x else y) (when b then x' else y')
+unfolding when◌then◌else◌
 if_same_but P true h k = h
 if_same_but P false h k = k
 

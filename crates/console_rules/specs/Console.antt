@@ -1,6 +1,6 @@
 -- The console (01, 'Port order', src/buffer/console.rs): the text of a document for a width, in a room of some bytes.
 use Rattle.std.specs.Prelude.{ℕ, ◌+◌, ◌-◌, max, Bool, true, false, not, ◌&&◌, ◌||◌, List, [], ◌∷◌, leb, ltb, eqb, length, replicate}
-use Rattle.base.specs.Choice.{if◌then◌else◌}
+use Rattle.base.specs.Choice.{when◌then◌else◌}
 use Rattle.base.specs.Bytes.{ends_with}
 use Rattle.base.specs.Result.{Result, gives, refused, ◌>>=◌}
 use Rattle.base.specs.Stack.{top, pushed, popped}
@@ -44,17 +44,17 @@ pub record Terms : Type 0 where
 
 -- 'a nested term's start sets the count back to 0'
 unfoldable pub term_start : Block → Terms → Terms
-term_start b t = if eqb (index b) 4 then record { widest = t.widest; counting = true; counted = 0 } else t
+term_start b t = when eqb (index b) 4 then record { widest = t.widest; counting = true; counted = 0 } else t
 
 -- 'its end stops the count, and the outer end tests that same count': 'the widest ItemTerm of at most 24 characters'
 unfoldable pub term_end : Block → Terms → Terms
 term_end b t =
-    if eqb (index b) 4
-    then record { widest = if ltb t.widest t.counted && leb t.counted max_tab then t.counted else t.widest; counting = false; counted = t.counted }
+    when eqb (index b) 4
+    then record { widest = when ltb t.widest t.counted && leb t.counted max_tab then t.counted else t.widest; counting = false; counted = t.counted }
     else t
 
 unfoldable pub term : Kind → List ℕ → Terms → Terms
-term (kind.Text s) x t = record { widest = t.widest; counting = t.counting; counted = if t.counting then t.counted + characters x else t.counted }
+term (kind.Text s) x t = record { widest = t.widest; counting = t.counting; counted = when t.counting then t.counted + characters x else t.counted }
 term (kind.Start b) x t = term_start b t
 term (kind.End b) x t = term_end b t
 term kind.Unknown x t = t
@@ -75,7 +75,7 @@ settles k t = is_end 4 k && eqb t.counted max_tab
 -- counted, of a document of n bytes
 unfoldable pub settled_from : ℕ → List Token → Terms → ℕ
 settled_from n [] t = n
-settled_from n (x ∷ ts) t = if settles x.kind t then x.place else settled_from n ts (term x.kind x.body t)
+settled_from n (x ∷ ts) t = when settles x.kind t then x.place else settled_from n ts (term x.kind x.body t)
 
 -- .. among all of its records
 unfoldable pub settled_at : ℕ → List Token → ℕ
@@ -99,7 +99,7 @@ empty_block (t ∷ u ∷ ts) = is_start 7 t.kind && is_end 7 u.kind
 -- 'the next Section4 end is followed at once by a Block start and a Block end'
 unfoldable pub gap_ahead : List Token → Bool
 gap_ahead [] = false
-gap_ahead (t ∷ ts) = if is_end 3 t.kind then empty_block ts else gap_ahead ts
+gap_ahead (t ∷ ts) = when is_end 3 t.kind then empty_block ts else gap_ahead ts
 
 -- The state: the margins are what is kept.
 
@@ -158,17 +158,17 @@ module _ (room : ℕ) where
   -- a line end that is due, unless the text ends with one: 'if (pending_newline || pending_blank_line) && !res.ends_with('\n')', and
   -- 'char_pos = 0'
   unfoldable pub due_line : State → Result State
-  due_line s = if (s.lay.newline || s.lay.blank) && not (ends_with (0x0A ∷ []) s.out) then line_end s else gives s
+  due_line s = when (s.lay.newline || s.lay.blank) && not (ends_with (0x0A ∷ []) s.out) then line_end s else gives s
 
   -- a blank line that is due, unless the text ends with two line ends: 'if pending_blank_line && !res.ends_with("\n\n")'
   unfoldable pub due_blank : State → Result State
-  due_blank s = if s.lay.blank && not (ends_with (0x0A ∷ 0x0A ∷ []) s.out) then write room (0x0A ∷ []) s else gives s
+  due_blank s = when s.lay.blank && not (ends_with (0x0A ∷ 0x0A ∷ []) s.out) then write room (0x0A ∷ []) s else gives s
 
   -- at least two columns before an item's body that starts at column 28, the widest tabstop, or past it; some are written already:
   -- 'if pending_margin && char_pos >= MAX_TAB + 4 && pushed < 2'
   unfoldable pub pad_gutter : ℕ → State → Result State
   pad_gutter written s =
-      if s.lay.gutter && leb (max_tab + 4) s.lay.column.0 && ltb written 2
+      when s.lay.gutter && leb (max_tab + 4) s.lay.column.0 && ltb written 2
       then write room (replicate (2 - written) 0x20) (with_lay (with_column (s.lay.column.0 + (2 - written))) s)
       else gives s
 
@@ -188,14 +188,14 @@ module _ (room : ℕ) where
 
     -- refusal 10: 'a chunk to be printed misses more than 50 columns to its margin'; p is the place of the chunk
     unfoldable pub pad : ℕ → State → Result State
-    pad p s = if ltb max_missing (missing s) then refused 10 p else reach s
+    pad p s = when ltb max_missing (missing s) then refused 10 p else reach s
 
     unfoldable pub put : ℕ → List ℕ → ℕ → State → Result State
     put p x w s = pad p s >>= λ s₁. pad_gutter (missing s) s₁ >>= λ s₂. place x w s₂
 
     -- 'A fold trims trailing White_Space first, line ends too'; 'a chunk that is just one space and folds .. is dropped'
     unfoldable pub fold : ℕ → List ℕ → ℕ → State → Result State
-    fold p x w s = line_end (with_out (trim s.out) s) >>= λ s₁. if is_space x then gives s₁ else put p x w s₁
+    fold p x w s = line_end (with_out (trim s.out) s) >>= λ s₁. when is_space x then gives s₁ else put p x w s₁
 
   -- Blocks.
 
@@ -218,7 +218,7 @@ module _ (room : ℕ) where
   started tab block.Section2 g s = gives (indent 0 (with_lay with_newline s))
   started tab block.Section3 g s = gives (indent 2 (with_lay with_newline s))
   started tab block.Section4 g s =
-      if g then gives (indent 4 (with_lay (λ l. with_gap true l.passing (with_newline l)) s)) else gives (indent 2 (with_lay with_newline s))
+      when g then gives (indent 4 (with_lay (λ l. with_gap true l.passing (with_newline l)) s)) else gives (indent 2 (with_lay with_newline s))
   started tab block.ItemTerm g s = gives (indent 4 (with_lay with_newline s))
   started tab block.ItemBody g s = gives (indent (tab + 2) (with_lay (with_gutter true) s))
   started tab block.DefinitionList g s = gives s
@@ -238,7 +238,7 @@ module _ (room : ℕ) where
   ended block.ItemTerm s = gives (outdent s)
   ended block.ItemBody s = gives (outdent (with_lay (with_gutter false) s))
   ended block.DefinitionList s = gives (outdent s)
-  ended block.Block s = gives (outdent (if s.lay.passing then with_lay (with_gap false false) s else with_lay with_blank s))
+  ended block.Block s = gives (outdent (when s.lay.passing then with_lay (with_gap false false) s else with_lay with_blank s))
   ended block.InlineBlock s = gives (outdent (with_lay (λ l. with_skip (skip_end block.InlineBlock l.skip) l) s))
   ended block.TermRef s = tick (outdent s)
   ended block.Meta s = gives (outdent s)
@@ -246,11 +246,11 @@ module _ (room : ℕ) where
 
   -- The end: a line end or a blank line that is still due is one line end: 'if pending_newline || pending_blank_line'.
   unfoldable pub finish : State → Result State
-  finish s = if s.lay.newline || s.lay.blank then write room (0x0A ∷ []) s else gives s
+  finish s = when s.lay.newline || s.lay.blank then write room (0x0A ∷ []) s else gives s
 
 -- refusal 9: 'width over 10,000 (console)'
 unfoldable pub narrow : ℕ → Result ℕ
-narrow width = if ltb max_width width then refused 9 0 else gives width
+narrow width = when ltb max_width width then refused 9 0 else gives width
 
 -- Records. What a chunk counts for in the fold test is left open.
 
@@ -258,16 +258,16 @@ module _ (measure : List ℕ → ℕ) (set : Settings) (room : ℕ) where
   -- a text chunk at place p; 'The fold test, made only once something has been written'
   unfoldable pub raw_chunk : ℕ → ℕ → List ℕ → ℕ → State → Result State
   raw_chunk margin p x w s =
-      if empty s.out then put room margin p x w s else
+      when empty s.out then put room margin p x w s else
       (due_line room s >>= λ s₁.
       due_blank room s₁ >>= λ s₂.
-      if folds set.width s₂.lay.column (record { 0 = measure x }) then fold room margin p x w s₂ else put room margin p x w s₂)
+      when folds set.width s₂.lay.column (record { 0 = measure x }) then fold room margin p x w s₂ else put room margin p x w s₂)
 
   -- a chunk at place p; 'a paragraph with `full` off sets it to 1'
   unfoldable pub chunk : ℕ → ℕ → Chunk → State → Result State
   chunk margin p (raw x w) s = raw_chunk margin p x w s
   chunk margin p line_break s = line_end room s
-  chunk margin p paragraph s = line_end room s >>= λ s₁. gives (if set.full then s₁ else with_lay (λ l. with_skip (skip_paragraph l.skip) l) s₁)
+  chunk margin p paragraph s = line_end room s >>= λ s₁. gives (when set.full then s₁ else with_lay (λ l. with_skip (skip_paragraph l.skip) l) s₁)
 
   -- a chunk of a body that starts at a place: '10's place becomes the document offset of that chunk's first byte, or, for an empty chunk, the
   -- offset where it would stand'
@@ -276,7 +276,7 @@ module _ (measure : List ℕ → ℕ) (set : Settings) (room : ℕ) where
 
   -- a record, with the tabstop; text is passed over while the skip counter is over 0
   unfoldable pub turn : ℕ → Turn State
-  turn tab p q (kind.Text st) x ts s = if hides s.lay.skip then gives s else body set.full (body_chunk (top s.kept) q) (split x) s
+  turn tab p q (kind.Text st) x ts s = when hides s.lay.skip then gives s else body set.full (body_chunk (top s.kept) q) (split x) s
   turn tab p q (kind.Start b) x ts s = started room tab b (gap_ahead ts) s
   turn tab p q (kind.End b) x ts s = ended room b s
   turn tab p q kind.Unknown x ts s = gives s

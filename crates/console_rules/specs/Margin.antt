@@ -1,7 +1,7 @@
 -- When refusal 10 is given, whatever a chunk counts for in the fold test: 'a chunk to be printed misses more than 50 columns to its margin'. The law
 -- `margin_refusal` says that the console gives it in these cases, at these places, and in no other.
 use Rattle.std.specs.Prelude.{ℕ, ◌+◌, ◌≤◌, ◌≡◌, Bool, true, false, List, [], ◌∷◌, ltb}
-use Rattle.base.specs.Choice.{if◌then◌else◌}
+use Rattle.base.specs.Choice.{when◌then◌else◌}
 use Rattle.base.specs.Stack.{top}
 use Rattle.base.specs.Result.{Result, gives, ◌>>=◌}
 use Rattle.white.specs.White.{trim}
@@ -29,11 +29,11 @@ module _ (measure : List ℕ → ℕ) (set : Settings) (room : ℕ) where
   -- what is written before a text chunk's padding: line ends that are due, and the line end of a fold
   unfoldable pub ready : List ℕ → State → Result Ready
   ready x s =
-      if empty s.out then gives (printed s) else
+      when empty s.out then gives (printed s) else
       (due_line room s >>= λ s₁.
       due_blank room s₁ >>= λ s₂.
-      if folds set.width s₂.lay.column (record { 0 = measure x })
-      then (line_end room (with_out (trim s₂.out) s₂) >>= λ s₃. gives (if is_space x then dropped s₃ else printed s₃))
+      when folds set.width s₂.lay.column (record { 0 = measure x })
+      then (line_end room (with_out (trim s₂.out) s₂) >>= λ s₃. gives (when is_space x then dropped s₃ else printed s₃))
       else gives (printed s₂))
 
   -- Among the chunks of a body that starts at a place, at a margin, one misses too many columns when its turn comes, after those before it were

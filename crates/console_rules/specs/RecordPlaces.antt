@@ -1,7 +1,7 @@
 -- The console's rules with the place of refusal 10 as 01 has it: 'the record', where 02's point 2 has the chunk. What moved with that point, and
 -- what stayed, is said in these words by the law `only_places_moved`.
 use Rattle.std.specs.Prelude.{ℕ, ◌+◌, ◌≤◌, ◌≡◌, List, ◌∷◌, length}
-use Rattle.base.specs.Choice.{if◌then◌else◌}
+use Rattle.base.specs.Choice.{when◌then◌else◌}
 use Rattle.base.specs.Stack.{top}
 use Rattle.base.specs.Result.{Result, gives, refused, ◌>>=◌}
 use Rattle.records.specs.Records.{Token, tokens}
@@ -17,7 +17,7 @@ module _ (measure : List ℕ → ℕ) (set : Settings) (room : ℕ) where
   -- every chunk of a text record stands at the record's place
   unfoldable pub record_turn : ℕ → Turn State
   record_turn tab p q (kind.Text st) x ts s =
-      if hides s.lay.skip then gives s else body set.full (anywhere (chunk measure set room (top s.kept) p)) (split x) s
+      when hides s.lay.skip then gives s else body set.full (anywhere (chunk measure set room (top s.kept) p)) (split x) s
   record_turn tab p q (kind.Start b) x ts s = turn measure set room tab p q (kind.Start b) x ts s
   record_turn tab p q (kind.End b) x ts s = turn measure set room tab p q (kind.End b) x ts s
   record_turn tab p q kind.Unknown x ts s = turn measure set room tab p q kind.Unknown x ts s

@@ -8,7 +8,7 @@ use lib.Dec.{leb, ltb, eqb}
 use lib.ListN.{length}
 use borrow.Author.Tests.{leb-true, eq-eqb, lt-ltb, le-ltb, le-leb, lt-leb}
 use Rattle.base.specs.Bytes.{part}
-use Rattle.base.specs.Choice.{if◌then◌else◌}
+use Rattle.base.specs.Choice.{when◌then◌else◌}
 use Rattle.base.proofs.Choice.{pick, if_true, if_false, and_right}
 use Rattle.utf8.specs.Utf8.{characters}
 use Rattle.records.specs.Records.{index, tokens_from, is_text, is_start, is_end}
@@ -80,7 +80,7 @@ module _ (s : List ℕ) (at : ℕ) (past : length s ≤ at) where
 -- The count of the tabstop
 
 -- the end of an ItemTerm, where w is the widest after it
-pub end-term : (t : Terms) (w : ℕ) → w ≡ if ltb t.widest t.counted && leb t.counted 24 then t.counted else t.widest
+pub end-term : (t : Terms) (w : ℕ) → w ≡ when ltb t.widest t.counted && leb t.counted 24 then t.counted else t.widest
     → ◌≡◌ {A = Terms} (record { widest = w; counting = false; counted = t.counted }) (term_end block.ItemTerm t)
 unfolding term_end
 end-term t w f = rw f (sym (if_true _ _ (eq-eqb 4 4 refl)))
@@ -91,13 +91,13 @@ start-term t = sym (if_true _ _ (eq-eqb 4 4 refl))
 
 -- whether a count is the widest so far
 module _ (w c : ℕ) where
-  pub wider : w < c → c ≤ 24 → c ≡ if ltb w c && leb c 24 then c else w
+  pub wider : w < c → c ≤ 24 → c ≡ when ltb w c && leb c 24 then c else w
   wider h k = sym (if_true _ _ (rw (lt-ltb w c h, le-leb c 24 k)))
 
-  pub not_wider : c ≤ w → w ≡ if ltb w c && leb c 24 then c else w
+  pub not_wider : c ≤ w → w ≡ when ltb w c && leb c 24 then c else w
   not_wider h = sym (if_false _ _ (rw (le-ltb w c h)))
 
-  pub too_wide : w < c → 24 < c → w ≡ if ltb w c && leb c 24 then c else w
+  pub too_wide : w < c → 24 < c → w ≡ when ltb w c && leb c 24 then c else w
   too_wide h k = sym (if_false _ _ (rw (lt-ltb w c h, lt-leb c 24 k)))
 
 module _ (x : List ℕ) (t : Terms) where
@@ -129,7 +129,7 @@ end_bounds : (b : Block) (t : Terms) → t.widest ≤ 24 → ((term_end b t).wid
 unfolding term_end
 end_bounds b t h = pick (λ (u : Terms). (u.widest ≤ 24) × (u.counted ≤ t.counted)) (eqb (index b) 4) (λ e. (widest, omega arith)) (λ e. (h, omega arith))
   where
-    widest : (if ltb t.widest t.counted && leb t.counted 24 then t.counted else t.widest) ≤ 24
+    widest : (when ltb t.widest t.counted && leb t.counted 24 then t.counted else t.widest) ≤ 24
     widest =
         pick (λ (w : ℕ). w ≤ 24) (ltb t.widest t.counted && leb t.counted 24)
         (λ e. leb-true t.counted 24 (and_right (ltb t.widest t.counted) _ e)) (λ e. h)

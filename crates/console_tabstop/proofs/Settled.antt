@@ -8,7 +8,7 @@ use native.Mathlib.Omega.{arith}
 use lib.Dec.{leb, ltb, eqb}
 use lib.ListN.{length}
 use borrow.Author.Tests.{leb-true, ltb-true, eqb-true}
-use Rattle.base.specs.Choice.{if◌then◌else◌}
+use Rattle.base.specs.Choice.{when◌then◌else◌}
 use Rattle.base.specs.Result.{gives, refused, ◌>>=◌}
 use Rattle.base.proofs.Choice.{pick, if_true, and_left, and_right, le_or_lt}
 use Rattle.records.specs.Records.{Token, index, tokens}
@@ -21,7 +21,7 @@ use Rattle.console_tabstop.proofs.Scans.{wider, not_wider}
 
 -- where the widest term has 24 characters, it has so after each further record
 
-widest_24 : (w c : ℕ) → w ≡ 24 → (if ltb w c && leb c 24 then c else w) ≡ 24
+widest_24 : (w c : ℕ) → w ≡ 24 → (when ltb w c && leb c 24 then c else w) ≡ 24
 widest_24 w c e =
     pick (λ (v : ℕ). v ≡ 24) (ltb w c && leb c 24)
     (λ h. omega (arith, e, ltb-true w c (and_left (ltb w c) _ h), leb-true c 24 (and_right (ltb w c) _ h)))
@@ -49,7 +49,7 @@ terms_24 (x ∷ ts) t e = terms_24 ts (term x.kind x.body t) (term_24 x.kind x.b
 
 -- after an ItemTerm end whose count is 24 the widest term has 24 characters: this one, or one before it
 
-counted_24 : (w c : ℕ) → c ≡ 24 → w ≤ 24 → (if ltb w c && leb c 24 then c else w) ≡ 24
+counted_24 : (w c : ℕ) → c ≡ 24 → w ≤ 24 → (when ltb w c && leb c 24 then c else w) ≡ 24
 counted_24 w c e h =
     ⊎_elim
     (λ l. sym (not_wider w c (omega (arith, l, e))) ∙ (omega (arith, l, h)))

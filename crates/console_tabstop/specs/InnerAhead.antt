@@ -1,6 +1,6 @@
 -- Where the next end of a Section4 stands, for every start before it; no rule of 01 stands here.
 use Rattle.std.specs.Prelude.{ℕ, ◌<◌, ◌≡◌, List, [], ◌∷◌, length}
-use Rattle.base.specs.Choice.{if◌then◌else◌}
+use Rattle.base.specs.Choice.{when◌then◌else◌}
 use Rattle.records.specs.Records.{Token, index, tokens_from, is_end}
 use Rattle.records.specs.declared.Block.{Block}
 use Rattle.console_rules.specs.Console.{empty_block, gap_ahead}
@@ -13,7 +13,7 @@ place_of n (t ∷ ts) = t.place
 -- where those after the first end of a Section4 do
 unfoldable pub after_end : ℕ → List Token → ℕ
 after_end n [] = n
-after_end n (t ∷ ts) = if is_end 3 t.kind then place_of n ts else after_end n ts
+after_end n (t ∷ ts) = when is_end 3 t.kind then place_of n ts else after_end n ts
 
 -- Seen from a place, the records after the next end of a Section4 begin at e, and an empty Block there is the gap ahead.
 pub record Ahead (s : List ℕ) (at e : ℕ) : Type 0 where

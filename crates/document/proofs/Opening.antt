@@ -5,7 +5,7 @@ use Rattle.document.proofs.Names.{part, Result, gives, refused, ◌>>=◌, if_tr
 use Rattle.document.proofs.Names.{record_fits, opens, closes, bodiless, accept, first, reads, open_blocks, short, closed, check, refusal_number}
 use Rattle.document.proofs.Names.{refusal_place, Read, Head, Refusal, Kind, Style, Block}
 use mathlib.Core.Logic.{⊎_elim}
-use Rattle.base.specs.Choice.{if◌then◌else◌}
+use Rattle.base.specs.Choice.{when◌then◌else◌}
 use Rattle.utf8.specs.Utf8.{utf8}
 use Rattle.document.specs.Answers.{opened_as, turn_as, depth_of, put_on}
 use Rattle.document.specs.declared.Turn.{Turn}
@@ -37,7 +37,7 @@ take_capped stack depth n e =
 
 module _ (stack : List ℕ) (depth i p : ℕ) where
   pub opens-deep : 32 ≤ length stack → 32 ≤ depth → refused 7 p ≡ opens p i (take depth stack)
-  unfolding opens if◌then◌else◌
+  unfolding opens when◌then◌else◌
   opens-deep m l = rw (length-take depth stack, le-leb 32 (min depth (length stack)) (omega arith))
 
   pub put-deep : 32 ≤ depth → stack ≡ put_on stack depth i
@@ -54,19 +54,19 @@ module _ (stack : List ℕ) (depth i p : ℕ) where
 
   module _ (h : depth ≤ length stack) where
     pub opens-more : depth < 32 → depth < length stack → gives (take (depth + 1) (set stack depth i)) ≡ opens p i (take depth stack)
-    unfolding opens if◌then◌else◌
+    unfolding opens when◌then◌else◌
     opens-more l m = rw (length-take-le depth stack h, lt-leb 32 depth l) (ap gives (push-take stack depth i m))
 
     pub closes-none : depth < 1 → refused 6 p ≡ closes p i (take depth stack)
-    unfolding closes if◌then◌else◌
+    unfolding closes when◌then◌else◌
     closes-none l = rw (length-take-le depth stack h, lt-leb 1 depth l)
 
     pub closes-other : 1 ≤ depth → (get_or stack (depth - 1) 0 ≡ i → ⊥) → refused 6 p ≡ closes p i (take depth stack)
-    unfolding closes if◌then◌else◌
+    unfolding closes when◌then◌else◌
     closes-other l n = rw (length-take-le depth stack h, le-leb 1 depth l, top-take stack depth l h, ne_eqb _ i n)
 
     pub closes-same : 1 ≤ depth → get_or stack (depth - 1) 0 ≡ i → gives (take (depth - 1) stack) ≡ closes p i (take depth stack)
-    unfolding closes if◌then◌else◌
+    unfolding closes when◌then◌else◌
     closes-same l e = rw (length-take-le depth stack h, le-leb 1 depth l, top-take stack depth l h, eq-eqb _ i e) (ap gives (pop_take stack depth h))
 
 -- a record by its kind
@@ -77,11 +77,11 @@ module _ {k : Kind} (p : ℕ) (body stack : List ℕ) where
   accept_unknown e = rw e
 
   pub accept-text : {st : Style} → k ≡ kind.Text st → utf8 body ≡ true → gives stack ≡ accept p k body stack
-  unfolding accept if◌then◌else◌
+  unfolding accept when◌then◌else◌
   accept-text e v = rw (e, v)
 
   pub accept-other : {st : Style} → k ≡ kind.Text st → utf8 body ≡ false → refused 5 p ≡ accept p k body stack
-  unfolding accept if◌then◌else◌
+  unfolding accept when◌then◌else◌
   accept-other e v = rw (e, v)
 
 module _ {k : Kind} (p : ℕ) (s : List ℕ) (a e : ℕ) (stack : List ℕ) where
@@ -115,12 +115,12 @@ turn-refused stack e f = sym e ∙ ap (λ (t : Turn). turn_as t stack) f
 
 module _ (s : List ℕ) (at : ℕ) (stack : List ℕ) (l : at < length s) where
   pub reads-cut : record_fits (drop at s) ≡ false → reads at 0 stack (drop at s) ≡ refused 2 at
-  unfolding first if◌then◌else◌
+  unfolding first when◌then◌else◌
   reads-cut e = reads_at_refused s at stack 2 at l (rw e)
 
   module _ {h : Head} (r : Read s at h) (f : record_fits (drop at s) ≡ true) where
     pub first_read : first at stack (drop at s) ≡ accept at h.kind (part s h.start h.stop) stack
-    unfolding first if◌then◌else◌
+    unfolding first when◌then◌else◌
     first_read = rw f (ap (λ (t : Token). accept at t.kind t.body stack) (read-token r l))
 
     pub reads_on : {after : List ℕ} → accept at h.kind (part s h.start h.stop) stack ≡ gives after
@@ -134,12 +134,12 @@ module _ (s : List ℕ) (at : ℕ) (stack : List ℕ) (l : at < length s) where
 -- 1 and 8
 
 pub check_long : (s : List ℕ) → 32768 < length s → refused 1 0 ≡ check s
-unfolding check short if◌then◌else◌ ◌>>=◌
+unfolding check short when◌then◌else◌ ◌>>=◌
 check_long s h = rw (lt-ltb 32768 (length s) h)
 
 module _ (s : List ℕ) (o : Opened) (h : length s ≤ 32768) (e : opened_as o ≡ open_blocks s) where
   by_open : check s ≡ (opened_as o >>= closed (length s))
-  unfolding check short if◌then◌else◌ ◌>>=◌
+  unfolding check short when◌then◌else◌ ◌>>=◌
   by_open = rw (le-ltb 32768 (length s) h, e)
 
   pub check-refused : {a : Refusal} → o.verdict ≡ checked.Refused a → refused (refusal_number a) (refusal_place a) ≡ check s
@@ -147,9 +147,9 @@ module _ (s : List ℕ) (o : Opened) (h : length s ≤ 32768) (e : opened_as o �
   check-refused v = sym (by_open ∙ rw v)
 
   pub check-closed : o.verdict ≡ checked.Accepted → o.depth ≡ 0 → gives [] ≡ check s
-  unfolding ◌>>=◌ closed if◌then◌else◌
+  unfolding ◌>>=◌ closed when◌then◌else◌
   check-closed v d = sym (by_open ∙ rw (v, d))
 
   pub check-left : o.verdict ≡ checked.Accepted → (o.depth ≡ 0 → ⊥) → o.depth ≤ length o.stack → refused 8 (length s) ≡ check s
-  unfolding ◌>>=◌ closed if◌then◌else◌
+  unfolding ◌>>=◌ closed when◌then◌else◌
   check-left v d l = sym (by_open ∙ rw (v, length-take-le o.depth o.stack l, ne_eqb o.depth 0 d))

@@ -1,6 +1,6 @@
 -- What the check answers, seen as the rules' results: the verdict, the open blocks, and those after one record.
 use Rattle.std.specs.Prelude.{ℕ, List, ltb, take, set}
-use Rattle.base.specs.Choice.{if◌then◌else◌}
+use Rattle.base.specs.Choice.{when◌then◌else◌}
 use Rattle.base.specs.Result.{Result, gives, refused}
 use Rattle.document.specs.declared.Checked.{Checked}
 use Rattle.document.specs.declared.Checked.TheVariants as checked
@@ -32,4 +32,4 @@ depth_of (turn.Refused r) = 0
 
 -- a stack of blocks with one more at a place below 32
 unfoldable pub put_on : List ℕ → ℕ → ℕ → List ℕ
-put_on stack depth i = if ltb depth max_open then set stack depth i else stack
+put_on stack depth i = when ltb depth max_open then set stack depth i else stack

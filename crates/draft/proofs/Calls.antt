@@ -5,7 +5,7 @@ use Rattle.draft.proofs.Names.{popped, if_true, if_false, refused-gives, gives_s
 use Rattle.draft.proofs.Names.{Kind, kind_opens, kind_closes, index_small, open_blocks, Sane, Allowed, open_after, accept-gives, Refusal, utf8, so_far}
 use Rattle.draft.proofs.Names.{fit, writes, opens_block, closes_block, built_as, kept, Of01, longer, Built, SoFar, says_same, stops, writes-not}
 use Rattle.draft.proofs.Names.{writes_in, style_in, one_record, Opens, Of, Holds, plausible, drafted_as, Resumed, Does, text_at, Turned, Draft, Drafted}
-use Rattle.base.specs.Choice.{if◌then◌else◌}
+use Rattle.base.specs.Choice.{when◌then◌else◌}
 use Rattle.base.proofs.Parts.{part_end}
 use Rattle.records.specs.declared.Kind.TheVariants as kind
 use Rattle.refusal.specs.Numbers.{refusal_number, refusal_place}
@@ -32,7 +32,7 @@ module _ (room : List ℕ) (d : Draft) where
     quick_deep k = rw (le-leb d.length (length room) h, le-leb d.length 32768 l, lt-leb d.depth 32 k)
 
     module _ (k : d.depth ≤ 32) where
-      quick_on : (if eqb d.length 0 then true else one_record (drop d.last (take d.length room))) ≡ plausible room d
+      quick_on : (when eqb d.length 0 then true else one_record (drop d.last (take d.length room))) ≡ plausible room d
       unfolding plausible
       quick_on = rw (le-leb d.length (length room) h, le-leb d.length 32768 l, le-leb d.depth 32 k)
 

@@ -1,7 +1,7 @@
 -- A draft: what a check would find out about the document that stands in the first bytes of a room, carried from call to call of the
 -- builder, so that no call reads the document anew.
 use Rattle.std.specs.Prelude.{ℕ, zero, suc, ◌+◌, ◌*◌, ◌/◌, ◌%◌, ◌^◌, ◌≤◌, ◌<◌, ◌≡◌, Bool, true, ◌&&◌, List, [], leb, eqb, length, take, drop, get_or}
-use Rattle.base.specs.Choice.{if◌then◌else◌}
+use Rattle.base.specs.Choice.{when◌then◌else◌}
 use Rattle.base.specs.Result.{Result, gives, refused, ◌>>=◌, measured}
 use Rattle.base.specs.Stack.{pushed}
 use Rattle.records.specs.Records.{token_at, size, number}
@@ -76,7 +76,7 @@ pub record Holds (d : Draft) (room : List ℕ) : Type 0 where
 unfoldable pub plausible : List ℕ → Draft → Bool
 plausible room d =
     leb d.length (length room) && (leb d.length max_bytes && (leb d.depth max_open
-    && (if eqb d.length 0 then true else one_record (drop d.last (take d.length room)))))
+    && (when eqb d.length 0 then true else one_record (drop d.last (take d.length room)))))
 
 -- a draft can be built on: it holds, or the quick test shows that it does not, and then the document so far is checked
 abbrev pub Sound : List ℕ → Draft → Type 0

@@ -1,5 +1,5 @@
 -- In a larger room the console's rules answer as in a smaller one, unless they refuse 13 there. Assumes nothing.
-use Rattle.figures.proofs.Names.{ℕ, ◌+◌, ◌≤◌, ◌<◌, ◌≡◌, refl, ⊎_elim, Bool, true, false, List, [], ◌∷◌, length, arith, if◌then◌else◌, top, Result}
+use Rattle.figures.proofs.Names.{ℕ, ◌+◌, ◌≤◌, ◌<◌, ◌≡◌, refl, ⊎_elim, Bool, true, false, List, [], ◌∷◌, length, arith, when◌then◌else◌, top, Result}
 use Rattle.figures.proofs.Names.{gives, refused, ◌>>=◌, le_or_lt, Token, tokens, Kind, extended, console}
 use Rattle.records.specs.declared.Block.{Block}
 use Rattle.records.specs.declared.Block.TheVariants as block
@@ -27,8 +27,8 @@ bind_or_full x y f g full k = full
 then_or_full : {A B : Type 0} (x : Result A) (f g : A → Result B) → ((a : A) → OrFull (f a) (g a)) → OrFull (x >>= f) (x >>= g)
 then_or_full x f g k = bind_or_full x x f g same k
 
-if_or_full : {A : Type 0} (b : Bool) {x x' y y' : Result A} → OrFull x x' → OrFull y y' → OrFull (if b then x else y) (if b then x' else y')
-unfolding if◌then◌else◌
+if_or_full : {A : Type 0} (b : Bool) {x x' y y' : Result A} → OrFull x x' → OrFull y y' → OrFull (when b then x else y) (when b then x' else y')
+unfolding when◌then◌else◌
 if_or_full true h k = h
 if_or_full false h k = k
 

@@ -2,7 +2,7 @@
 pub use Prim.Native.Nat.{◌*◌, ◌+◌, ◌-◌, ◌<◌, ◌≤◌, suc, zero, ℕ}
 pub use Rattle.base.proofs.Choice.{if_false, if_true, le_or_lt, pick}
 pub use Rattle.base.specs.Bytes.{part}
-unfoldable pub use Rattle.base.specs.Choice.{if◌then◌else◌}
+unfoldable pub use Rattle.base.specs.Choice.{when◌then◌else◌}
 pub use Rattle.base.specs.Result.{Result, gives, measured, refused}
 unfoldable pub use Rattle.base.specs.Result.{◌>>=◌}
 unfoldable pub use Rattle.base.specs.Stack.{popped, pushed, top}

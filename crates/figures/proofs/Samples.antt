@@ -1,5 +1,5 @@
 -- The bundles of the list have their figures and refusals, by computation. Assumes nothing.
-use Rattle.figures.proofs.Names.{refl, if◌then◌else◌, ◌>>=◌, top, pushed, popped, little, styles, blocks, kind_of, size, token_at, tokens, record_fits}
+use Rattle.figures.proofs.Names.{refl, when◌then◌else◌, ◌>>=◌, top, pushed, popped, little, styles, blocks, kind_of, size, token_at, tokens, record_fits}
 use Rattle.figures.proofs.Names.{extended, document, documents_from, documents, full_text, total, figures}
 use Rattle.base.specs.Bytes.{starts_with, ends_with}
 use Rattle.utf8.specs.Utf8.{table, row_of, encode, bytes}
@@ -13,7 +13,7 @@ use Rattle.console_rules.specs.Console as con
 use Rattle.figures.specs.Samples.{deep, samples, Hold}
 
 pub samples_hold : Hold samples
-unfolding deep samples document documents_from documents full_text total figures if◌then◌else◌ starts_with ends_with ◌>>=◌ top pushed popped table row_of
+unfolding deep samples document documents_from documents full_text total figures when◌then◌else◌ starts_with ends_with ◌>>=◌ top pushed popped table row_of
     encode bytes whites white printing blank trim little styles blocks kind_of size token_at tokens record_fits opens closes bodiless accept first reads
     open_blocks short closed check little_bytes stored text start end around before after_line_end ticked step placed split is_space extended write empty
     skip_start skip_end walk body con.term_start con.term_end con.term con.terms con.tabstop con.empty_block con.gap_ahead con.line_end con.due_line

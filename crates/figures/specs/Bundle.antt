@@ -1,6 +1,6 @@
 -- The figures of a bundle (02, point 1): its documents, their texts, and the four numbers.
 use Rattle.std.specs.Prelude.{ℕ, zero, suc, ◌+◌, true, List, [], ◌∷◌, eqb, ltb, length, take, drop}
-use Rattle.base.specs.Choice.{if◌then◌else◌}
+use Rattle.base.specs.Choice.{when◌then◌else◌}
 use Rattle.base.specs.Result.{Result, gives, refused, ◌>>=◌}
 use Rattle.white.specs.White.{printing}
 use Rattle.records.specs.Records.{little, size, record_fits}
@@ -13,8 +13,8 @@ use Rattle.figures.specs.declared.Figures.{Figures}
 -- record 15 when it is cut short, then 14 when its kind is not 0x0300'.
 unfoldable pub document : ℕ → List ℕ → Result (List ℕ)
 document p s =
-    if record_fits s
-    then if eqb (little (take 2 (drop 4 s))) 0x0300 then gives (take (size s) (drop 6 s)) else refused 14 p
+    when record_fits s
+    then when eqb (little (take 2 (drop 4 s))) 0x0300 then gives (take (size s) (drop 6 s)) else refused 14 p
     else refused 15 p
 
 -- the documents of some bytes, which start at place p, after `pass` bytes that are passed over, as in `tokens`: the first refusal is the answer
@@ -25,7 +25,7 @@ documents_from p zero (b ∷ s) = document p (b ∷ s) >>= λ d. documents_from 
 
 -- '16 when the bundle is over 65,536 bytes, tested first, place 0'
 unfoldable pub documents : List ℕ → Result (List (List ℕ))
-documents bundle = if ltb 65_536 (length bundle) then refused 16 0 else documents_from 0 0 bundle
+documents bundle = when ltb 65_536 (length bundle) then refused 16 0 else documents_from 0 0 bundle
 
 -- 'a full text at width 100'; the programs use bytes (point 3)
 abbrev pub shelf : Settings

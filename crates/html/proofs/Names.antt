@@ -2,7 +2,7 @@
 pub use Prim.Native.Nat.{◌+◌, ◌-◌, ◌<◌, ◌≤◌, ℕ}
 pub use Rattle.base.proofs.Choice.{if_false, if_true}
 pub use Rattle.base.proofs.Results.{bind_assoc, bind_end, bind_same}
-unfoldable pub use Rattle.base.specs.Choice.{if◌then◌else◌}
+unfoldable pub use Rattle.base.specs.Choice.{when◌then◌else◌}
 pub use Rattle.base.specs.Result.{Result, gives, refused}
 unfoldable pub use Rattle.base.specs.Result.{◌>>=◌}
 pub use Rattle.base.specs.Stack.{popped, pushed}

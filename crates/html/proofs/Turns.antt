@@ -1,5 +1,5 @@
 -- The turns of HTML on a page, each as one rule on its text beside a change of what is kept and of the flags. Assumes nothing.
-use Rattle.html.proofs.Names.{ℕ, ◌≡◌, refl, sym, ap, ◌∙◌, Bool, true, false, not, List, if◌then◌else◌, Result, gives, refused, ◌>>=◌, pushed, popped}
+use Rattle.html.proofs.Names.{ℕ, ◌≡◌, refl, sym, ap, ◌∙◌, Bool, true, false, not, List, when◌then◌else◌, Result, gives, refused, ◌>>=◌, pushed, popped}
 use Rattle.html.proofs.Names.{if_true, if_false, bind_assoc, bind_same, bind_end, extended, Token, index, Style, Block, split, with_out, with_lay, page}
 use Rattle.html.proofs.Names.{write, last, anywhere, body, hides, skip_start, skip_end, State, with_style, with_skip, in_list, start_tag, end_tag, br}
 use Rattle.html.proofs.Names.{change, blank_line, tagged, enter, leave, chunk, turn, finish, Html, chunk_text, closed, headed, block_text}
@@ -12,9 +12,9 @@ use Rattle.html_rules.specs.Marks.{separated}
 use Rattle.html_rules.proofs.Lifts.{lift, lift_then, refuses}
 
 module _ (limit p : ℕ) (b : Block) (tag : List ℕ) where
-  header : (s : State) (c : Bool) → ((if c then blank_line limit s else gives s) >>= write limit tag) ≡ lift
-      (λ x. (if c then separated limit br x else gives x) >>= extended limit tag) s
-  unfolding blank_line write if◌then◌else◌ ◌>>=◌
+  header : (s : State) (c : Bool) → ((when c then blank_line limit s else gives s) >>= write limit tag) ≡ lift
+      (λ x. (when c then separated limit br x else gives x) >>= extended limit tag) s
+  unfolding blank_line write when◌then◌else◌ ◌>>=◌
   header s true = lift_then (separated limit br) s (extended limit tag)
   header s false = refl
 

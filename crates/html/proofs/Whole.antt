@@ -1,5 +1,5 @@
 -- The end of the walk, and the verdict on a document with the walk after it. Assumes nothing.
-use Rattle.html.proofs.Names.{ℕ, ◌≡◌, ap, ◌∙◌, Bool, List, [], length, if◌then◌else◌, Result, gives, refused, ◌>>=◌, tokens, check, walk, initial}
+use Rattle.html.proofs.Names.{ℕ, ◌≡◌, ap, ◌∙◌, Bool, List, [], length, when◌then◌else◌, Result, gives, refused, ◌>>=◌, tokens, check, walk, initial}
 use Rattle.html.proofs.Names.{css, turn, finish, html, extended, seen, Style, closed}
 use Rattle.html_rules.proofs.Writes.{wrote_then}
 
@@ -8,7 +8,7 @@ module _ (limit : ℕ) (strict full sheet : Bool) (document : List ℕ) where
   unfolding html ◌>>=◌
   html-refused n p e = rw e
 
-  pub html_accepted : (text : Result (List ℕ)) (x : List ℕ) → check document ≡ gives [] → x ≡ (if sheet then css else [])
+  pub html_accepted : (text : Result (List ℕ)) (x : List ℕ) → check document ≡ gives [] → x ≡ (when sheet then css else [])
       → text ≡ (walk (turn limit strict full) (tokens 0 0 document) initial >>= finish limit x) → text ≡ html limit strict full sheet document
   unfolding html ◌>>=◌
   html_accepted text x e s w = rw (e, ← s) w

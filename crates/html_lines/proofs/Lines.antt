@@ -5,7 +5,7 @@ use Rattle.html_lines.proofs.Names.{bind_same, bind_end, extended, seen, extende
 use Rattle.html_lines.proofs.Names.{before-part, before-after, entity, escaped, escaped_by, seen_then, line_from, plain_line}
 use lib.Dec.{eqb}
 use lib.Seq.{length-take-le, drop-cons}
-use Rattle.base.specs.Choice.{if◌then◌else◌}
+use Rattle.base.specs.Choice.{when◌then◌else◌}
 use Rattle.utf8.specs.Utf8.{bytes}
 use Rattle.splitter.specs.Split.{before, is_line_end, line}
 use Rattle.splitter.specs.declared.Code.TheVariants as code
@@ -17,12 +17,12 @@ use Rattle.html_lines.specs.declared.LineWritten.{LineWritten}
 -- what ends the one ends the other: the longer goes on after the shorter
 pub before_split : (p q : ℕ → Bool) → ((b : ℕ) → p b ≡ false → q b ≡ false) → (s : List ℕ)
     → before q s ≡ before p s ++ before q (drop (length (before p s)) s)
-unfolding before if◌then◌else◌
+unfolding before when◌then◌else◌
 before_split p q h [] = refl
 before_split p q h (b ∷ s) = go (p b) refl (before_split p q h s)
   where
     go : (t : Bool) → p b ≡ t → before q s ≡ before p s ++ before q (drop (length (before p s)) s)
-        → before q (b ∷ s) ≡ (if t then [] else b ∷ before p s) ++ before q (drop (length (if t then [] else b ∷ before p s)) (b ∷ s))
+        → before q (b ∷ s) ≡ (when t then [] else b ∷ before p s) ++ before q (drop (length (when t then [] else b ∷ before p s)) (b ∷ s))
     go true e r = refl
     go false e r = rw (h b e) (ap (λ (l : List ℕ). b ∷ l) r)
 
@@ -48,10 +48,10 @@ pub mark_line : (b : ℕ) → marks b ≡ false → is_line_end b ≡ false
 mark_line b e = (none_of b e).0
 
 mark_plain : (strict : Bool) (b : ℕ) → marks b ≡ false → entity strict b ≡ b ∷ []
-unfolding entity if◌then◌else◌
+unfolding entity when◌then◌else◌
 mark_plain strict b e = let n = none_of b e in rw (n.1, n.2, n.3) (go strict)
   where
-    go : (t : Bool) → (if t && false then bytes "&amp;" else b ∷ []) ≡ b ∷ []
+    go : (t : Bool) → (when t && false then bytes "&amp;" else b ∷ []) ≡ b ∷ []
     go true = refl
     go false = refl
 
@@ -65,12 +65,12 @@ escaped-append e (b ∷ x) y =
 
 -- a run stands for itself
 run_plain : (strict : Bool) (s : List ℕ) → escaped strict (before marks s) ≡ before marks s
-unfolding escaped_by before if◌then◌else◌
+unfolding escaped_by before when◌then◌else◌
 run_plain strict [] = refl
 run_plain strict (b ∷ s) = go (marks b) refl (run_plain strict s)
   where
     go : (t : Bool) → marks b ≡ t → escaped strict (before marks s) ≡ before marks s
-        → escaped strict (if t then [] else b ∷ before marks s) ≡ (if t then [] else b ∷ before marks s)
+        → escaped strict (when t then [] else b ∷ before marks s) ≡ (when t then [] else b ∷ before marks s)
     go true e r = refl
     go false e r = rw (mark_plain strict b e, r) refl
 

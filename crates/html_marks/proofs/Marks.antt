@@ -7,7 +7,7 @@ use lib.Dec.{eqb}
 use lib.ListN.{length, take}
 use lib.Seq.{length-take-le}
 use native.Mathlib.Omega.{arith}
-use Rattle.base.specs.Choice.{if◌then◌else◌}
+use Rattle.base.specs.Choice.{when◌then◌else◌}
 use Rattle.base.specs.Bytes.{ends_with}
 use Rattle.base.specs.Result.{gives, ◌>>=◌}
 use Rattle.base.proofs.Choice.{if_true, if_false}
@@ -42,7 +42,7 @@ not-empty (b ∷ x) h = refl
 
 module _ (limit : ℕ) (room mark : List ℕ) (len : ℕ) where
   pub separated-empty : len ≡ 0 → seen room 0 ≡ (seen room len >>= separated limit mark)
-  unfolding separated empty if◌then◌else◌ ◌>>=◌
+  unfolding separated empty when◌then◌else◌ ◌>>=◌
   separated-empty e = rw (e, seen_in room 0 (omega arith))
 
   pub separated_ends : ends_with mark (take len room) ≡ true → seen room len ≡ (seen room len >>= separated limit mark)

@@ -1,6 +1,6 @@
 -- A body without line ends adds its escaped form to a strict page, and so is told apart from others. Assumes nothing.
 use Rattle.html_read.proofs.Names.{ℕ, zero, suc, ◌+◌, ◌-◌, ◌≡◌, refl, sym, ap, ◌∙◌, true, false, List, [], ◌∷◌, ◌++◌, append_assoc, append-nil}
-use Rattle.html_read.proofs.Names.{append_cancel_left, eqb, if◌then◌else◌, starts_with, pick, if_false, and_left, and_right, and_both, and_fails}
+use Rattle.html_read.proofs.Names.{append_cancel_left, eqb, when◌then◌else◌, starts_with, pick, if_false, and_left, and_right, and_both, and_fails}
 use Rattle.html_read.proofs.Names.{bytes, encode, Style, escaped_by, opening, closing, entity, escaped, read_back, free, form, ToldApart, Bodies}
 use mathlib.Core.Bool.{Bool, not, ◌||◌, ◌&&◌, false≢true}
 use lib.ListN.{length, drop, get_or, take-append-drop}
@@ -112,7 +112,7 @@ module _ (room : ℕ) where
     -- after some bytes, the text of a chunk
     text-written : (x y : List ℕ) (at width : ℕ) (cs : List Placed) (s : State)
         → (write room x s >>= walked (record { place = at; chunk = raw y width } ∷ cs)) ≡ (write room (x ++ escaped true y) s >>= walked cs)
-    unfolding body chunk if◌then◌else◌
+    unfolding body chunk when◌then◌else◌
     text-written x y at width cs s =
         bind_assoc (write room x s) (write room (escaped true y)) (walked cs)
         ∙ ap (λ (r : Result State). r >>= walked cs) (write_twice x (escaped true y) s)
@@ -161,7 +161,7 @@ without-line_ends room place start full st x y ts s a b e f h g k same =
 
 -- `a⏎b` and `a b` in style Text, on an empty page
 line-end_as_space : ToldApart (λ _. true) → ⊥
-unfolding turn change write extended body chunk split placed step after_line_end starts_with before if◌then◌else◌ ◌>>=◌ bytes encode escaped_by entity
+unfolding turn change write extended body chunk split placed step after_line_end starts_with before when◌then◌else◌ ◌>>=◌ bytes encode escaped_by entity
 line-end_as_space all =
     let after : State = page [] plain (bytes "a b") in
     let e = all 3 0 6 true style.Text (bytes "a\nb") (bytes "a b") [] initial after after refl refl refl refl refl refl in

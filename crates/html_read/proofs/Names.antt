@@ -2,7 +2,7 @@
 pub use Prim.Native.Nat.{◌+◌, ◌-◌, suc, zero, ℕ}
 pub use Rattle.base.proofs.Choice.{and_both, and_fails, and_left, and_right, eq_or_not, if_false, pick}
 unfoldable pub use Rattle.base.specs.Bytes.{starts_with}
-unfoldable pub use Rattle.base.specs.Choice.{if◌then◌else◌}
+unfoldable pub use Rattle.base.specs.Choice.{when◌then◌else◌}
 pub use Rattle.html_read.specs.Claims.{Bodies, Chunks, ToldApart}
 unfoldable pub use Rattle.html_read.specs.Forms.{form, free}
 pub use Rattle.html_read.specs.Read.{in_text, read_back}

@@ -1,5 +1,5 @@
 -- What strict HTML writes for some bytes is read back as these bytes. Assumes nothing.
-use Rattle.html_read.proofs.Names.{ℕ, ◌≡◌, refl, sym, ap, ◌∙◌, true, false, List, [], ◌∷◌, eqb, if◌then◌else◌, starts_with, eq_or_not, encode, bytes}
+use Rattle.html_read.proofs.Names.{ℕ, ◌≡◌, refl, sym, ap, ◌∙◌, true, false, List, [], ◌∷◌, eqb, when◌then◌else◌, starts_with, eq_or_not, encode, bytes}
 use Rattle.html_read.proofs.Names.{Style, escaped_by, opening, closing, entity, escaped, in_text, named, says, next, read_back, form, Chunks}
 use mathlib.Core.Logic.{⊎_elim}
 use borrow.Author.Tests.{ne_eqb}
@@ -22,7 +22,7 @@ byte_cases P l g a o b =
     (eq_or_not b 0x26)) (eq_or_not b 0x3E)) (eq_or_not b 0x3C)
 
 entity_tells : (b : ℕ) → Tells (entity true b) (b ∷ [])
-unfolding reader.read reader.after says next named starts_with entity bytes encode if◌then◌else◌
+unfolding reader.read reader.after says next named starts_with entity bytes encode when◌then◌else◌
 entity_tells = byte_cases _ (both refl refl) (both refl refl) (both refl refl) (λ b l g a. both (simp (l, g, a)) (simp (l, g, a)))
 
 -- The bytes of a chunk
@@ -41,7 +41,7 @@ chunks = record {
 -- The tags of styles
 
 opening_tells : (st : Style) → Tells (opening st) []
-unfolding reader.read reader.after says next bytes encode if◌then◌else◌
+unfolding reader.read reader.after says next bytes encode when◌then◌else◌
 opening_tells style.Text = both refl refl
 opening_tells style.Emphasis = both refl refl
 opening_tells style.Literal = both refl refl
@@ -49,7 +49,7 @@ opening_tells style.Metavar = both refl refl
 opening_tells style.Invalid = both refl refl
 
 closing_tells : (st : Style) → Tells (closing st) []
-unfolding reader.read reader.after says next bytes encode if◌then◌else◌
+unfolding reader.read reader.after says next bytes encode when◌then◌else◌
 closing_tells style.Text = both refl refl
 closing_tells style.Emphasis = both refl refl
 closing_tells style.Literal = both refl refl

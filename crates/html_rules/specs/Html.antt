@@ -1,6 +1,6 @@
 -- HTML and strict HTML (01, 'Port order', src/buffer/html.rs; strict HTML by 02, point 5): the text of a document, in a room of some bytes.
 use Rattle.std.specs.Prelude.{ℕ, Bool, ◌&&◌, List, [], ◌∷◌, ◌++◌, eqb}
-use Rattle.base.specs.Choice.{if◌then◌else◌}
+use Rattle.base.specs.Choice.{when◌then◌else◌}
 use Rattle.base.specs.Result.{Result, gives, refused, ◌>>=◌}
 use Rattle.base.specs.Stack.{top, pushed, popped}
 use Rattle.utf8.specs.Utf8.{bytes}
@@ -62,7 +62,7 @@ start_tag listed block.Section2 = bytes "<div>\n"
 start_tag listed block.Section3 = bytes "<div style='padding-left: 0.5em'>"
 start_tag listed block.Section4 = bytes "<div style='padding-left: 0.5em'>"
 start_tag listed block.ItemTerm = bytes "<dt>"
-start_tag listed block.ItemBody = if listed then bytes "<dd>" else bytes "<li>"
+start_tag listed block.ItemBody = when listed then bytes "<dd>" else bytes "<li>"
 start_tag listed block.DefinitionList = bytes "<dl>"
 start_tag listed block.Block = bytes "<p>"
 start_tag listed block.InlineBlock = bytes ""
@@ -76,7 +76,7 @@ end_tag listed block.Section2 = bytes "</div>"
 end_tag listed block.Section3 = bytes "</div>"
 end_tag listed block.Section4 = bytes "</div>"
 end_tag listed block.ItemTerm = bytes "</dt>\n"
-end_tag listed block.ItemBody = if listed then bytes "</dd>\n" else bytes "</li>\n"
+end_tag listed block.ItemBody = when listed then bytes "</dd>\n" else bytes "</li>\n"
 end_tag listed block.DefinitionList = bytes "</dl>\n"
 end_tag listed block.Block = bytes "</p>"
 end_tag listed block.InlineBlock = bytes ""
@@ -94,9 +94,9 @@ br = bytes "<br>\n"
 -- (02, point 5), whatever bytes follow it
 unfoldable pub entity : Bool → ℕ → List ℕ
 entity strict b =
-    if eqb b 0x3C then bytes "&lt;" else
-    if eqb b 0x3E then bytes "&gt;" else
-    if strict && eqb b 0x26 then bytes "&amp;" else b ∷ []
+    when eqb b 0x3C then bytes "&lt;" else
+    when eqb b 0x3E then bytes "&gt;" else
+    when strict && eqb b 0x26 then bytes "&amp;" else b ∷ []
 
 abbrev pub escaped : Bool → List ℕ → List ℕ
 escaped strict x = escaped_by (entity strict) x
@@ -117,8 +117,8 @@ module _ (room : ℕ) where
   -- the start or the end of a block at a place, with its tag: refusal 11, 'Meta in HTML'; a Header has a line of its own
   unfoldable pub tagged : ℕ → Block → List ℕ → State → Result State
   tagged p b tag s =
-      if eqb (index b) 10 then refused 11 p else
-      ((if eqb (index b) 0 then blank_line s else gives s) >>= write room tag)
+      when eqb (index b) 10 then refused 11 p else
+      ((when eqb (index b) 0 then blank_line s else gives s) >>= write room tag)
 
   -- `stack.push(b)`, and 'InlineBlock's start adds 1 if it is over 0'
   unfoldable pub enter : Block → State → State
@@ -137,18 +137,18 @@ module _ (room : ℕ) where
     unfoldable pub chunk : Chunk → State → Result State
     chunk (raw x w) s = write room (escaped strict x) s
     chunk line_break s = write room br s
-    chunk paragraph s = if full then write room br s else gives (with_lay (λ l. with_skip (skip_paragraph l.skip) l) s)
+    chunk paragraph s = when full then write room br s else gives (with_lay (λ l. with_skip (skip_paragraph l.skip) l) s)
 
     -- a record: 'It hides text only'
     unfoldable pub turn : Turn State
-    turn p q (kind.Text st) x ts s = if hides s.lay.skip then gives s else (change st s >>= body full (anywhere chunk) (split x))
+    turn p q (kind.Text st) x ts s = when hides s.lay.skip then gives s else (change st s >>= body full (anywhere chunk) (split x))
     turn p q (kind.Start b) x ts s = change style.Text s >>= tagged p b (start_tag (in_list s.kept) b) >>= λ s₁. gives (enter b s₁)
     turn p q (kind.End b) x ts s = change style.Text (leave b s) >>= tagged p b (end_tag (in_list (popped s.kept)) b)
     turn p q kind.Unknown x ts s = gives s
 
     -- the text of some records with or without the style sheet, whatever form they are stored in
     abbrev pub html_on : Bool → List Token → Result (List ℕ)
-    html_on sheet ts = walk turn ts initial >>= finish (if sheet then css else [])
+    html_on sheet ts = walk turn ts initial >>= finish (when sheet then css else [])
 
     -- the text of a document with or without the style sheet, or its refusal: '1, .. then record by record 2 to 7, then 8; then the
     -- first of 10 to 13 that the walk meets'

@@ -1,6 +1,6 @@
 -- Markdown (01, 'Port order', src/buffer/html.rs): the text of a document, in a room of some bytes.
 use Rattle.std.specs.Prelude.{ℕ, ◌+◌, ◌-◌, Bool, true, false, List, [], ◌∷◌, ◌++◌, ltb, eqb}
-use Rattle.base.specs.Choice.{if◌then◌else◌}
+use Rattle.base.specs.Choice.{when◌then◌else◌}
 use Rattle.base.specs.Result.{Result, gives, refused, ◌>>=◌}
 use Rattle.utf8.specs.Utf8.{bytes}
 use Rattle.records.specs.Records.{Token, tokens, is_end}
@@ -66,7 +66,7 @@ closing style.Invalid = bytes "**"
 
 -- a byte inside Mono: `replace('[', "\\[").replace(']', "\\]")`
 unfoldable pub bracket : ℕ → List ℕ
-bracket b = if eqb b 0x5B then bytes "\\[" else if eqb b 0x5D then bytes "\\]" else b ∷ []
+bracket b = when eqb b 0x5B then bytes "\\[" else when eqb b 0x5D then bytes "\\]" else b ∷ []
 
 abbrev pub bracketed : List ℕ → List ℕ
 bracketed x = escaped_by bracket x
@@ -95,15 +95,15 @@ pushing text l = starting [] [] text l
 
 -- after a term, in a DefinitionList that was opened with none closed since; before a term
 abbrev pub dash : Markdown → List ℕ
-dash l = if l.listed then if l.bare then bytes " " else bytes " &mdash; " else []
+dash l = when l.listed then when l.bare then bytes " " else bytes " &mdash; " else []
 
 abbrev pub bullet : Bool → List ℕ
-bullet empty = if empty then bytes "  " else bytes "- "
+bullet empty = when empty then bytes "  " else bytes "- "
 
 -- `Token::BlockStart` of the block at place p, with `empty_term` for a term: also `app_name_seen = true`, `def_list = true`, `skip.push()`,
 -- `mono += 1`; 11, 'Meta in .. Markdown'
 unfoldable pub started : ℕ → Block → Bool → Markdown → Result AtStart
-started p block.Header empty l = on_line (bytes "\n\n") (if l.titled then bytes "## " else bytes "# ") (with_titled l)
+started p block.Header empty l = on_line (bytes "\n\n") (when l.titled then bytes "## " else bytes "# ") (with_titled l)
 started p block.Section2 empty l = pushing [] l
 started p block.Section3 empty l = pushing (bytes "### ") l
 started p block.Section4 empty l = on_line (bytes "\n") (bullet empty) (with_bare empty l)
@@ -131,7 +131,7 @@ ended p block.Section2 l = ending (bytes "\n") l
 ended p block.Section3 l = ending (bytes "\n") l
 ended p block.Section4 l = ending (bytes "\n") l
 ended p block.ItemTerm l = ending [] l
-ended p block.ItemBody l = ending (if l.listed then bytes "\n" else []) l
+ended p block.ItemBody l = ending (when l.listed then bytes "\n" else []) l
 ended p block.DefinitionList l = ending (bytes "\n") (with_listed false l)
 ended p block.Block l = ending (bytes "\n") l
 ended p block.InlineBlock l = ending [] (with_skip (skip_end block.InlineBlock l.skip) l)
@@ -143,23 +143,23 @@ ended p block.Mono l = ending [] (with_mono (l.mono - 1) l)
 
 -- `if !code_block { .. }` before a code line, `if code_block { .. }` before a word, and after the last chunk
 abbrev pub code_begins : Markdown → List ℕ
-code_begins l = if l.fenced then bytes "" else bytes "\n\n  ```text\n"
+code_begins l = when l.fenced then bytes "" else bytes "\n\n  ```text\n"
 
 abbrev pub code_stops : Markdown → List ℕ
-code_stops l = if l.fenced then bytes "\n  ```\n" else bytes ""
+code_stops l = when l.fenced then bytes "\n  ```\n" else bytes ""
 
 abbrev pub code_ends : Markdown → List ℕ
-code_ends l = if l.fenced then bytes "  ```\n" else bytes ""
+code_ends l = when l.fenced then bytes "  ```\n" else bytes ""
 
 -- a line in ticks or a code line; a word, of which Mono escapes the brackets; a paragraph
 abbrev pub line_text : List ℕ → List ℕ
 line_text x = bytes "  " ++ x ++ bytes "\n"
 
 abbrev pub word_text : Markdown → List ℕ → List ℕ
-word_text l x = if ltb 0 l.mono then bracketed x else x
+word_text l x = when ltb 0 l.mono then bracketed x else x
 
 abbrev pub paragraph_text : Markdown → List ℕ
-paragraph_text l = if l.listed then bytes "\n\n  " else bytes "\n\n"
+paragraph_text l = when l.listed then bytes "\n\n  " else bytes "\n\n"
 
 module _ (room : ℕ) where
   -- change_to_markdown_style: the open style is closed, and another opened
@@ -180,8 +180,8 @@ module _ (room : ℕ) where
   -- `Chunk::Raw`: a line in ticks (`Chunk::TICKED_CODE`), a code line (`Chunk::CODE`), or a word
   unfoldable pub raw_chunk : List ℕ → ℕ → State → Result State
   raw_chunk x w s =
-      if eqb w chunk_ticked_code then (separate (bytes "\n") s >>= write room (line_text x)) else
-      if eqb w chunk_code then (write room (code_begins s.lay) s >>= λ s₁. write room (line_text x) (with_lay (with_fenced true) s₁)) else
+      when eqb w chunk_ticked_code then (separate (bytes "\n") s >>= write room (line_text x)) else
+      when eqb w chunk_code then (write room (code_begins s.lay) s >>= λ s₁. write room (line_text x) (with_lay (with_fenced true) s₁)) else
       (write room (code_stops s.lay) s >>= λ s₁. write room (word_text s.lay x) (with_lay (with_fenced false) s₁))
 
   -- after the last chunk of a body
@@ -197,11 +197,11 @@ module _ (room : ℕ) where
     unfoldable pub chunk : Chunk → State → Result State
     chunk (raw x w) s = raw_chunk x w s
     chunk line_break s = write room (bytes "\n") s
-    chunk paragraph s = if full then write room (paragraph_text s.lay) s else gives (with_lay (λ l. with_skip (skip_paragraph l.skip) l) s)
+    chunk paragraph s = when full then write room (paragraph_text s.lay) s else gives (with_lay (λ l. with_skip (skip_paragraph l.skip) l) s)
 
     -- a record: 'It hides text only'
     unfoldable pub turn : Turn State
-    turn p q (kind.Text st) x ts s = if hides s.lay.skip then gives s else (change st s >>= body full (anywhere chunk) (split x) >>= body_ends)
+    turn p q (kind.Text st) x ts s = when hides s.lay.skip then gives s else (change st s >>= body full (anywhere chunk) (split x) >>= body_ends)
     turn p q (kind.Start b) x ts s = change style.Text s >>= λ s₁. started p b (term_ends ts) s₁.lay >>= λ o. begin o s₁
     turn p q (kind.End b) x ts s = change style.Text s >>= λ s₁. ended p b s₁.lay >>= λ o. close o s₁
     turn p q kind.Unknown x ts s = gives s

@@ -1,5 +1,5 @@
 -- The innermost open block, a block's text and a chunk's text. Assumes nothing.
-use Rattle.html_tags.proofs.Names.{ℕ, ◌-◌, ◌≤◌, ◌<◌, min, ◌≡◌, refl, sym, ap, ◌∙◌, Bool, true, false, List, [], ◌∷◌, if◌then◌else◌, bytes, encode}
+use Rattle.html_tags.proofs.Names.{ℕ, ◌-◌, ◌≤◌, ◌<◌, min, ◌≡◌, refl, sym, ap, ◌∙◌, Bool, true, false, List, [], ◌∷◌, when◌then◌else◌, bytes, encode}
 use Rattle.html_tags.proofs.Names.{entity, escaped, in_list, br, wrote_then}
 use mathlib.Core.Logic.{⊎_elim}
 use lib.Dec.{eqb}
@@ -23,14 +23,14 @@ use Rattle.html_rules.specs.Marks.{separated, escaped_by}
 use Rattle.html_tags.specs.InnerParts.{chunk_text, closed, headed, block_text}
 
 pub br-is : 0x3C ∷ 0x62 ∷ 0x72 ∷ 0x3E ∷ 0x0A ∷ [] ≡ br
-unfolding br bytes encode if◌then◌else◌
+unfolding br bytes encode when◌then◌else◌
 br-is = refl
 
 -- A block's text: the style is closed, and the tag follows
 module _ (limit : ℕ) (st : Style) (b : Block) (tag : List ℕ) (i : ℕ) (is : i ≡ index b) (old mid new : List ℕ) (len n r : ℕ)
     (closes : seen mid n ≡ (seen old len >>= closed limit st)) where
   pub block-other : (m : ℕ) → m ≡ limit → (i ≡ 0 → ⊥) → seen new r ≡ (seen mid n >>= extended m tag) → seen new r ≡ (seen old len >>= block_text limit st b tag)
-  unfolding block_text headed if◌then◌else◌ ◌>>=◌
+  unfolding block_text headed when◌then◌else◌ ◌>>=◌
   block-other m s h w =
       wrote_then old mid len n (closed limit st) (headed limit b tag) (seen new r) closes
       (w ∙ ap (λ (k : ℕ). seen mid n >>= extended k tag) s ∙ bind_same (seen mid n) (extended limit tag) (headed limit b tag) (λ x. rw (← is, ne_eqb i 0 h)))
@@ -38,7 +38,7 @@ module _ (limit : ℕ) (st : Style) (b : Block) (tag : List ℕ) (i : ℕ) (is :
   pub block_header : (apart : List ℕ) (k m o : ℕ) → m ≡ limit → o ≡ limit → i ≡ 0 → seen apart k
       ≡ (seen mid n >>= separated m (0x3C ∷ 0x62 ∷ 0x72 ∷ 0x3E ∷ 0x0A ∷ []))
       → seen new r ≡ (seen apart k >>= extended o tag) → seen new r ≡ (seen old len >>= block_text limit st b tag)
-  unfolding block_text headed if◌then◌else◌
+  unfolding block_text headed when◌then◌else◌
   block_header apart k m o s t h v w =
       wrote_then old mid len n (closed limit st) (headed limit b tag) (seen new r) closes
       (wrote_then mid apart n k (separated limit br) (extended limit tag) (seen new r)
@@ -49,7 +49,7 @@ module _ (limit : ℕ) (st : Style) (b : Block) (tag : List ℕ) (i : ℕ) (is :
 -- A chunk's text
 module _ (strict : Bool) where
   space_kept : (t : Bool) → 0x20 ∷ [] ≡ escaped t (0x20 ∷ [])
-  unfolding escaped_by entity if◌then◌else◌
+  unfolding escaped_by entity when◌then◌else◌
   space_kept true = refl
   space_kept false = refl
 

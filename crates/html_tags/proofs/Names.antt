@@ -1,6 +1,6 @@
 -- Names of other crates and libraries that the proofs of this crate cite, by where they are from.
 pub use Prim.Native.Nat.{◌-◌, ◌<◌, ◌≤◌, min, ℕ}
-unfoldable pub use Rattle.base.specs.Choice.{if◌then◌else◌}
+unfoldable pub use Rattle.base.specs.Choice.{when◌then◌else◌}
 pub use Rattle.html_rules.proofs.Writes.{wrote_same, wrote_then}
 pub use Rattle.html_rules.specs.Html.{closing, end_tag, escaped, in_list, opening, start_tag}
 unfoldable pub use Rattle.html_rules.specs.Html.{br, entity}

@@ -1,6 +1,6 @@
 -- What the functions inside this crate promise each other; no rule of 01 stands here.
 use Rattle.std.specs.Prelude.{ℕ, Bool, List, ◌++◌, eqb}
-use Rattle.base.specs.Choice.{if◌then◌else◌}
+use Rattle.base.specs.Choice.{when◌then◌else◌}
 use Rattle.base.specs.Result.{Result, gives, ◌>>=◌}
 use Rattle.utf8.specs.Utf8.{bytes}
 use Rattle.room.specs.Room.{extended}
@@ -28,7 +28,7 @@ closed limit st x = extended limit (closing st ++ opening style.Text) x
 
 -- a tag, for a Header in a line of its own
 unfoldable pub headed : ℕ → Block → List ℕ → List ℕ → Result (List ℕ)
-headed limit b tag x = (if eqb (index b) 0 then separated limit br x else gives x) >>= extended limit tag
+headed limit b tag x = (when eqb (index b) 0 then separated limit br x else gives x) >>= extended limit tag
 
 -- the text after a block's start or end
 unfoldable pub block_text : ℕ → Style → Block → List ℕ → List ℕ → Result (List ℕ)

@@ -1,7 +1,7 @@
 -- A place of the document in the joined form, as the code finds it. Assumes nothing.
 use Rattle.joined.proofs.Names.{ℕ, ◌+◌, ◌-◌, ◌*◌, ◌≤◌, ◌<◌, ◌≡◌, sym, ap, ◌∙◌, List, leb, length, take, drop, arith, le-leb, lt-leb, if_true}
 use Rattle.joined.proofs.Names.{if_false, little, size, records_at, heads_from, heads_in, heads_next, heads_none, size-take}
-use Rattle.base.specs.Choice.{if◌then◌else◌}
+use Rattle.base.specs.Choice.{when◌then◌else◌}
 use Rattle.joined_rules.specs.Places.{place_from, place_in, byte_from, byte_in}
 
 -- The record at q stands at `at` in the document, and from there on the rules find what they find from the start.
@@ -55,7 +55,7 @@ module _ {j : List ℕ} {p q at from : ℕ} (w : Finding j p q at from) where
 
   module _ (l : q < length j) {n : ℕ} (e : n ≡ little (take 4 (drop q j))) where
     abbrev step : ℕ → ℕ
-    step m = if leb p (at + (6 + m)) then from + (p - (at + 6)) else byte_from (from + m) (at + (6 + m)) (heads_from j (q + 6)) p
+    step m = when leb p (at + (6 + m)) then from + (p - (at + 6)) else byte_from (from + m) (at + (6 + m)) (heads_from j (q + 6)) p
 
     finds_here : step n ≡ byte_in j p
     unfolding byte_from size

@@ -8,7 +8,7 @@ use lib.ListN.{drop, length-drop, length-take, drop_of_length-le}
 use lib.Seq.{length-take-le, drop-drop, take-take, take_all, take-nil, drop-length}
 use borrow.Author.Tests.{le-leb, lt-leb, le-ltb, lt-ltb, eq-eqb, ne_eqb, leb-true}
 use Rattle.base.specs.Bytes.{part}
-use Rattle.base.specs.Choice.{if◌then◌else◌}
+use Rattle.base.specs.Choice.{when◌then◌else◌}
 use Rattle.base.specs.Result.{Result, gives, refused, ◌>>=◌}
 use Rattle.base.proofs.Choice.{if_true, if_false, and_left, and_right}
 use Rattle.base.proofs.Parts.{part_over, part_end}
@@ -76,11 +76,11 @@ module _ (j : List ℕ) (from to : ℕ) (h : from ≤ to) (l : to ≤ length j) 
     unfolding shares
     share-past m = sym (if_false _ _ (lt-leb n (length (part j from to)) (omega (arith, part_length))))
 
-    share_in : n ≤ to - from → shares p n (part j from to) stack ≡ (if utf8 (part j from (from + n)) then gives stack else refused 5 p)
+    share_in : n ≤ to - from → shares p n (part j from to) stack ≡ (when utf8 (part j from (from + n)) then gives stack else refused 5 p)
     unfolding shares
     share_in m =
         if_true _ _ (le-leb n (length (part j from to)) (omega (arith, part_length)))
-        ∙ ap (λ (x : List ℕ). if utf8 x then gives stack else refused 5 p) (part-share n m)
+        ∙ ap (λ (x : List ℕ). when utf8 x then gives stack else refused 5 p) (part-share n m)
 
     pub share_valid : n ≤ to - from → utf8 (part j from (from + n)) ≡ true → gives stack ≡ shares p n (part j from to) stack
     share_valid m e = sym (share_in m ∙ if_true _ _ e)
@@ -242,13 +242,13 @@ module _ {j : List ℕ} {to : ℕ} {stack : List ℕ} {depth from at : ℕ} (w :
 -- 1 and 17
 
 pub check_long : (j : List ℕ) → 32_772 < length j → refused 1 0 ≡ check_joined j
-unfolding check_joined short_joined if◌then◌else◌ ◌>>=◌
+unfolding check_joined short_joined when◌then◌else◌ ◌>>=◌
 check_long j h = rw (lt-ltb 32_772 (length j) h)
 
 pub check-textless : (j : List ℕ) → length j ≤ 32_772 → has_text j ≡ false → refused 17 0 ≡ check_joined j
-unfolding check_joined short_joined whole_text if◌then◌else◌ ◌>>=◌
+unfolding check_joined short_joined whole_text when◌then◌else◌ ◌>>=◌
 check-textless j h e = rw (le-ltb 32_772 (length j) h, e)
 
 pub check-reads : (j : List ℕ) → length j ≤ 32_772 → has_text j ≡ true → reads_joined j ≡ check_joined j
-unfolding check_joined short_joined whole_text if◌then◌else◌ ◌>>=◌
+unfolding check_joined short_joined whole_text when◌then◌else◌ ◌>>=◌
 check-reads j h e = rw (le-ltb 32_772 (length j) h, e)

@@ -5,7 +5,7 @@ use mathlib.Core.List.{List}
 use lib.Dec.{leb}
 use native.Mathlib.Omega.{arith}
 use borrow.Author.Tests.{leb-true}
-use Rattle.base.specs.Choice.{if◌then◌else◌}
+use Rattle.base.specs.Choice.{when◌then◌else◌}
 use Rattle.base.specs.Result.{refused}
 use Rattle.base.proofs.Choice.{if_false, and_left, and_right, not-passed}
 use Rattle.refusal.specs.Numbers.{refusal_number, refusal_place}
@@ -18,12 +18,12 @@ use Rattle.joined_rules.specs.Places.{placed, place_in, byte_in, back_in, turned
 module _ (j : List ℕ) (n p : ℕ) where
   -- 10
   pub turned_byte : (q : ℕ) → n ≡ 10 → q ≡ byte_in j p → q ≡ turned (back_in j) n p
-  unfolding turned placed back_in if◌then◌else◌
+  unfolding turned placed back_in when◌then◌else◌
   turned_byte q e h = rw e h
 
   -- 11
   pub turned_record : (q : ℕ) → n ≡ 11 → q ≡ place_in j p → q ≡ turned (back_in j) n p
-  unfolding turned placed back_in if◌then◌else◌
+  unfolding turned placed back_in when◌then◌else◌
   turned_record q e h = rw e h
 
   -- any other

@@ -4,7 +4,7 @@ use Rattle.joined_render.proofs.Names.{le-ltb, lt-ltb, leb-true, extended_in, le
 use mathlib.Core.Bool.{true, false, false≢true}
 use mathlib.Core.List.{List, []}
 use lib.Dec.{leb}
-use Rattle.base.specs.Choice.{if◌then◌else◌}
+use Rattle.base.specs.Choice.{when◌then◌else◌}
 use Rattle.base.specs.Result.{Result, gives, refused, measured, ◌>>=◌}
 use Rattle.base.proofs.Choice.{and_left}
 use Rattle.base.proofs.Results.{refused-gives, gives_same}
@@ -80,11 +80,11 @@ module _ (j buffer new : List ℕ) (m : Rendered) (l : length j ≤ length buffe
 -- 1, 17 and 9 come before
 
 check_long : (j : List ℕ) → 32_772 < length j → check_joined j ≡ refused 1 0
-unfolding check_joined short_joined if◌then◌else◌ ◌>>=◌
+unfolding check_joined short_joined when◌then◌else◌ ◌>>=◌
 check_long j h = rw (lt-ltb 32_772 (length j) h)
 
 check-textless : (j : List ℕ) → length j ≤ 32_772 → has_text j ≡ false → check_joined j ≡ refused 17 0
-unfolding check_joined short_joined whole_text if◌then◌else◌ ◌>>=◌
+unfolding check_joined short_joined whole_text when◌then◌else◌ ◌>>=◌
 check-textless j few e = rw (le-ltb 32_772 (length j) few, e)
 
 -- four bytes stand where 17 does not arise
@@ -93,7 +93,7 @@ unfolding has_text
 text-four j e = leb-true 4 (length j) (and_left (leb 4 (length j)) _ e)
 
 check-reads : (j : List ℕ) → length j ≤ 32_772 → has_text j ≡ true → reads_joined j ≡ check_joined j
-unfolding check_joined short_joined whole_text if◌then◌else◌ ◌>>=◌
+unfolding check_joined short_joined whole_text when◌then◌else◌ ◌>>=◌
 check-reads j few e = rw (le-ltb 32_772 (length j) few, e)
 
 module _ (room : ℕ) (j : List ℕ) where
@@ -108,17 +108,17 @@ module _ (room : ℕ) (j : List ℕ) where
   checked_refused e asked.Roff k = rw e
 
   pub joined_long : (a : Asked) → 32_772 < length j → renders_joined a room j ≡ refused 1 0
-  unfolding joined_console joined_console_by short_joined if◌then◌else◌ ◌>>=◌
+  unfolding joined_console joined_console_by short_joined when◌then◌else◌ ◌>>=◌
   joined_long a h = checked_refused (check_long j h) a λ set e. rw (lt-ltb 32_772 (length j) h)
 
   module _ (few : length j ≤ 32_772) where
     pub joined-textless : (a : Asked) → has_text j ≡ false → renders_joined a room j ≡ refused 17 0
-    unfolding joined_console joined_console_by short_joined whole_text if◌then◌else◌ ◌>>=◌
+    unfolding joined_console joined_console_by short_joined whole_text when◌then◌else◌ ◌>>=◌
     joined-textless a e = checked_refused (check-textless j few e) a λ set _. rw (le-ltb 32_772 (length j) few, e)
 
     module _ (e : has_text j ≡ true) where
       pub joined-wide : (a : Asked) → too_wide a ≡ true → renders_joined a room j ≡ refused 9 0
-      unfolding joined_console joined_console_by short_joined whole_text narrow if◌then◌else◌ ◌>>=◌
+      unfolding joined_console joined_console_by short_joined whole_text narrow when◌then◌else◌ ◌>>=◌
       joined-wide (asked.Console set) h = rw (le-ltb 32_772 (length j) few, e, h)
       joined-wide (asked.Html full sheet) h = absurd (false≢true h)
       joined-wide (asked.StrictHtml full sheet) h = absurd (false≢true h)
@@ -126,7 +126,7 @@ module _ (room : ℕ) (j : List ℕ) where
       joined-wide asked.Roff h = absurd (false≢true h)
 
       pub joined-refused : (a : Asked) → too_wide a ≡ false → {n p : ℕ} → check_joined j ≡ refused n p → renders_joined a room j ≡ refused n p
-      unfolding joined_console joined_console_by short_joined whole_text narrow if◌then◌else◌ ◌>>=◌
+      unfolding joined_console joined_console_by short_joined whole_text narrow when◌then◌else◌ ◌>>=◌
       joined-refused a h f =
           checked_refused f a λ set g. rw (le-ltb 32_772 (length j) few, e, sym (ap too_wide g) ∙ h, check-reads j few e ∙ f)
 

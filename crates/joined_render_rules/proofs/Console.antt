@@ -1,5 +1,5 @@
 -- The console's turn is blind to places, so records that agree but for places have the same console text. Assumes nothing.
-use Rattle.joined_render_rules.proofs.Names.{ℕ, ◌+◌, ◌≡◌, refl, ap, ap₂, Bool, List, if◌then◌else◌, Token, is_end, Block, Chunk, raw, paragraph}
+use Rattle.joined_render_rules.proofs.Names.{ℕ, ◌+◌, ◌≡◌, refl, ap, ap₂, Bool, List, when◌then◌else◌, Token, is_end, Block, Chunk, raw, paragraph}
 use Rattle.joined_render_rules.proofs.Names.{line_break, with_out, Settings}
 use Rattle.base.specs.Stack.{top}
 use Rattle.white.specs.White.{trim}
@@ -21,7 +21,7 @@ twins_empty (more (twin p q a b k x) (more (twin p' q' a' b' k' x') ws)) = refl
 twins_gap : {ts us : List Token} → Twins ts us → gap_ahead ts ≡ gap_ahead us
 unfolding gap_ahead
 twins_gap none = refl
-twins_gap (more (twin p q a b k x) ws) = ap₂ (λ (y : Bool) (z : Bool). if is_end 3 k then y else z) (twins_empty ws) (twins_gap ws)
+twins_gap (more (twin p q a b k x) ws) = ap₂ (λ (y : Bool) (z : Bool). when is_end 3 k then y else z) (twins_empty ws) (twins_gap ws)
 
 twins_terms : {ts us : List Token} → Twins ts us → (t : Terms) → terms ts t ≡ terms us t
 unfolding terms

@@ -1,5 +1,5 @@
 -- 'Both forms render alike': the joined form gives the document's text, or its refusal with the place in the joined form. Assumes nothing.
-use Rattle.joined_render_rules.proofs.Names.{ℕ, ◌≡◌, refl, ap, ◌∙◌, Bool, List, [], length, if◌then◌else◌, Token, tokens, Settings}
+use Rattle.joined_render_rules.proofs.Names.{ℕ, ◌≡◌, refl, ap, ◌∙◌, Bool, List, [], length, when◌then◌else◌, Token, tokens, Settings}
 use borrow.Author.Tests.{le-ltb}
 use Rattle.base.specs.Result.{Result, gives, ◌>>=◌}
 use Rattle.document.specs.Document.{short, check}
@@ -38,7 +38,7 @@ module _ (j x : List ℕ) (e : check_joined j ≡ gives x) where
 
     console_alike_lem : (measure : List ℕ → ℕ) (set : Settings)
         → joined_console_by measure set room j ≡ relocated (back_in j) (console_by measure set room (unjoined j))
-    unfolding joined_console_by console_by short_joined short whole_text ◌>>=◌ if◌then◌else◌
+    unfolding joined_console_by console_by short_joined short whole_text ◌>>=◌ when◌then◌else◌
     console_alike_lem measure set =
         let c = check_joined-gives j x e in
         let d = check-gives (unjoined j) [] (unjoined_accepted j x e) in

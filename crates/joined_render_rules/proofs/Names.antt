@@ -1,6 +1,6 @@
 -- Names of other crates and libraries that the proofs of this crate cite, by where they are from.
 pub use Prim.Native.Nat.{◌+◌, ◌≤◌, ℕ}
-unfoldable pub use Rattle.base.specs.Choice.{if◌then◌else◌}
+unfoldable pub use Rattle.base.specs.Choice.{when◌then◌else◌}
 pub use Rattle.console_rules.specs.declared.Settings.{Settings}
 pub use Rattle.records.specs.Records.{Token, is_end, tokens}
 pub use Rattle.records.specs.declared.Block.{Block}

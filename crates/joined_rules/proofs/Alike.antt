@@ -1,6 +1,6 @@
 -- A walk uses its records' places for nothing but refusals: so two walks over records that agree but for places give the same, or are
 -- refused by the same number at places that belong together. Said once, for any state and any turn. Assumes nothing.
-use Rattle.joined_rules.proofs.Names.{ℕ, ◌+◌, ◌≤◌, ◌≡◌, refl, sym, ap, ◌∙◌, Bool, true, false, List, [], ◌∷◌, eqb, length, if◌then◌else◌, Result}
+use Rattle.joined_rules.proofs.Names.{ℕ, ◌+◌, ◌≤◌, ◌≡◌, refl, sym, ap, ◌∙◌, Bool, true, false, List, [], ◌∷◌, eqb, length, when◌then◌else◌, Result}
 use Rattle.joined_rules.proofs.Names.{gives, refused, ◌>>=◌, if_true, if_false, Token, Kind, extended, placed, turned, relocated}
 use Rattle.splitter.specs.Split.{Placed}
 use Rattle.splitter.proofs.Places.{Each}
@@ -34,8 +34,8 @@ alike_relocated R back k (moved n p q e h) = ap (refused n) (sym (if_true (back 
 
 -- a choice by a test that no place is part of
 module _ {A : Type 0} (R : ℕ → ℕ → ℕ → Type 0) where
-  pub alike_if : (c : Bool) {a b x y : Result A} → Alike R a x → Alike R b y → Alike R (if c then a else b) (if c then x else y)
-  unfolding if◌then◌else◌
+  pub alike_if : (c : Bool) {a b x y : Result A} → Alike R a x → Alike R b y → Alike R (when c then a else b) (when c then x else y)
+  unfolding when◌then◌else◌
   alike_if true h k = h
   alike_if false h k = k
 

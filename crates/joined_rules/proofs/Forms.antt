@@ -1,7 +1,7 @@
 -- Over and back: 'Moving an accepted old document over and back yields its bytes, and the same from the new side'. Assumes nothing.
 use Rattle.joined_rules.proofs.Names.{ℕ, zero, suc, ◌+◌, ◌-◌, ◌*◌, ◌/◌, ◌%◌, ◌≤◌, ◌<◌, ◌≡◌, refl, sym, ap, ap₂, ◌∙◌, true, List, [], ◌∷◌, ◌++◌, leb}
 use Rattle.joined_rules.proofs.Names.{ltb, length, take, drop, get_or, length-append, length-drop, take-append-drop, take_at, drop_at, length-take-le}
-use Rattle.joined_rules.proofs.Names.{drop-drop, arith, le-leb, leb-true, ltb-false, le-ltb, if◌then◌else◌, Result, gives, ◌>>=◌, if_true, if_false}
+use Rattle.joined_rules.proofs.Names.{drop-drop, arith, le-leb, leb-true, ltb-false, le-ltb, when◌then◌else◌, Result, gives, ◌>>=◌, if_true, if_false}
 use Rattle.joined_rules.proofs.Names.{and_left, and_right, and_both, gives_same, bind_gives, if_gives, else_gives, little, size, document_text}
 use Rattle.joined_rules.proofs.Names.{little_bytes, reads, open_blocks, short, closed, check, check-gives}
 use native.Mathlib.Nat.{div-add-mod'}
@@ -190,7 +190,7 @@ module _ (j x : List ℕ) (e : check_joined j ≡ gives x) where
   unjoined-text = records-text joined_shared 0
 
   pub unjoined_accepted : check (unjoined j) ≡ gives []
-  unfolding check short open_blocks closed if◌then◌else◌ ◌>>=◌
+  unfolding check short open_blocks closed when◌then◌else◌ ◌>>=◌
   unjoined_accepted = rw (le-ltb 32_768 (length (unjoined j)) (omega (arith, unjoined-length, (check_joined-gives j x e).0)), ran.2 0)
 
   front : Bytes j → little_bytes 4 (length (text_in j)) ≡ take 4 j

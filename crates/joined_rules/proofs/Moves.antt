@@ -1,7 +1,7 @@
 -- Moving over and back. Assumes nothing.
 use Rattle.joined_rules.proofs.Names.{ℕ, zero, suc, ◌+◌, ◌≤◌, ◌≡◌, refl, sym, ap, ap₂, ◌∙◌, true, List, [], ◌∷◌, ◌++◌, leb, eqb, length, take, drop}
 use Rattle.joined_rules.proofs.Names.{length-append, length-take, length-drop, take-append-drop, take_at, drop_at, length-take-le, drop-drop, arith}
-use Rattle.joined_rules.proofs.Names.{le-leb, leb-true, eqb-true, eq-eqb, if◌then◌else◌, Result, gives, ◌>>=◌, popped, if_true, if_false}
+use Rattle.joined_rules.proofs.Names.{le-leb, leb-true, eqb-true, eq-eqb, when◌then◌else◌, Result, gives, ◌>>=◌, popped, if_true, if_false}
 use Rattle.joined_rules.proofs.Names.{refused-gives, gives_same, bind_gives, if_gives, else_gives, index, size, token_at, tokens, record_fits, joined}
 use Rattle.joined_rules.proofs.Names.{Kind, drop_past, opens, closes, bodiless, accept, first, reads, closed, first_gives}
 use Rattle.utf8.specs.Utf8.{utf8}
@@ -167,7 +167,7 @@ shares_accepted (h ∷ hs) m q text stack x (at_most l w) e =
 -- and the other way round
 pub document_accepted : {text : List ℕ} {hs : List (List ℕ)} (w : Shared text hs) (m p q : ℕ) (stack : List ℕ)
     → reads p 0 stack (records text hs) ≡ gives [] → reads_shares m q text stack hs ≡ gives []
-unfolding reads_shares first_share records reads closed used if◌then◌else◌ ◌>>=◌
+unfolding reads_shares first_share records reads closed used when◌then◌else◌ ◌>>=◌
 document_accepted none m p q stack e = let z : stack ≡ [] = gives_same e in rw z
 document_accepted (more {h} {text} {hs} six l w) m p q stack e =
     let n = length-take-le (size h) text l in

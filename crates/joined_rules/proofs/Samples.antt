@@ -1,5 +1,5 @@
 -- The answers on the samples, a document moved over and back, and places of the one form in the other: computed. Assumes nothing.
-use Rattle.joined_rules.proofs.Names.{ℕ, ◌≡◌, refl, List, [], ◌∷◌, map, if◌then◌else◌, gives, refused, ◌>>=◌, top, pushed, popped, Token, little}
+use Rattle.joined_rules.proofs.Names.{ℕ, ◌≡◌, refl, List, [], ◌∷◌, map, when◌then◌else◌, gives, refused, ◌>>=◌, top, pushed, popped, Token, little}
 use Rattle.joined_rules.proofs.Names.{styles, blocks, kind_of, size, token_at, tokens, record_fits, joined, document_text, little_bytes, head, opens}
 use Rattle.joined_rules.proofs.Names.{closes, bodiless, accept, first, reads, open_blocks, short, closed, check, extended, place_from, byte_from}
 use Rattle.joined_rules.proofs.Names.{place_in, byte_in, back_in}
@@ -16,11 +16,11 @@ use Rattle.joined_rules.specs.Samples.{Sample, form_of, share, mono, mono_end, s
 pub samples_hold : map (λ (s : Sample). check_joined (form_of s)) samples ≡ map (λ (s : Sample). s.answer) samples
 unfolding samples form_of share mono mono_end bytes encode table row_of little_bytes head concat cut head_kind has_text text_in records_at heads_in lengthless
     shares accept_share first_share used reads_shares short_joined whole_text reads_joined check_joined kind_of styles blocks little size opens closes closed
-    top pushed popped if◌then◌else◌ ◌>>=◌
+    top pushed popped when◌then◌else◌ ◌>>=◌
 samples_hold = refl
 
 pub textless_hold : map check_joined textless ≡ refused 17 0 ∷ refused 17 0 ∷ refused 17 0 ∷ refused 17 0 ∷ []
-unfolding textless check_joined short_joined whole_text has_text size little if◌then◌else◌ ◌>>=◌
+unfolding textless check_joined short_joined whole_text has_text size little when◌then◌else◌ ◌>>=◌
 textless_hold = refl
 
 -- 01's `a b`, moved over and back, in rooms that just hold it and in rooms of one byte less
@@ -33,12 +33,12 @@ form = 3 ∷ 0 ∷ 0 ∷ 0 ∷ 0x61 ∷ 0x20 ∷ 0x62 ∷ 3 ∷ 0 ∷ 0 ∷ 0 �
 
 over : map (λ (n : ℕ). joins_into n document) (13 ∷ 12 ∷ []) ≡ gives form ∷ refused 13 0 ∷ []
 unfolding document form joins_into joins joined_form document_text heads_of joined tokens token_at cut concat little_bytes extended check short open_blocks
-    reads first accept bodiless record_fits closed opens closes kind_of styles blocks little size table row_of if◌then◌else◌ ◌>>=◌
+    reads first accept bodiless record_fits closed opens closes kind_of styles blocks little size table row_of when◌then◌else◌ ◌>>=◌
 over = refl
 
 back : map (λ (n : ℕ). unjoins_into n form) (9 ∷ 8 ∷ []) ≡ gives document ∷ refused 13 0 ∷ []
 unfolding document form unjoins_into unjoins unjoined records text_in heads_in records_at cut extended check_joined short_joined whole_text has_text
-    reads_joined reads_shares first_share accept_share shares used head_kind closed kind_of styles blocks little size table row_of if◌then◌else◌ ◌>>=◌
+    reads_joined reads_shares first_share accept_share shares used head_kind closed kind_of styles blocks little size table row_of when◌then◌else◌ ◌>>=◌
 back = refl
 
 -- `a`, an empty Mono, `b`: its records have their places and their texts' starts in the form; a refusal of the document's `b` or of its record there
@@ -56,11 +56,11 @@ listed =
 
 two_listed : tokens_in two ≡ listed
 unfolding two listed form_of share mono mono_end little_bytes head concat tokens_in tokens_shared text_in heads_in records_at cut head_kind kind_of styles
-    blocks little size if◌then◌else◌
+    blocks little size when◌then◌else◌
 two_listed = refl
 
 -- the Mono's start stands at 7 in the document, `b` at 25 in the record at 19, and its end at 26
 two_places : back_in two 11 7 ∷ back_in two 11 19 ∷ back_in two 10 25 ∷ back_in two 10 26 ∷ [] ≡ 12 ∷ 24 ∷ 5 ∷ 6 ∷ []
 unfolding two form_of share mono mono_end little_bytes head concat back_in place_in byte_in place_from byte_from heads_in records_at cut little size
-    if◌then◌else◌
+    when◌then◌else◌
 two_places = refl

@@ -1,7 +1,7 @@
 -- The joined form (02, point 7): 'four-byte length of the text, the text, then for each old record its four-byte length and two-byte kind,
 -- bodies taken out'. Its refusals, its records, and moving over and back.
 use Rattle.std.specs.Prelude.{ℕ, zero, suc, ◌+◌, ◌-◌, Bool, ◌&&◌, List, [], ◌∷◌, ◌++◌, leb, ltb, eqb, length, take, drop}
-use Rattle.base.specs.Choice.{if◌then◌else◌}
+use Rattle.base.specs.Choice.{when◌then◌else◌}
 use Rattle.base.specs.Result.{Result, gives, refused, ◌>>=◌}
 use Rattle.utf8.specs.Utf8.{utf8}
 use Rattle.records.specs.Records.{Token, little, kind_of, index, size, order, document_text}
@@ -54,11 +54,11 @@ heads_in j = heads_from j (records_at j)
 
 -- 'with 4 on any length but 0'
 unfoldable pub lengthless : ℕ → ℕ → Result (List ℕ) → Result (List ℕ)
-lengthless p n r = if eqb n 0 then r else refused 4 p
+lengthless p n r = when eqb n 0 then r else refused 4 p
 
 -- '18 when a record's text passes the end of the joined text, tested before 5 at that record'; '5 on each text's share'
 unfoldable pub shares : ℕ → ℕ → List ℕ → List ℕ → Result (List ℕ)
-shares p n text stack = if leb n (length text) then (if utf8 (take n text) then gives stack else refused 5 p) else refused 18 p
+shares p n text stack = when leb n (length text) then (when utf8 (take n text) then gives stack else refused 5 p) else refused 18 p
 
 -- a record by its kind and its length, where some text is left: the blocks open after it. 3, 6 and 7 as in the old form.
 unfoldable pub accept_share : ℕ → Kind → ℕ → List ℕ → List ℕ → Result (List ℕ)
@@ -69,11 +69,11 @@ accept_share p (kind.End b) n text stack = lengthless p n (closes p (index b) st
 
 -- a record: '2 (only for under 6 bytes left)', then 3, 4, 18, 5, 6, 7
 unfoldable pub first_share : ℕ → List ℕ → List ℕ → List ℕ → Result (List ℕ)
-first_share p text stack h = if leb 6 (length h) then accept_share p (head_kind h) (size h) text stack else refused 2 p
+first_share p text stack h = when leb 6 (length h) then accept_share p (head_kind h) (size h) text stack else refused 2 p
 
 -- '18 .. when text is left over, tested after 8 with the document's length as place', of a joined form of m bytes
 unfoldable pub used : ℕ → List ℕ → List ℕ → Result (List ℕ)
-used m text stack = if eqb (length text) 0 then gives stack else refused 18 m
+used m text stack = when eqb (length text) 0 then gives stack else refused 18 m
 
 -- record by record, from place p on, 2 to 7 and 18; then 8, then 18: of a joined form of m bytes
 unfoldable pub reads_shares : ℕ → ℕ → List ℕ → List ℕ → List (List ℕ) → Result (List ℕ)
@@ -82,11 +82,11 @@ reads_shares m p text stack (h ∷ hs) = first_share p text stack h >>= λ after
 
 -- 'Limit 32,772 bytes under 1, tested first'
 unfoldable pub short_joined : List ℕ → Result (List ℕ)
-short_joined j = if ltb 32_772 (length j) then refused 1 0 else gives j
+short_joined j = when ltb 32_772 (length j) then refused 1 0 else gives j
 
 -- '17 with place 0 .., tested after 1 and before 9'
 unfoldable pub whole_text : List ℕ → Result (List ℕ)
-whole_text j = if has_text j then gives j else refused 17 0
+whole_text j = when has_text j then gives j else refused 17 0
 
 -- what follows 1 and 17, and 9 in the console
 unfoldable pub reads_joined : List ℕ → Result (List ℕ)

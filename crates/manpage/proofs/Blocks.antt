@@ -1,5 +1,5 @@
 -- What a block's start or end pushes, and what it does to capture. Assumes nothing.
-use Rattle.manpage.proofs.Names.{ℕ, ◌≡◌, refl, sym, Bool, true, false, false≢true, List, [], eqb, if◌then◌else◌, gives}
+use Rattle.manpage.proofs.Names.{ℕ, ◌≡◌, refl, sym, Bool, true, false, false≢true, List, [], eqb, when◌then◌else◌, gives}
 use Rattle.manpage.proofs.Names.{refused, if_true, if_false, bytes, index, Block, Style, Roff, Piece, Followed, pushed_none, Locals, Outcome}
 use Rattle.manpage.proofs.Names.{subsection, heading, started, ended, locals, Follows, is_heading, is_term_ref, opening, closing, closed}
 use Rattle.records.specs.declared.Block.TheVariants as block
@@ -102,7 +102,7 @@ pub record Leaves (o : Outcome) (kept : List ℕ) (on : Bool) : Type 0 where
 module _ (p : ℕ) (l : Locals) where
   pub started-gives : (b : Block) → is_term_ref (kind.Start b) ≡ false
       → (o : Outcome) × (started p b l ≡ gives o) × Leaves o l.kept (opening b l.capture)
-  unfolding started opening if◌then◌else◌
+  unfolding started opening when◌then◌else◌
   started-gives block.Header e = (_, refl, record { keeps = refl; captures = refl })
   started-gives block.Section2 e = (_, refl, record { keeps = refl; captures = refl })
   started-gives block.Section3 e = (_, refl, record { keeps = refl; captures = refl })
@@ -118,7 +118,7 @@ module _ (p : ℕ) (l : Locals) where
 
   pub ended-gives : (b : Block) → is_term_ref (kind.End b) ≡ false
       → (o : Outcome) × (ended p b l ≡ gives o) × Leaves o (closed b l.kept) (closing b l.capture)
-  unfolding ended heading closing closed if◌then◌else◌
+  unfolding ended heading closing closed when◌then◌else◌
   ended-gives block.Header e = (_, refl, record { keeps = refl; captures = refl })
   ended-gives block.Section2 e = (_, refl, record { keeps = refl; captures = refl })
   ended-gives block.Section3 e = (_, refl, record { keeps = refl; captures = refl })

@@ -1,7 +1,7 @@
 -- Captured headings: the text between two places of a document, upper-cased, and how it is written. Assumes nothing.
 use Rattle.manpage.proofs.Names.{ℕ, suc, ◌+◌, ◌-◌, ◌≤◌, ◌<◌, ◌≡◌, refl, sym, ap, ◌∙◌, Bool, true, false, not, ◌&&◌, false≢true, ⊎_elim, List, [], ◌∷◌}
 use Rattle.manpage.proofs.Names.{◌++◌, ltb, length, drop, get_or, drop_of_length-le, drop-cons, arith, lt-ltb, le-ltb, ltb-true, ltb-false, part}
-use Rattle.manpage.proofs.Names.{if◌then◌else◌, ◌>>=◌, if_true, if_false, pick, and_left, and_right, le_or_lt, part_none, Token, token_at, tokens_from}
+use Rattle.manpage.proofs.Names.{when◌then◌else◌, ◌>>=◌, if_true, if_false, pick, and_left, and_right, le_or_lt, part_none, Token, token_at, tokens_from}
 use Rattle.manpage.proofs.Names.{Read, Head, Kind, read_next, empty, seen, extended, utf8, encode, bytes, Valid, valid_both, upper, upper-none}
 use Rattle.manpage.proofs.Names.{upper_both, upper_ascii, upper-empty, Roff, escape, line_start, piece, escape_all, line_after, argument, Pushed, puts}
 use Rattle.manpage.proofs.Names.{piece-put, pushed_then, pushed-same, argument_pieces, is_text, record_text, texts_valid, text_to, between, beginning}
@@ -33,11 +33,11 @@ upper-end s i h = ap upper (drop_of_length-le s h) ∙ upper-none
 -- Where capture began
 
 pub begins-before : (c : Bool) (from here : ℕ) → c ≡ true → from ≡ beginning c from here
-unfolding beginning if◌then◌else◌
+unfolding beginning when◌then◌else◌
 begins-before c from here e = rw e
 
 pub begins-here : (c : Bool) (from here : ℕ) → c ≡ false → here ≡ beginning c from here
-unfolding beginning if◌then◌else◌
+unfolding beginning when◌then◌else◌
 begins-here c from here e = rw e
 
 -- Text between two places
@@ -171,7 +171,7 @@ module _ (x old mid new : List ℕ) (m a c : Roff) (same : length mid ≡ length
     (line : c.fresh ≡ line_start mode.Spaces a.fresh (upper x)) (strip : c.strip ≡ a.strip) (some : Bool) (any : some ≡ not (empty x)) where
   -- the captured text
   pub argument-text : Valid x → some ≡ true → Pushed (argument_pieces (upper x)) old m new c
-  unfolding argument_pieces bytes encode if◌then◌else◌
+  unfolding argument_pieces bytes encode when◌then◌else◌
   argument-text v e =
       let w = piece-put mode.Spaces (upper x) mid new a.len c.len a.fresh c.fresh refl wrote line in
       pushed-same (ap (λ (y : List ℕ). piece mode.Unescaped (0x20 ∷ []) ∷ piece mode.Spaces y ∷ []) (argument-some x v (sym any ∙ e)))
@@ -180,7 +180,7 @@ module _ (x old mid new : List ℕ) (m a c : Roff) (same : length mid ≡ length
   -- nothing was written, and then two quotes
   pub argument-none : some ≡ false → (last : List ℕ) (r : Roff) → length new ≡ length mid
       → Pushed (piece mode.Spaces (0x22 ∷ 0x22 ∷ []) ∷ []) new c last r → Pushed (argument_pieces (upper x)) old m last r
-  unfolding argument_pieces argument escape line_start escape_all line_after bytes encode if◌then◌else◌
+  unfolding argument_pieces argument escape line_start escape_all line_after bytes encode when◌then◌else◌
   argument-none e last r k q =
       let u = ap upper (none_captured x (sym any ∙ e)) ∙ upper-none in
       let nothing : Pushed [] mid a new c = record {

@@ -1,7 +1,7 @@
 -- Roff of an accepted document is UTF-8: its text is, what headings capture of it and their upper case are, and escaping keeps it so.
 -- Assumes nothing.
 use Rattle.manpage.proofs.Names.{ℕ, ◌+◌, ◌/◌, ◌%◌, ◌<◌, ◌≤◌, arith, ◌≡◌, refl, sym, ap, ◌∙◌, Bool, true, false, ◌&&◌, ⊎_elim, List, [], ◌∷◌, ◌++◌}
-use Rattle.manpage.proofs.Names.{append-nil, leb, leb-true, le-leb, ne_eqb, if◌then◌else◌, Result, gives, refused, pick, and_left, and_right}
+use Rattle.manpage.proofs.Names.{append-nil, leb, leb-true, le-leb, ne_eqb, when◌then◌else◌, Result, gives, refused, pick, and_left, and_right}
 use Rattle.manpage.proofs.Names.{and_both, le_or_lt, bind_gives, utf8, table, row_of, scalar, encode, bytes, Valid, valid_both, upper, upper_valid}
 use Rattle.manpage.proofs.Names.{Token, tokens, Block, Style, Kind, check, Sane, Sanes, done, also, check-gives, open_sane, Font, escape, line_start}
 use Rattle.manpage.proofs.Names.{preamble, Piece, breaks, line_end, line_here, escape_all, rendered, font_escape, argument, linebreak, control0, control}
@@ -52,13 +52,13 @@ Sound (gives o) = (all_valid o.pushed ≡ true) × Valid o.after.kept
 Sound (refused n p) = Unit {0}
 
 valid_argument : (x : List ℕ) → Valid x → Valid (argument x)
-unfolding argument bytes encode if◌then◌else◌ table row_of
+unfolding argument bytes encode when◌then◌else◌ table row_of
 valid_argument [] v = refl
 valid_argument (c ∷ x) v = v
 
 -- the argument of a control line whose name is UTF-8
 valid_control : (name x : List ℕ) → Valid name → Valid x → all_valid (control name x) ≡ true
-unfolding control bytes encode if◌then◌else◌ table row_of
+unfolding control bytes encode when◌then◌else◌ table row_of
 valid_control name x n v = and_both n (and_both refl (and_both (valid_argument x v) refl))
 
 -- a heading's text is UTF-8 again in upper case
@@ -68,7 +68,7 @@ valid_heading name l n v = (valid_control name (upper l.kept) n (upper_valid l.k
 
 module _ (p : ℕ) (l : Locals) (v : Valid l.kept) where
   valid_started : (b : Block) → Sound (started p b l)
-  unfolding started control0 bytes encode if◌then◌else◌ table row_of
+  unfolding started control0 bytes encode when◌then◌else◌ table row_of
   valid_started block.Header = (refl, v)
   valid_started block.Section2 = (refl, v)
   valid_started block.Section3 = (refl, v)
@@ -83,7 +83,7 @@ module _ (p : ℕ) (l : Locals) (v : Valid l.kept) where
   valid_started block.Mono = (refl, v)
 
   valid_ended : (b : Block) → Sound (ended p b l)
-  unfolding ended control0 linebreak bytes encode if◌then◌else◌ table row_of
+  unfolding ended control0 linebreak bytes encode when◌then◌else◌ table row_of
   valid_ended block.Header = valid_heading (bytes "SH") l refl v
   valid_ended block.Section2 = valid_heading (bytes "SS") l refl v
   valid_ended block.Section3 = valid_heading (bytes "SS") l refl v
@@ -98,7 +98,7 @@ module _ (p : ℕ) (l : Locals) (v : Valid l.kept) where
   valid_ended block.Mono = (refl, v)
 
 valid_subsection : (st : Style) → all_valid (subsection st) ≡ true
-unfolding subsection control0 bytes encode if◌then◌else◌ table row_of
+unfolding subsection control0 bytes encode when◌then◌else◌ table row_of
 valid_subsection style.Text = refl
 valid_subsection style.Emphasis = refl
 valid_subsection style.Literal = refl
@@ -106,13 +106,13 @@ valid_subsection style.Metavar = refl
 valid_subsection style.Invalid = refl
 
 valid_font : (f : Font) → Valid (font_escape f)
-unfolding font_escape bytes encode if◌then◌else◌ table row_of
+unfolding font_escape bytes encode when◌then◌else◌ table row_of
 valid_font font.Roman = refl
 valid_font font.Bold = refl
 valid_font font.Italic = refl
 
 valid_text : (strip : Bool) (f : Font) (x : List ℕ) → Valid x → all_valid (text strip f x) ≡ true
-unfolding text plaintext bytes encode if◌then◌else◌ table row_of
+unfolding text plaintext bytes encode when◌then◌else◌ table row_of
 valid_text strip f x v = and_both (valid_font f) (and_both v refl)
 
 valid_token : (p : ℕ) (k : Kind) (x : List ℕ) (l : Locals) → Valid (record_text k x) → Valid l.kept → Sound (token p k x l)
@@ -143,7 +143,7 @@ valid_collected (t ∷ ts) l v w =
 
 -- a character of ASCII, in each mode
 ascii_test : (m : Escape) (start : Bool) → all 0x80 (λ c. utf8 (escape_byte m start c)) ≡ true
-unfolding escape_byte special_byte spaces_byte guard backslash replaced bytes encode if◌then◌else◌ table row_of
+unfolding escape_byte special_byte spaces_byte guard backslash replaced bytes encode when◌then◌else◌ table row_of
 ascii_test mode.UnescapedAtNewline start = refl
 ascii_test mode.Spaces start = refl
 ascii_test mode.Special true = refl
@@ -154,7 +154,7 @@ ascii_test mode.Unescaped start = refl
 
 -- a byte beyond ASCII stays
 high_special : (line_end : ℕ) (start : Bool) (b : ℕ) → 0x80 ≤ b → special_byte line_end start b ≡ b ∷ []
-unfolding special_byte guard backslash replaced if◌then◌else◌
+unfolding special_byte guard backslash replaced when◌then◌else◌
 high_special line_end true b h =
     let dot = ne_eqb b 0x2E (λ e. omega arith) in
     rw (dot, ne_eqb b 0x27 (λ e. omega arith), ne_eqb b 0x5C (λ e. omega arith), ne_eqb b 0x2D (λ e. omega arith), ne_eqb b 0x0A (λ e. omega arith))
@@ -162,7 +162,7 @@ high_special line_end false b h =
     rw (ne_eqb b 0x27 (λ e. omega arith), ne_eqb b 0x5C (λ e. omega arith), ne_eqb b 0x2D (λ e. omega arith), ne_eqb b 0x0A (λ e. omega arith))
 
 high_byte : (m : Escape) (start : Bool) (b : ℕ) → 0x80 ≤ b → escape_byte m start b ≡ b ∷ []
-unfolding escape_byte spaces_byte if◌then◌else◌
+unfolding escape_byte spaces_byte when◌then◌else◌
 high_byte mode.UnescapedAtNewline start b h = refl
 high_byte mode.Spaces start b h = rw (ne_eqb b 0x20 (λ e. omega arith), ne_eqb b 0x0A (λ e. omega arith))
 high_byte mode.Special start b h = high_special 0x0A start b h
@@ -218,7 +218,7 @@ module _ (m : Escape) where
       (valid_chars r (line_start m start (encode c)))
 
   valid_line : (start : Bool) → Valid (line_end m start)
-  unfolding line_end bytes encode if◌then◌else◌ table row_of
+  unfolding line_end bytes encode when◌then◌else◌ table row_of
   valid_line start = pick Valid (breaks m start) (λ _. refl) (λ _. refl)
 
 valid_all : (start : Bool) (ps : List Piece) → all_valid ps ≡ true → Valid (escape_all start ps)
@@ -234,7 +234,7 @@ valid_all start (p ∷ ps) v =
 -- The text
 
 valid_preamble : Valid preamble
-unfolding preamble bytes encode if◌then◌else◌ table row_of
+unfolding preamble bytes encode when◌then◌else◌ table row_of
 valid_preamble = refl
 
 pub roff_valid : (room : ℕ) (document x : List ℕ) → roff room document ≡ gives x → Valid x

@@ -4,7 +4,7 @@ pub use Rattle.base.proofs.Choice.{and_both, and_left, and_right, if_false, if_t
 pub use Rattle.base.proofs.Parts.{part_end, part_none}
 pub use Rattle.base.proofs.Results.{bind_assoc, bind_gives, bind_same}
 pub use Rattle.base.specs.Bytes.{part}
-unfoldable pub use Rattle.base.specs.Choice.{if◌then◌else◌}
+unfoldable pub use Rattle.base.specs.Choice.{when◌then◌else◌}
 pub use Rattle.base.specs.Result.{Result, gives, measured, refused}
 unfoldable pub use Rattle.base.specs.Result.{◌>>=◌}
 pub use Rattle.document.proofs.Walks.{Sane, Sanes, also, check-gives, done, open_sane, verdict_gives, verdict_refused}

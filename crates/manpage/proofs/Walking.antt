@@ -1,6 +1,6 @@
 -- The walk over the records: what stands in the room, and the rules run from here on, give the whole. Assumes nothing.
 use Rattle.manpage.proofs.Names.{ℕ, ◌-◌, ◌≤◌, ◌<◌, ◌≡◌, refl, sym, ap, ap₂, ◌∙◌, subst, Bool, true, false, false≢true, ⊎_elim, List, [], ◌++◌}
-use Rattle.manpage.proofs.Names.{append_assoc, append-nil, length, take, length-take-le, arith, part, if◌then◌else◌, Result, gives, refused, ◌>>=◌}
+use Rattle.manpage.proofs.Names.{append_assoc, append-nil, length, take, length-take-le, arith, part, when◌then◌else◌, Result, gives, refused, ◌>>=◌}
 use Rattle.manpage.proofs.Names.{if_true, if_false, pick, le_or_lt, bind_assoc, Token, tokens, tokens_from, check, Read, Head, Kind, Style, Block}
 use Rattle.manpage.proofs.Names.{read-on, seen, extended, seen_in, seen-out, walk, standing, Inside, Roff, preamble, Written, escape_all, line_after}
 use Rattle.manpage.proofs.Names.{writes, begun, pushes, text, Followed, Pushed, pushes-writes, pushed_none, Locals, initial, Outcome, captures}
@@ -25,7 +25,7 @@ chain_here document at n h = ap (λ (x : List ℕ). x ++ between document at n) 
 
 -- where capture is off, none is captured
 idle : (document : List ℕ) (on : Bool) (from at : ℕ) → on ≡ false → between document (beginning on from at) at ≡ []
-unfolding beginning if◌then◌else◌
+unfolding beginning when◌then◌else◌
 idle document on from at e = rw e (between_none document at at (le_refl at))
 
 -- After a record
@@ -141,7 +141,7 @@ pub record On (limit : ℕ) (document room : List ℕ) (m : Roff) (on : Bool) (f
 
 pub on-start : (limit : ℕ) (document room : List ℕ) (m : Roff) → texts_valid (tokens 0 0 document) ≡ true → length room ≡ limit
     → seen room m.len ≡ extended limit preamble [] → (m.fresh ≡ true) × (m.strip ≡ false) → On limit document room m false 0 0
-unfolding beginning if◌then◌else◌ marked begun writes ◌>>=◌
+unfolding beginning when◌then◌else◌ marked begun writes ◌>>=◌
 on-start limit document room m v k e f = record {
   same = k;
   ahead = v;

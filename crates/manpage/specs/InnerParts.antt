@@ -1,6 +1,6 @@
 -- What the functions inside this crate promise each other; no rule of 01 stands here.
 use Rattle.std.specs.Prelude.{ℕ, ◌≤◌, ◌≡◌, Bool, true, false, ◌&&◌, List, [], ◌∷◌, ◌++◌, leb, ltb, eqb, length, drop}
-use Rattle.base.specs.Choice.{if◌then◌else◌}
+use Rattle.base.specs.Choice.{when◌then◌else◌}
 use Rattle.base.specs.Result.{Result, gives, refused, ◌>>=◌}
 use Rattle.utf8.specs.Utf8.{utf8, bytes}
 use Rattle.upper.specs.Upper.{upper}
@@ -72,7 +72,7 @@ texts_valid (t ∷ ts) = utf8 (record_text t.kind t.body) && texts_valid ts
 -- the text of the records that start before a place
 unfoldable pub text_to : ℕ → List Token → List ℕ
 text_to to [] = []
-text_to to (t ∷ ts) = if ltb t.place to then record_text t.kind t.body ++ text_to to ts else []
+text_to to (t ∷ ts) = when ltb t.place to then record_text t.kind t.body ++ text_to to ts else []
 
 -- the text between two places of a document
 abbrev pub between : List ℕ → ℕ → ℕ → List ℕ
@@ -80,15 +80,15 @@ between document from to = text_to to (tokens_from document from)
 
 -- where the text that is captured begins: while capture is on, where it began; else here
 unfoldable pub beginning : Bool → ℕ → ℕ → ℕ
-beginning capture from here = if capture then from else here
+beginning capture from here = when capture then from else here
 
 -- whether text is captured after a block's start, and after its end
 unfoldable pub opening : Block → Bool → Bool
-opening b capture = if is_heading b then true else capture
+opening b capture = when is_heading b then true else capture
 
 unfoldable pub closing : Block → Bool → Bool
-closing b capture = if is_heading b then false else capture
+closing b capture = when is_heading b then false else capture
 
 -- what is captured after a block's end
 unfoldable pub closed : Block → List ℕ → List ℕ
-closed b kept = if is_heading b then [] else kept
+closed b kept = when is_heading b then [] else kept

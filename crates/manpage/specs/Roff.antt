@@ -1,6 +1,6 @@
 -- Roff: the text of a document, in a room of some bytes (src/buffer/manpage.rs).
 use Rattle.std.specs.Prelude.{ℕ, Bool, true, false, List, [], ◌++◌}
-use Rattle.base.specs.Choice.{if◌then◌else◌}
+use Rattle.base.specs.Choice.{when◌then◌else◌}
 use Rattle.base.specs.Result.{Result, gives, refused, ◌>>=◌}
 use Rattle.utf8.specs.Utf8.{bytes}
 use Rattle.upper.specs.Upper.{upper}
@@ -107,7 +107,7 @@ ended p block.Mono l = pushing [] l
 
 -- `match token`: text is captured, or pushed in its font
 unfoldable pub token : ℕ → Kind → List ℕ → Locals → Result Outcome
-token p (kind.Text st) x l = if l.capture then captures x l else pushing (subsection st ++ text l.strip (font_of st) x) l
+token p (kind.Text st) x l = when l.capture then captures x l else pushing (subsection st ++ text l.strip (font_of st) x) l
 token p (kind.Start b) x l = started p b l
 token p (kind.End b) x l = ended p b l
 token p kind.Unknown x l = pushing [] l

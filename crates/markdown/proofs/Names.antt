@@ -1,7 +1,7 @@
 -- Names of other crates and libraries that the proofs of this crate cite, by where they are from.
 pub use Prim.Native.Nat.{◌+◌, ◌-◌, ◌<◌, ◌≤◌, ℕ}
 pub use Rattle.base.proofs.Results.{bind_assoc, bind_end, bind_same}
-unfoldable pub use Rattle.base.specs.Choice.{if◌then◌else◌}
+unfoldable pub use Rattle.base.specs.Choice.{when◌then◌else◌}
 pub use Rattle.base.specs.Result.{Result, gives, refused}
 unfoldable pub use Rattle.base.specs.Result.{◌>>=◌}
 pub use Rattle.document.proofs.Walks.{DeepAt, accepted_at_0, check-gives, deep-from, fits_here, open_next, verdict_gives, verdict_refused}

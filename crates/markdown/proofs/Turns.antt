@@ -1,5 +1,5 @@
 -- The turns of Markdown on a page, each as one rule on its text beside a change of the numbers and flags. Assumes nothing.
-use Rattle.markdown.proofs.Names.{ℕ, ◌≡◌, refl, sym, ap, ◌∙◌, Bool, true, false, List, if◌then◌else◌, Result, gives, refused, ◌>>=◌, bind_assoc}
+use Rattle.markdown.proofs.Names.{ℕ, ◌≡◌, refl, sym, ap, ◌∙◌, Bool, true, false, List, when◌then◌else◌, Result, gives, refused, ◌>>=◌, bind_assoc}
 use Rattle.markdown.proofs.Names.{bind_same, bind_end, bytes, extended, Token, index, Style, Block, split, with_out, with_lay, page, write, last}
 use Rattle.markdown.proofs.Names.{anywhere, body, hides, Markdown, met_term, start_of, end_of, closed, start_rule, chunk_rule, fence_after}
 use lib.Dec.{eqb}
@@ -114,18 +114,18 @@ fencing c l = with_fenced (fence_after c l.fenced) l
 
 module _ (limit : ℕ) (s : State) where
   raw-is : (x : List ℕ) (w : ℕ) → raw_chunk limit x w s ≡ lift (raw_rule limit s.lay x w) (with_lay (fencing (raw x w)) s)
-  unfolding raw_chunk raw_rule separate write if◌then◌else◌
+  unfolding raw_chunk raw_rule separate write when◌then◌else◌
   raw-is x w = go (eqb w 1_000_001) (eqb w 1_000_000)
     where
       go : (t u : Bool) →
-          (if t then (lift (separated limit (bytes "\n")) s >>= lift (extended limit (line_text x))) else
-          if u then (lift (extended limit (code_begins s.lay)) s >>= λ s₁. lift (extended limit (line_text x)) (with_lay (with_fenced true) s₁)) else
+          (when t then (lift (separated limit (bytes "\n")) s >>= lift (extended limit (line_text x))) else
+          when u then (lift (extended limit (code_begins s.lay)) s >>= λ s₁. lift (extended limit (line_text x)) (with_lay (with_fenced true) s₁)) else
           (lift (extended limit (code_stops s.lay)) s >>= λ s₁. lift (extended limit (word_text s.lay x)) (with_lay (with_fenced false) s₁)))
           ≡ lift (λ z.
-          if t then (separated limit (bytes "\n") z >>= extended limit (line_text x)) else
-          if u then (extended limit (code_begins s.lay) z >>= extended limit (line_text x)) else
+          when t then (separated limit (bytes "\n") z >>= extended limit (line_text x)) else
+          when u then (extended limit (code_begins s.lay) z >>= extended limit (line_text x)) else
           (extended limit (code_stops s.lay) z >>= extended limit (word_text s.lay x)))
-          (with_lay (λ l. with_fenced (if t then l.fenced else if u then true else false) l) s)
+          (with_lay (λ l. with_fenced (when t then l.fenced else when u then true else false) l) s)
       go true u = lift_then (separated limit (bytes "\n")) s (extended limit (line_text x))
       go false true = lift_lay (extended limit (code_begins s.lay)) s (λ _. extended limit (line_text x)) (with_fenced true)
       go false false = lift_lay (extended limit (code_stops s.lay)) s (λ _. extended limit (word_text s.lay x)) (with_fenced false)

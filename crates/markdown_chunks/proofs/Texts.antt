@@ -3,7 +3,7 @@ use Prim.Native.Nat.{ℕ, ◌≤◌, ◌<◌}
 use mathlib.Core.Path.{◌≡◌, sym, ap, ◌∙◌}
 use mathlib.Core.List.{List, [], ◌∷◌}
 use borrow.Author.Tests.{ne_eqb, lt-ltb, le-ltb}
-use Rattle.base.specs.Choice.{if◌then◌else◌}
+use Rattle.base.specs.Choice.{when◌then◌else◌}
 use Rattle.base.specs.Result.{Result, ◌>>=◌}
 use Rattle.base.proofs.Choice.{if_true, if_false}
 use Rattle.base.proofs.Results.{bind_same}
@@ -33,7 +33,7 @@ module _ (limit : ℕ) (old mid new : List ℕ) (len n r m : ℕ) (same : m ≡ 
   pub line_wrote : (mid₂ : List ℕ) (n₂ o : ℕ) (x : List ℕ) → o ≡ limit → seen mid n ≡ (seen old len >>= extended limit (0x20 ∷ 0x20 ∷ []))
       → seen mid₂ n₂ ≡ (seen mid n >>= extended m x) → seen new r ≡ (seen mid₂ n₂ >>= extended o (0x0A ∷ []))
       → seen new r ≡ (seen old len >>= extended limit (line_text x))
-  unfolding bytes encode if◌then◌else◌
+  unfolding bytes encode when◌then◌else◌
   line_wrote mid₂ n₂ o x q u v w =
       wrote_twice limit old mid₂ new len n₂ r o q (0x20 ∷ 0x20 ∷ x) (0x0A ∷ []) (wrote_twice limit old mid mid₂ len n n₂ m same (0x20 ∷ 0x20 ∷ []) x u v) w
 
@@ -41,7 +41,7 @@ module _ (limit : ℕ) (old mid new : List ℕ) (len n r m : ℕ) (same : m ≡ 
   module _ (l : Markdown) (x : List ℕ) (w : ℕ) where
     pub raw-ticked : w ≡ 1_000_001 → seen mid n ≡ (seen old len >>= separated limit (0x0A ∷ [])) → seen new r ≡ (seen mid n >>= extended m (line_text x))
         → seen new r ≡ (seen old len >>= raw_rule limit l x w)
-    unfolding raw_rule bytes encode if◌then◌else◌
+    unfolding raw_rule bytes encode when◌then◌else◌
     raw-ticked e u v =
         wrote_then old mid len n (separated limit (0x0A ∷ [])) (extended limit (line_text x)) (seen new r) u
         (v ∙ ap (λ (c : ℕ). seen mid n >>= extended c (line_text x)) same)
@@ -49,7 +49,7 @@ module _ (limit : ℕ) (old mid new : List ℕ) (len n r m : ℕ) (same : m ≡ 
 
     pub raw-code : w ≡ 1_000_000 → seen mid n ≡ (seen old len >>= extended limit (code_begins l)) → seen new r ≡ (seen mid n >>= extended m (line_text x))
         → seen new r ≡ (seen old len >>= raw_rule limit l x w)
-    unfolding raw_rule if◌then◌else◌
+    unfolding raw_rule when◌then◌else◌
     raw-code e u v =
         wrote_then old mid len n (extended limit (code_begins l)) (extended limit (line_text x)) (seen new r) u
         (v ∙ ap (λ (c : ℕ). seen mid n >>= extended c (line_text x)) same)
@@ -57,7 +57,7 @@ module _ (limit : ℕ) (old mid new : List ℕ) (len n r m : ℕ) (same : m ≡ 
 
     pub raw_word : (w ≡ 1_000_001 → ⊥) → (w ≡ 1_000_000 → ⊥) → seen mid n ≡ (seen old len >>= extended limit (code_stops l))
         → seen new r ≡ (seen mid n >>= extended m (word_text l x)) → seen new r ≡ (seen old len >>= raw_rule limit l x w)
-    unfolding raw_rule if◌then◌else◌
+    unfolding raw_rule when◌then◌else◌
     raw_word e f u v =
         wrote_then old mid len n (extended limit (code_stops l)) (extended limit (word_text l x)) (seen new r) u
         (v ∙ ap (λ (c : ℕ). seen mid n >>= extended c (word_text l x)) same)
@@ -84,23 +84,23 @@ module _ (limit : ℕ) (l : Markdown) (body : List ℕ) (p : Piece) where
   piece-paragraph e y f = rw (f, e)
 
   pub piece_break : {at : ℕ} → p ≡ LineBreak at → extended limit (0x0A ∷ []) ≡ chunk_rule limit l (chunk_of body p)
-  unfolding bytes encode if◌then◌else◌
+  unfolding bytes encode when◌then◌else◌
   piece_break e = rw e
 
 -- Code lines
 module _ (p : Piece) (f : Bool) where
   pub fence_ticked : {from to w : ℕ} → p ≡ Raw from to w → w ≡ 1_000_001 → f ≡ fence_after (chunk_of [] p) f
-  unfolding if◌then◌else◌
+  unfolding when◌then◌else◌
   fence_ticked e h = rw (e, h)
 
   pub fence_other : {from to w : ℕ} → p ≡ Raw from to w → (w ≡ 1_000_001 → ⊥) → eqb w 1_000_000 ≡ fence_after (chunk_of [] p) f
-  unfolding if◌then◌else◌
+  unfolding when◌then◌else◌
   fence_other {w} e h = rw (e, ne_eqb w 1_000_001 h) (itself (eqb w 1_000_000))
     where
-      itself : (t : Bool) → t ≡ (if t then true else false)
+      itself : (t : Bool) → t ≡ (when t then true else false)
       itself true = refl
       itself false = refl
 
   pub fence_space : {at : ℕ} → p ≡ Space at → false ≡ fence_after (chunk_of [] p) f
-  unfolding if◌then◌else◌
+  unfolding when◌then◌else◌
   fence_space e = rw e

@@ -1,5 +1,5 @@
 -- The numbers and flags of Markdown after a block. Assumes nothing.
-use Rattle.markdown_marks.proofs.Names.{ℕ, ◌+◌, ◌≤◌, ◌<◌, ◌≡◌, refl, sym, ap, ◌∙◌, List, length, arith, ne_eqb, lt-ltb, if◌then◌else◌, gives, refused}
+use Rattle.markdown_marks.proofs.Names.{ℕ, ◌+◌, ◌≤◌, ◌<◌, ◌≡◌, refl, sym, ap, ◌∙◌, List, length, arith, ne_eqb, lt-ltb, when◌then◌else◌, gives, refused}
 use Rattle.markdown_marks.proofs.Names.{Block, with_style, with_skip, with_bare, with_mono, term_ends, started, ended, Markdown, start_of, end_of}
 use mathlib.Core.Bool.{Bool, true, false, ◌||◌}
 use mathlib.Core.Logic.{⊎_elim}
@@ -27,7 +27,7 @@ module _ (document : List ℕ) (at : ℕ) where
 
 module _ (b : Block) (empty : Bool) (l : Markdown) (i : ℕ) (is : i ≡ index b) where
   pub no_item : (i ≡ 3 → ⊥) → (i ≡ 4 → ⊥) → l ≡ met_term b empty l
-  unfolding met_term if◌then◌else◌
+  unfolding met_term when◌then◌else◌
   no_item n m = rw (← is, ne_eqb i 3 n, ne_eqb i 4 m)
 
   pub item : 3 ≤ i → i ≤ 4 → (r : Bool) → r ≡ empty → with_bare r l ≡ met_term b empty l
@@ -55,8 +55,8 @@ inline-end b l k e f = rw e (ap (λ (n : ℕ). with_skip n l) (f ∙ ap (λ (c :
 
 -- of a block's start and end the rules refuse Meta's
 pub start_told : (p : ℕ) (b : Block) (empty : Bool) (l : Markdown) → started p b empty l
-    ≡ (if eqb (index b) 10 then refused 11 p else gives (start_of (met_term b empty l) b))
-unfolding start_of started met_term if◌then◌else◌
+    ≡ (when eqb (index b) 10 then refused 11 p else gives (start_of (met_term b empty l) b))
+unfolding start_of started met_term when◌then◌else◌
 start_told p block.Header empty l = refl
 start_told p block.Section2 empty l = refl
 start_told p block.Section3 empty l = refl
@@ -70,8 +70,8 @@ start_told p block.TermRef empty l = refl
 start_told p block.Meta empty l = refl
 start_told p block.Mono empty l = refl
 
-pub end_told : (p : ℕ) (b : Block) (l : Markdown) → ended p b l ≡ (if eqb (index b) 10 then refused 11 p else gives (end_of l b))
-unfolding end_of ended if◌then◌else◌
+pub end_told : (p : ℕ) (b : Block) (l : Markdown) → ended p b l ≡ (when eqb (index b) 10 then refused 11 p else gives (end_of l b))
+unfolding end_of ended when◌then◌else◌
 end_told p block.Header l = refl
 end_told p block.Section2 l = refl
 end_told p block.Section3 l = refl
@@ -119,10 +119,10 @@ end_few block.Mono l = (omega arith, omega arith)
 module _ (b : Block) (empty : Bool) (l : Markdown) where
   -- a term that is met changes neither of them, nor the style, and is met whichever style is open
   met_flag : {A : Type 0} (f : Markdown → A) → f (with_bare empty l) ≡ f l → f (met_term b empty l) ≡ f l
-  unfolding met_term if◌then◌else◌
+  unfolding met_term when◌then◌else◌
   met_flag f e = go (eqb (index b) 3 || eqb (index b) 4)
     where
-      go : (t : Bool) → f (if t then with_bare empty l else l) ≡ f l
+      go : (t : Bool) → f (when t then with_bare empty l else l) ≡ f l
       go true = e
       go false = refl
 
@@ -139,10 +139,10 @@ module _ (b : Block) (empty : Bool) (l : Markdown) where
   met_style = met_flag (λ m. m.style) refl
 
   pub met_styled : (st : Style) → met_term b empty (with_style st l) ≡ with_style st (met_term b empty l)
-  unfolding met_term if◌then◌else◌
+  unfolding met_term when◌then◌else◌
   met_styled st = go (eqb (index b) 3 || eqb (index b) 4)
     where
-      go : (t : Bool) → (if t then with_bare empty (with_style st l) else with_style st l) ≡ with_style st (if t then with_bare empty l else l)
+      go : (t : Bool) → (when t then with_bare empty (with_style st l) else with_style st l) ≡ with_style st (when t then with_bare empty l else l)
       go true = refl
       go false = refl
 

@@ -1,6 +1,6 @@
 -- Names of other crates and libraries that the proofs of this crate cite, by where they are from.
 pub use Prim.Native.Nat.{◌+◌, ◌<◌, ◌≤◌, ℕ}
-unfoldable pub use Rattle.base.specs.Choice.{if◌then◌else◌}
+unfoldable pub use Rattle.base.specs.Choice.{when◌then◌else◌}
 pub use Rattle.base.specs.Result.{◌>>=◌, gives, refused}
 pub use Rattle.html_rules.proofs.Writes.{wrote_same, wrote_then}
 pub use Rattle.html_rules.specs.Markdown.{AtStart, closing, opening, with_bare, with_mono, with_skip, with_style}

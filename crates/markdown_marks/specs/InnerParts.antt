@@ -1,6 +1,6 @@
 -- What the functions of Markdown's marks promise each other; no rule of 01 stands here.
 use Rattle.std.specs.Prelude.{ℕ, ◌≤◌, Bool, ◌||◌, List, [], ◌++◌, eqb}
-use Rattle.base.specs.Choice.{if◌then◌else◌}
+use Rattle.base.specs.Choice.{when◌then◌else◌}
 use Rattle.base.specs.Result.{Result, gives, refused, ◌>>=◌}
 use Rattle.utf8.specs.Utf8.{bytes}
 use Rattle.room.specs.Room.{extended}
@@ -19,7 +19,7 @@ tags = bytes "**`**_`_### - \n\n  ```text\n\n  ```\n &mdash; "
 
 -- `empty_term = ..` at an ItemTerm or a Section4, before its text
 unfoldable pub met_term : Block → Bool → Markdown → Markdown
-met_term b empty l = if eqb (index b) 3 || eqb (index b) 4 then with_bare empty l else l
+met_term b empty l = when eqb (index b) 3 || eqb (index b) 4 then with_bare empty l else l
 
 -- what the rules say of a block's start once its term is met, and of its end; of Meta, which they refuse, nothing
 abbrev pub given_start : Markdown → Result AtStart → AtStart

@@ -4,7 +4,7 @@ use Rattle.merge.proofs.Names.{check-gives, extended, seen, Written, Accepted, S
 use mathlib.Core.Bool.{Bool, true, false, ◌&&◌}
 use mathlib.Core.Logic.{⊎_elim}
 use lib.Dec.{leb}
-use Rattle.base.specs.Choice.{if◌then◌else◌}
+use Rattle.base.specs.Choice.{when◌then◌else◌}
 use Rattle.base.specs.Result.{Result, gives, refused}
 use Rattle.base.proofs.Choice.{if_true, if_false, and_both, le_or_lt}
 use Rattle.document.specs.Document.{check}
@@ -51,13 +51,13 @@ module _ {s t : List ℕ} {a b : Side} (cs : check s ≡ gives []) (ct : check t
       k = tells_yes b.list y.list f
 
       pub first_down : a.ordered ≡ false → (room : List ℕ) → Merges room s t (refused 23 0)
-      unfolding merging in_order ◌>>=◌ if◌then◌else◌
+      unfolding merging in_order ◌>>=◌ when◌then◌else◌
       first_down u room =
           subst (λ (r : Result (List ℕ)). Merges room s t r) (rw (sym (x.ordered l.0 l.1) ∙ u)) (both_lists cs ct l.1 k.1)
 
       module _ (u : a.ordered ≡ true) where
         pub second_down : b.ordered ≡ false → (room : List ℕ) → Merges room s t (refused 23 0)
-        unfolding merging in_order ◌>>=◌ if◌then◌else◌
+        unfolding merging in_order ◌>>=◌ when◌then◌else◌
         second_down v room =
             subst (λ (r : Result (List ℕ)). Merges room s t r) (rw (sym (x.ordered l.0 l.1) ∙ u, sym (y.ordered k.0 k.1) ∙ v))
             (both_lists cs ct l.1 k.1)

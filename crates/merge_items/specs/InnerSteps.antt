@@ -1,7 +1,7 @@
 -- What the functions of the merge promise each other of items; no rule of 02 stands here.
 use Rattle.std.specs.Prelude.{ℕ, ◌+◌, ◌≤◌, ◌≡◌, List, [], ◌∷◌, ◌++◌, ltb, length, drop}
 use Rattle.std.proofs.Math.Option.{Option, none, some}
-use Rattle.base.specs.Choice.{if◌then◌else◌}
+use Rattle.base.specs.Choice.{when◌then◌else◌}
 use Rattle.records.specs.Records.{Token}
 use Rattle.room.specs.Room.{seen, extended}
 use Rattle.merge_rules.specs.Merge.{Item, key, records, Proper}
@@ -18,7 +18,7 @@ deep_as deep.Ends = none
 -- the bodies of the records that start before a place
 unfoldable pub text_to : ℕ → List Token → List ℕ
 text_to stop [] = []
-text_to stop (t ∷ ts) = if ltb t.place stop then t.body ++ text_to stop ts else []
+text_to stop (t ∷ ts) = when ltb t.place stop then t.body ++ text_to stop ts else []
 
 -- an item was looked for at a place of a document: if one stands there, where its term ends, where it ends, and where its term's records stand
 pub record Found (s : List ℕ) (at : ℕ) (r : Place) : Type 0 where

@@ -1,7 +1,7 @@
 -- Where a block ends: whole records in house shape leave as many blocks open as were before them, so a block's content ends at the first
 -- end record that closes more than it opened. So bytes are the list of at most one run of items. Assumes nothing.
 use Rattle.merge_rules.proofs.Names.{ℕ, ◌+◌, ◌-◌, ◌≡◌, refl, sym, ap, ap₂, ◌∙◌, List, [], ◌∷◌, ◌++◌, append_assoc, append_cancel_left, length, take}
-use Rattle.merge_rules.proofs.Names.{drop, get_or, length-append, arith, le-leb, if◌then◌else◌, if_true, Token, little, blocks, kind_of, size, token_at}
+use Rattle.merge_rules.proofs.Names.{drop, get_or, length-append, arith, le-leb, when◌then◌else◌, if_true, Token, little, blocks, kind_of, size, token_at}
 use Rattle.merge_rules.proofs.Names.{tokens, open_blocks, little_bytes, stored, start, end, around, Block, Kind, length-end, kinds, Item, records}
 use Rattle.merge_rules.proofs.Names.{all_records, list_of, Filled, Proper, Each, Lists}
 use mathlib.Core.Option.{Option, none, some}
@@ -73,20 +73,20 @@ pub record Closing (b : Block) : Type 0 where
   pub closes : (q : ℕ) (w : List ℕ) → (token_at q (end b ++ w)).kind ≡ kind.End b
 
 pub term-closing : Closing block.ItemTerm
-unfolding token_at end stored little_bytes little kind_of blocks if◌then◌else◌
+unfolding token_at end stored little_bytes little kind_of blocks when◌then◌else◌
 term-closing = record { closes = λ q w. refl }
 
 pub body-closing : Closing block.ItemBody
-unfolding token_at end stored little_bytes little kind_of blocks if◌then◌else◌
+unfolding token_at end stored little_bytes little kind_of blocks when◌then◌else◌
 body-closing = record { closes = λ q w. refl }
 
 pub list-closing : Closing block.DefinitionList
-unfolding token_at end stored little_bytes little kind_of blocks if◌then◌else◌
+unfolding token_at end stored little_bytes little kind_of blocks when◌then◌else◌
 list-closing = record { closes = λ q w. refl }
 
 module _ {b : Block} (c : Closing b) where
   end-here : (q : ℕ) (w : List ℕ) → end_of (tokens q 0 (end b ++ w)) 0 ≡ q
-  unfolding end_of on deeper if◌then◌else◌ token_at
+  unfolding end_of on deeper when◌then◌else◌ token_at
   end-here q w =
       ap (λ (ts : List Token). end_of ts 0) (tokens-some (end b ++ w) q (omega (arith, length-append (end b) w, length-end b)))
       ∙ ap (λ (k : Kind). on (deeper k 0) q (end_of (tokens (q + (6 + size (end b ++ w))) 0 (drop (6 + size (end b ++ w)) (end b ++ w))))) (c.closes q w)

@@ -1,5 +1,5 @@
 -- 02's answer is settled by its rules, and what holds of a result that is given. Assumes nothing.
-use Rattle.merge_rules.proofs.Names.{ℕ, ◌≤◌, ◌≡◌, refl, sym, ap, ap₂, subst, ◌∙◌, true, List, [], length, le-leb, if◌then◌else◌, Result, gives}
+use Rattle.merge_rules.proofs.Names.{ℕ, ◌≤◌, ◌≡◌, refl, sym, ap, ap₂, subst, ◌∙◌, true, List, [], length, le-leb, when◌then◌else◌, Result, gives}
 use Rattle.merge_rules.proofs.Names.{refused, ◌>>=◌, if_true, and_both, bind_gives, if_gives, gives_same, refused-gives, printing_order, check}
 use Rattle.merge_rules.proofs.Names.{check-gives, fit, Item, list_of, Lists, IsList, ascending, merged, printed, in_order, merging, Merges, TheMerge}
 use Rattle.merge_rules.proofs.Names.{first-refused, second_refused, first-no-list, second_no-list, both_lists}
@@ -59,7 +59,7 @@ one_answer (both_lists c d l k) m = by_both_lists c d l k m
 module _ {room s t : List ℕ} {is js : List Item} (cs : check s ≡ gives []) (ct : check t ≡ gives []) (ls : Lists s is) (lt : Lists t js)
     (us : ascending is ≡ true) (ut : ascending js ≡ true) where
   pub two_lists : Merges room s t (fit room (list_of (merged is js)))
-  unfolding merging in_order ◌>>=◌ if◌then◌else◌
+  unfolding merging in_order ◌>>=◌ when◌then◌else◌
   two_lists = subst (λ (r : Result (List ℕ)). Merges room s t r) (rw (us, ut)) (both_lists cs ct ls lt)
 
 -- merged with itself, given room for it, a list is given back

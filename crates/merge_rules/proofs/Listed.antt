@@ -1,7 +1,7 @@
 -- The merged list as a document: it is such a list, accepted by refusals 1 to 8, and its printing order is that of its items one after
 -- another. Assumes nothing.
 use Rattle.merge_rules.proofs.Names.{ℕ, ◌+◌, ◌≤◌, ◌≡◌, refl, sym, ap, ap₂, ◌∙◌, List, [], ◌∷◌, ◌++◌, append_assoc, append-nil, leb, length}
-use Rattle.merge_rules.proofs.Names.{length-append, arith, le-ltb, leb-true, if◌then◌else◌, gives, ◌>>=◌, pushed, and_right, length-pushed}
+use Rattle.merge_rules.proofs.Names.{length-append, arith, le-ltb, leb-true, when◌then◌else◌, gives, ◌>>=◌, pushed, and_right, length-pushed}
 use Rattle.merge_rules.proofs.Names.{bind_gives, if_gives, gives_same, index, little, blocks, kind_of, size, tokens, token_at, adds, order}
 use Rattle.merge_rules.proofs.Names.{printing_order, opens, reads, open_blocks, short, closed, check, little_bytes, stored, start, end, around, Block}
 use Rattle.merge_rules.proofs.Names.{check-gives, fit, around-given, Item, records, all_records, list_of, Proper, Each, Lists, merged, printed}
@@ -78,7 +78,7 @@ accepted_items is e h =
     (items_pass is 6 (end block.DefinitionList) [] h (ap (λ (l : List ℕ). reads 6 0 l (all_records is ++ end block.DefinitionList)) (sym g.1) ∙ f.2)).items
 
 pub check_makes : (s : List ℕ) → length s ≤ 32768 → open_blocks s ≡ gives [] → check s ≡ gives []
-unfolding check short closed ◌>>=◌ if◌then◌else◌
+unfolding check short closed ◌>>=◌ when◌then◌else◌
 check_makes s h e = rw (le-ltb 32768 (length s) h, e)
 
 pub listed_check : (is : List Item) → Each Passes is → length (list_of is) ≤ 32768 → check (list_of is) ≡ gives []
@@ -124,15 +124,15 @@ printed_items (i ∷ is) (merge.also h k) = printing-append (records i) (all_rec
     ∙ ap (λ (l : List ℕ). printing_order (records i) ++ l) (printed_items is k)
 
 starts-plain : printing_order (start block.DefinitionList) ≡ []
-unfolding printing_order order tokens token_at adds start stored little_bytes size little kind_of blocks if◌then◌else◌
+unfolding printing_order order tokens token_at adds start stored little_bytes size little kind_of blocks when◌then◌else◌
 starts-plain = refl
 
 ends_plain : printing_order (end block.DefinitionList) ≡ []
-unfolding printing_order order tokens token_at adds end stored little_bytes size little kind_of blocks if◌then◌else◌
+unfolding printing_order order tokens token_at adds end stored little_bytes size little kind_of blocks when◌then◌else◌
 ends_plain = refl
 
 starts : reads 0 0 [] (start block.DefinitionList) ≡ gives within
-unfolding opens if◌then◌else◌
+unfolding opens when◌then◌else◌
 starts = reads-start 0 block.DefinitionList []
 
 -- 'Printing characters of the result are those of the kept items in that order'

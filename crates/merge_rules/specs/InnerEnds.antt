@@ -1,7 +1,7 @@
 -- Where a block ends, by the kinds of records alone: for promises between functions and for proofs; no rule of 02 stands here.
 use Rattle.std.specs.Prelude.{ℕ, ◌+◌, ◌-◌, List, [], ◌∷◌, leb}
 use Rattle.std.proofs.Math.Option.{Option, none, some}
-use Rattle.base.specs.Choice.{if◌then◌else◌}
+use Rattle.base.specs.Choice.{when◌then◌else◌}
 use Rattle.records.specs.Records.{Token}
 use Rattle.records.specs.declared.Kind.{Kind}
 use Rattle.records.specs.declared.Kind.TheVariants as kind
@@ -10,7 +10,7 @@ use Rattle.records.specs.declared.Kind.TheVariants as kind
 unfoldable pub deeper : Kind → ℕ → Option ℕ
 deeper (kind.Text st) depth = some depth
 deeper (kind.Start b) depth = some (depth + 1)
-deeper (kind.End b) depth = if leb 1 depth then some (depth - 1) else none
+deeper (kind.End b) depth = when leb 1 depth then some (depth - 1) else none
 deeper kind.Unknown depth = some depth
 
 unfoldable pub on : {A : Type 0} → Option ℕ → A → (ℕ → A) → A

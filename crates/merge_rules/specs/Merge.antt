@@ -1,6 +1,6 @@
 -- One option list from two products (02, point 14).
 use Rattle.std.specs.Prelude.{ℕ, ◌≡◌, Bool, true, false, ◌&&◌, List, [], ◌∷◌, ◌++◌, ltb}
-use Rattle.base.specs.Choice.{if◌then◌else◌}
+use Rattle.base.specs.Choice.{when◌then◌else◌}
 use Rattle.base.specs.Result.{Result, gives, refused, ◌>>=◌}
 use Rattle.records.specs.Records.{tokens, document_text, printing_order}
 use Rattle.records.specs.Stored.{around}
@@ -16,7 +16,7 @@ unfoldable pub compared : List ℕ → List ℕ → Order
 compared [] [] = order.Same
 compared [] (y ∷ b) = order.Less
 compared (x ∷ a) [] = order.More
-compared (x ∷ a) (y ∷ b) = if ltb x y then order.Less else if ltb y x then order.More else compared a b
+compared (x ∷ a) (y ∷ b) = when ltb x y then order.Less else when ltb y x then order.More else compared a b
 
 -- an item is a term and a body: the records that each holds, as they are stored
 pub record Item : Type 0 where
@@ -98,7 +98,7 @@ printed (i ∷ is) = printing_order (records i) ++ printed is
 
 -- '23 when its terms don't ascend', of the items of a side
 unfoldable pub in_order : List Item → Result (List Item)
-in_order is = if ascending is then gives is else refused 23 0
+in_order is = when ascending is then gives is else refused 23 0
 
 -- of two lists '23 .., likewise' (first side first), 'both with place 0, and last 13 for the result, also when it exceeds 32,768 bytes'
 unfoldable pub merging : List ℕ → List Item → List Item → Result (List ℕ)

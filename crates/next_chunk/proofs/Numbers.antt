@@ -6,7 +6,7 @@ use mathlib.Core.List.{List, [], ◌∷◌}
 use lib.ListN.{length, drop}
 use borrow.Author.Tests.{ne_eqb}
 use Rattle.base.specs.Bytes.{starts_with}
-use Rattle.base.specs.Choice.{if◌then◌else◌}
+use Rattle.base.specs.Choice.{when◌then◌else◌}
 use Rattle.base.proofs.Choice.{if_true, if_false}
 use Rattle.splitter.specs.Answers.{PieceWithin, first_chunk, cursor}
 use Rattle.splitter.specs.declared.Code.{Code}
@@ -22,15 +22,15 @@ use Rattle.next_chunk.specs.declared.Next.{Next}
 -- the tick state that a number stands for
 module _ (n : ℕ) where
   pub code-none : n ≡ 0 → code.No ≡ code_of n
-  unfolding code_of if◌then◌else◌
+  unfolding code_of when◌then◌else◌
   code-none e = rw e
 
   pub code-first : n ≡ 1 → code.First ≡ code_of n
-  unfolding code_of if◌then◌else◌
+  unfolding code_of when◌then◌else◌
   code-first e = rw e
 
   pub code-rest : (n ≡ 0 → ⊥) → (n ≡ 1 → ⊥) → code.Rest ≡ code_of n
-  unfolding code_of if◌then◌else◌
+  unfolding code_of when◌then◌else◌
   code-rest h k = rw (ne_eqb n 0 h, ne_eqb n 1 k)
 
 -- a space of the body, and one that stands for a line end

@@ -2,7 +2,7 @@
 -- after it.
 use Rattle.std.specs.Prelude.{ℕ, ◌-◌, min, List, [], ◌∷◌, eqb, length, drop}
 use Rattle.base.specs.Bytes.{starts_with}
-use Rattle.base.specs.Choice.{if◌then◌else◌}
+use Rattle.base.specs.Choice.{when◌then◌else◌}
 use Rattle.splitter.specs.Answers.{cursor, first_chunk}
 use Rattle.splitter.specs.declared.Code.{Code}
 use Rattle.splitter.specs.declared.Code.TheVariants as code
@@ -15,7 +15,7 @@ use Rattle.next_chunk.specs.declared.Next.{Next}
 
 -- '0 outside ticks, 1 before the first line in ticks, any other number after it'
 unfoldable pub code_of : ℕ → Code
-code_of n = if eqb n 0 then code.No else if eqb n 1 then code.First else code.Rest
+code_of n = when eqb n 0 then code.No else when eqb n 1 then code.First else code.Rest
 
 -- '2 where it is given back'
 abbrev pub ticks_of : Code → ℕ
@@ -25,7 +25,7 @@ ticks_of code.Rest = 2
 
 -- the chunk of one space is '1 for a part of the body', or '4 for the space that stands for a line end': the byte where it begins tells
 unfoldable pub space_number : List ℕ → ℕ → ℕ
-space_number body at = if starts_with (0x20 ∷ []) (drop at body) then 1 else 4
+space_number body at = when starts_with (0x20 ∷ []) (drop at body) then 1 else 4
 
 -- where the next chunk is looked for; after a last line in ticks without `\n` that is the body's end
 abbrev pub after : List ℕ → Cursor → ℕ

@@ -1,7 +1,7 @@
 -- The texts of the parts are UTF-8, and the document that notes stand for is accepted. Assumes nothing.
 use Rattle.notes_rules.proofs.Names.{ℕ, zero, suc, ◌+◌, ◌≤◌, ◌<◌, ◌≡◌, refl, sym, ap, ◌∙◌, subst, Bool, true, false, not, ◌&&◌, ◌||◌, List, [], ◌∷◌}
 use Rattle.notes_rules.proofs.Names.{◌++◌, eqb, length, drop, length-append, length-drop, drop_of_length-le, drop-drop, arith, eqb-true}
-use Rattle.notes_rules.proofs.Names.{if◌then◌else◌, starts_with, gives, ◌>>=◌, pick, starts-split, Range, row_of, table, well_formed, Valid, due_1}
+use Rattle.notes_rules.proofs.Names.{when◌then◌else◌, starts_with, gives, ◌>>=◌, pick, starts-split, Range, row_of, table, well_formed, Valid, due_1}
 use Rattle.notes_rules.proofs.Names.{number, index, text, around, Block, short, check, length-stored, Line, header, item, other, separator, lines}
 use Rattle.notes_rules.proofs.Names.{header_mark, item_mark, joined, styled, Stretch, stretches, style_of, records, text_records, parts, document}
 use Rattle.notes_rules.proofs.Names.{text_left, ordinary, le-ltb, cut, adds-low, reads, open_blocks, closed, reads-text, reads_before, part_of}
@@ -66,7 +66,7 @@ behind_mark : (p t : List ℕ) → Valid p → length p ≡ 2 → starts_with p 
 behind_mark p t w n e v = valid_right p (drop 2 t) w (subst Valid (starts-split p t e ∙ ap (λ (k : ℕ). p ++ drop k t) n) v)
 
 marks_valid : Valid header_mark × Valid item_mark
-unfolding row_of table if◌then◌else◌
+unfolding row_of table when◌then◌else◌
 marks_valid = (refl, refl)
 
 no_lines : AllValid (joined (lines []))
@@ -134,5 +134,5 @@ module _ (stack : List ℕ) (low : length stack < 32) where
 
 -- a document of at most 32,768 bytes that notes in UTF-8 stand for passes refusals 1 to 8
 pub document_accepted : (s : List ℕ) → Valid s → length (document s) ≤ 32768 → check (document s) ≡ gives []
-unfolding check short open_blocks closed document ◌>>=◌ if◌then◌else◌
+unfolding check short open_blocks closed document ◌>>=◌ when◌then◌else◌
 document_accepted s v h = rw (le-ltb 32768 (length (parts (joined (lines s)))) h, reads-parts [] (omega arith) (joined (lines s)) 0 (notes_valid s v) h)

@@ -1,7 +1,7 @@
 -- Lines and the parts that they make, read off the bytes from a line's start on. Assumes nothing.
 use Rattle.notes_rules.proofs.Names.{ℕ, zero, suc, ◌+◌, ◌≤◌, ◌≡◌, refl, sym, ap, ap₂, ◌∙◌, ◌⊎◌, inl, inr, ⊎_elim, Bool, true, false, not, ◌&&◌, ◌||◌}
 use Rattle.notes_rules.proofs.Names.{false≢true, List, [], ◌∷◌, ◌++◌, eqb, length, drop, length-append, length-drop, drop_of_length-le, drop-drop}
-use Rattle.notes_rules.proofs.Names.{arith, eqb-true, ne_eqb, not-true, if◌then◌else◌, starts_with, if_true, if_false, and_left, and_right}
+use Rattle.notes_rules.proofs.Names.{arith, eqb-true, ne_eqb, not-true, when◌then◌else◌, starts_with, if_true, if_false, and_left, and_right}
 use Rattle.notes_rules.proofs.Names.{starts-split, Line, header, item, other, separator, lines, header_mark, item_mark, spaces, line_of, joined, marked}
 use Rattle.notes_rules.proofs.Names.{blank_line, ordinary, text_left, drop_at, not-suc-le-zero, eqb-false, starts-length, starting, before, join}
 
@@ -20,15 +20,15 @@ either false = inr refl
 module _ (one : Bool) (b : ℕ) (s : List ℕ) where
   -- a line feed that ends the text, and any other byte
   pub left-stop : b ≡ 0x0A → (one || not (ordinary s)) ≡ true → text_left one (b ∷ s) ≡ []
-  unfolding text_left if◌then◌else◌
+  unfolding text_left when◌then◌else◌
   left-stop e f = rw (e, f)
 
   pub left-feed : b ≡ 0x0A → (one || not (ordinary s)) ≡ false → text_left one (b ∷ s) ≡ b ∷ text_left one s
-  unfolding text_left if◌then◌else◌
+  unfolding text_left when◌then◌else◌
   left-feed e f = rw (e, f)
 
   pub left-go : eqb b 0x0A ≡ false → text_left one (b ∷ s) ≡ b ∷ text_left one s
-  unfolding text_left if◌then◌else◌
+  unfolding text_left when◌then◌else◌
   left-go e = rw e
 
 -- Lines
@@ -108,17 +108,17 @@ left_mark one (x ∷ p) s u =
 
 -- the text goes on over a line feed where an ordinary line follows
 abbrev onto : List ℕ → List ℕ → List ℕ
-onto n l = if ordinary n then l ++ 0x0A ∷ text_left false n else l
+onto n l = when ordinary n then l ++ 0x0A ∷ text_left false n else l
 
 left-none : text_left false [] ≡ onto (next []) (line [])
-unfolding text_left ordinary marked starts_with blank_line if◌then◌else◌
+unfolding text_left ordinary marked starts_with blank_line when◌then◌else◌
 left-none = refl
 
 onto_more : (b : ℕ) (n l : List ℕ) → b ∷ onto n l ≡ onto n (b ∷ l)
-unfolding if◌then◌else◌
+unfolding when◌then◌else◌
 onto_more b n l = go (ordinary n)
   where
-    go : (t : Bool) → b ∷ (if t then l ++ 0x0A ∷ text_left false n else l) ≡ if t then b ∷ l ++ 0x0A ∷ text_left false n else b ∷ l
+    go : (t : Bool) → b ∷ (when t then l ++ 0x0A ∷ text_left false n else l) ≡ when t then b ∷ l ++ 0x0A ∷ text_left false n else b ∷ l
     go true = refl
     go false = refl
 
@@ -147,9 +147,9 @@ module _ (b : ℕ) (s : List ℕ) where
 
   -- the test of the first line is one of the bytes
   line_of-first : line_of (line (b ∷ s))
-      ≡ if starts_with header_mark (b ∷ s) then header (drop 2 (line (b ∷ s))) else
-      if starts_with item_mark (b ∷ s) then item (drop 2 (line (b ∷ s))) else
-      if blank_line (b ∷ s) then separator else other (line (b ∷ s))
+      ≡ when starts_with header_mark (b ∷ s) then header (drop 2 (line (b ∷ s))) else
+      when starts_with item_mark (b ∷ s) then item (drop 2 (line (b ∷ s))) else
+      when blank_line (b ∷ s) then separator else other (line (b ∷ s))
   unfolding line_of
   line_of-first = rw (starts-line header_mark (b ∷ s) refl, starts-line item_mark (b ∷ s) refl, spaces-line (b ∷ s))
 

@@ -3,7 +3,7 @@ pub use Prim.Native.Nat.{◌*◌, ◌+◌, ◌-◌, ◌/◌, ◌<◌, ◌≤◌,
 pub use Rattle.base.proofs.Choice.{and_both, and_left, and_right, if_false, if_true, not-passed, pick}
 pub use Rattle.base.proofs.Prefix.{starts-length, starts-split}
 unfoldable pub use Rattle.base.specs.Bytes.{starts_with}
-unfoldable pub use Rattle.base.specs.Choice.{if◌then◌else◌}
+unfoldable pub use Rattle.base.specs.Choice.{when◌then◌else◌}
 pub use Rattle.base.specs.Result.{gives, refused}
 unfoldable pub use Rattle.base.specs.Result.{◌>>=◌}
 pub use Rattle.buffer.proofs.Pasting.{length-stored}

@@ -1,6 +1,6 @@
 -- The document that notes stand for prints what they print without markers and paired backticks. Assumes nothing.
 use Rattle.notes_rules.proofs.Names.{ℕ, ◌+◌, ◌≤◌, ◌≡◌, refl, sym, ap, ap₂, ◌∙◌, subst, Bool, false, List, [], ◌∷◌, ◌++◌, append_assoc, eqb, length}
-use Rattle.notes_rules.proofs.Names.{length-append, arith, if◌then◌else◌, Valid, printing, number, index, tokens, adds, order, printing_order, text}
+use Rattle.notes_rules.proofs.Names.{length-append, arith, when◌then◌else◌, Valid, printing, number, index, tokens, adds, order, printing_order, text}
 use Rattle.notes_rules.proofs.Names.{start, end, around, Block, Holds_kind, Holds-size, number_small, Line, header, item, other, separator, lines}
 use Rattle.notes_rules.proofs.Names.{joined, styled, Stretch, stretches, style_of, records, text_records, parts, document, without, valid_both}
 use Rattle.records.proofs.Tables.{kind_style, kind_opens, kind_closes, index_small}
@@ -30,13 +30,13 @@ prints-text l x rest h =
 -- a block other than TermRef
 module _ (b : Block) (rest : List ℕ) (e : eqb (index b) 9 ≡ false) where
   prints-start : printing_order (start b ++ rest) ≡ printing_order rest
-  unfolding start adds if◌then◌else◌
+  unfolding start adds when◌then◌else◌
   prints-start =
       prints-stored (0x0100 + index b) (kind.Start b) [] rest (Holds_kind _ (omega (arith, index_small b))) refl (kind_opens b)
       ∙ rw e
 
   prints-end : printing_order (end b ++ rest) ≡ printing_order rest
-  unfolding end adds if◌then◌else◌
+  unfolding end adds when◌then◌else◌
   prints-end =
       prints-stored (0x0200 + index b) (kind.End b) [] rest (Holds_kind _ (omega (arith, index_small b))) refl (kind_closes b)
       ∙ rw e

@@ -1,7 +1,7 @@
 -- The notes without markers and paired backticks, and the texts of their parts. Assumes nothing.
 use Rattle.notes_rules.proofs.Names.{ℕ, zero, suc, ◌+◌, ◌≤◌, ◌≡◌, refl, sym, ap, ap₂, ◌∙◌, subst, inl, inr, ⊎_elim, Bool, true, false, not, ◌&&◌}
 use Rattle.notes_rules.proofs.Names.{◌||◌, false≢true, List, [], ◌∷◌, ◌++◌, eqb, length, drop, length-drop, drop_of_length-le, drop-drop, arith}
-use Rattle.notes_rules.proofs.Names.{eqb-true, not-true, if◌then◌else◌, starts_with, pick, if_true, if_false, and_left, and_right, starts-split, Line}
+use Rattle.notes_rules.proofs.Names.{eqb-true, not-true, when◌then◌else◌, starts_with, pick, if_true, if_false, and_left, and_right, starts-split, Line}
 use Rattle.notes_rules.proofs.Names.{header, item, other, separator, lines, header_mark, item_mark, joined, Styled, styled_as, ticked, styled, marked}
 use Rattle.notes_rules.proofs.Names.{blank_line, ordinary, text_left, marker_size, without_from, without, subst₂, eq-eqb, not-false, not-passed}
 use Rattle.notes_rules.proofs.Thin.{Thin, none, kept, cut, Ascii, Gap, thin_before}
@@ -312,7 +312,7 @@ Low (suc n) [] = Unit {0}
 Low (suc n) (b ∷ s) = Ascii b × Low n s
 
 low_marker : (s : List ℕ) → Low (marker_size s) s
-unfolding marker_size if◌then◌else◌
+unfolding marker_size when◌then◌else◌
 low_marker s =
     ⊎_elim
     (λ (e : starts_with header_mark s ≡ true).

@@ -1,5 +1,5 @@
 -- Text with some ASCII bytes taken out is text, and prints the same where those are White_Space. Assumes nothing.
-use Rattle.notes_rules.proofs.Names.{ℕ, ◌+◌, ◌<◌, ◌≡◌, refl, sym, ap, ◌∙◌, ◌⊎◌, ⊎_elim, Bool, true, ◌&&◌, List, [], ◌∷◌, ◌++◌, arith, if◌then◌else◌}
+use Rattle.notes_rules.proofs.Names.{ℕ, ◌+◌, ◌<◌, ◌≡◌, refl, sym, ap, ◌∙◌, ◌⊎◌, ⊎_elim, Bool, true, ◌&&◌, List, [], ◌∷◌, ◌++◌, arith, when◌then◌else◌}
 use Rattle.notes_rules.proofs.Names.{and_left, and_right, Range, within, table, row_of, well_formed, printing, due_1, Valid, follows, follow}
 use Rattle.notes_rules.proofs.Names.{follows_rest, row_follows, ◌-◌, ◌*◌, emit, decode_from, decode-any}
 use Rattle.white.specs.White.{white, whites, unblank}
@@ -50,11 +50,11 @@ thin_valid h e = thin_fits [] refl h e
 -- Printing characters
 
 emit-unblank : (due : List Range) (c : ℕ) (xs ys : List ℕ) → unblank xs ≡ unblank ys → unblank (emit due c xs) ≡ unblank (emit due c ys)
-emit-unblank [] c xs ys e = ap (λ (l : List ℕ). if white c then l else c ∷ l) e
+emit-unblank [] c xs ys e = ap (λ (l : List ℕ). when white c then l else c ∷ l) e
 emit-unblank (r ∷ due) c xs ys e = e
 
 gap_none : (b c : ℕ) (s : List ℕ) → Gap b → unblank (decode_from [] c (b ∷ s)) ≡ unblank (decode_from [] c s)
-unfolding if◌then◌else◌ row_of table white whites
+unfolding when◌then◌else◌ row_of table white whites
 gap_none b c s h =
     ⊎_elim
     (λ (e : b ≡ 0x0A). ap (λ (k : ℕ). unblank (decode_from [] c (k ∷ s))) e ∙ feed)

@@ -1,7 +1,7 @@
 -- The writers' notes (02, point 11): lines, the parts that they make, the stretches of a part's text, and the stored document.
 use Rattle.std.specs.Prelude.{ℕ, Bool, true, false, not, ◌&&◌, ◌||◌, List, [], ◌∷◌, ◌++◌, leb, eqb, length, drop}
 use Rattle.std.specs.Bool.{beq}
-use Rattle.base.specs.Choice.{if◌then◌else◌}
+use Rattle.base.specs.Choice.{when◌then◌else◌}
 use Rattle.base.specs.Bytes.{starts_with}
 use Rattle.base.specs.Result.{Result, gives, refused, ◌>>=◌}
 use Rattle.utf8.specs.Utf8.{utf8}
@@ -21,7 +21,7 @@ starting b (l ∷ ls) = (b ∷ l) ∷ ls
 -- 'notes .. with line feeds': a line ends at a line feed; what stands after the last one is a line if it is not empty
 unfoldable pub lines : List ℕ → List (List ℕ)
 lines [] = []
-lines (b ∷ s) = if eqb b 0x0A then [] ∷ lines s else starting b (lines s)
+lines (b ∷ s) = when eqb b 0x0A then [] ∷ lines s else starting b (lines s)
 
 -- What a line is, with the text that it holds.
 pub data Line : Type 0 where
@@ -44,9 +44,9 @@ spaces (b ∷ l) = eqb b 0x20 && spaces l
 -- spaces separates.'
 unfoldable pub line_of : List ℕ → Line
 line_of l =
-    if starts_with header_mark l then header (drop 2 l) else
-    if starts_with item_mark l then item (drop 2 l) else
-    if spaces l then separator else other l
+    when starts_with header_mark l then header (drop 2 l) else
+    when starts_with item_mark l then item (drop 2 l) else
+    when spaces l then separator else other l
 
 -- The parts: lines, where other neighbouring lines are one
 
@@ -88,7 +88,7 @@ ticked (b ∷ s) = eqb b 0x60 || ticked s
 -- is one of a pair if a pair is open, which it then closes, or if another one follows, which then closes it
 unfoldable pub styled : Bool → List ℕ → List Styled
 styled within [] = []
-styled within (b ∷ s) = if eqb b 0x60 && (within || ticked s) then styled (not within) s else styled_as within b ∷ styled within s
+styled within (b ∷ s) = when eqb b 0x60 && (within || ticked s) then styled (not within) s else styled_as within b ∷ styled within s
 
 -- A stretch: bytes of one style.
 pub record Stretch : Type 0 where
@@ -102,7 +102,7 @@ stretch l x = record { literal = l; body = x }
 abbrev pub grown : Styled → List Stretch → List Stretch
 grown m [] = stretch m.literal (m.byte ∷ []) ∷ []
 grown m (x ∷ xs) =
-    if beq m.literal x.literal then stretch m.literal (m.byte ∷ x.body) ∷ xs else stretch m.literal (m.byte ∷ []) ∷ x ∷ xs
+    when beq m.literal x.literal then stretch m.literal (m.byte ∷ x.body) ∷ xs else stretch m.literal (m.byte ∷ []) ∷ x ∷ xs
 
 -- 'empty stretches give no record, neighbours of one style make one record' (`Apart` in specs/Laws.antt says it once more)
 unfoldable pub stretches : List Styled → List Stretch
@@ -142,8 +142,8 @@ document s = parts (joined (lines s))
 
 -- '13, also past 32,768 bytes'
 unfoldable pub fit : ℕ → List ℕ → Result (List ℕ)
-fit room x = if leb (length x) room && leb (length x) max_bytes then gives x else refused 13 0
+fit room x = when leb (length x) room && leb (length x) max_bytes then gives x else refused 13 0
 
 -- '1 when the notes are too long comes first, then 19 when they are not UTF-8, with place 0, then 13'
 unfoldable pub taken_in : ℕ → List ℕ → Result (List ℕ)
-taken_in room s = short s >>= λ s. if utf8 s then fit room (document s) else refused 19 0
+taken_in room s = short s >>= λ s. when utf8 s then fit room (document s) else refused 19 0

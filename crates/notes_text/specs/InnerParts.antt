@@ -2,7 +2,7 @@
 use Rattle.std.specs.Prelude.{ℕ, ◌+◌, ◌≤◌, ◌≡◌, Bool, false, List, [], ◌∷◌, ltb, length, drop}
 use Rattle.std.specs.Bool.{beq}
 use Rattle.base.specs.Bytes.{part}
-use Rattle.base.specs.Choice.{if◌then◌else◌}
+use Rattle.base.specs.Choice.{when◌then◌else◌}
 use Rattle.records.specs.Records.{number}
 use Rattle.notes_rules.specs.Notes.{Styled, styled, ticked, style_of}
 use Rattle.notes_text.specs.declared.Run.{Run}
@@ -20,11 +20,11 @@ pub record Tick (s : List ℕ) (at r : ℕ) : Type 0 where
 -- the bytes of one style that stand first, and the others
 unfoldable pub lead : Bool → List Styled → List ℕ
 lead l [] = []
-lead l (m ∷ ms) = if beq l m.literal then m.byte ∷ lead l ms else []
+lead l (m ∷ ms) = when beq l m.literal then m.byte ∷ lead l ms else []
 
 unfoldable pub behind : Bool → List Styled → List Styled
 behind l [] = []
-behind l (m ∷ ms) = if beq l m.literal then behind l ms else m ∷ ms
+behind l (m ∷ ms) = when beq l m.literal then behind l ms else m ∷ ms
 
 -- the bytes of one style from a place on, where a pair is open if that style is Literal: so many, and the others follow
 pub record Runs (s : List ℕ) (at : ℕ) (within : Bool) (r : Run) : Type 0 where

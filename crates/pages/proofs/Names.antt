@@ -3,7 +3,7 @@ pub use Prim.Native.Nat.{◌*◌, ◌+◌, ◌-◌, ◌/◌, ◌<◌, ◌≤◌,
 pub use Rattle.base.proofs.Choice.{and_both, and_left, and_right, eq_or_not, if_false, if_true, le_or_lt}
 pub use Rattle.base.proofs.Results.{bind_gives, gives_same, if_gives, refused-gives}
 pub use Rattle.base.specs.Choice.{among}
-unfoldable pub use Rattle.base.specs.Choice.{if◌then◌else◌}
+unfoldable pub use Rattle.base.specs.Choice.{when◌then◌else◌}
 unfoldable pub use Rattle.pages.specs.InnerParts.{bytes_of}
 unfoldable pub use Rattle.pages.specs.Order.{in_order, pages_from, printed}
 pub use Rattle.pages.specs.Pages.{shown}

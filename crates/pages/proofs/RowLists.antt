@@ -1,16 +1,16 @@
 -- What `rows` gives is a list of rows, and the only one that joins to the text. Assumes nothing.
-use Rattle.pages.proofs.Names.{ℕ, ◌≡◌, refl, sym, ap, ◌∙◌, ⊎_elim, List, [], ◌∷◌, ◌++◌, append_assoc, arith, ne_eqb, if◌then◌else◌, eq_or_not, leads}
+use Rattle.pages.proofs.Names.{ℕ, ◌≡◌, refl, sym, ap, ◌∙◌, ⊎_elim, List, [], ◌∷◌, ◌++◌, append_assoc, arith, ne_eqb, when◌then◌else◌, eq_or_not, leads}
 use Rattle.pages.proofs.Names.{rows, joined, feeds, append-nil}
 use Rattle.pages.specs.RowList.{RowList, none, rest, line}
 use Rattle.pages.proofs.Rows.{feed-yes, feed-no}
 
 leads-feed : (rs : List (List ℕ)) → leads 0x0A rs ≡ (0x0A ∷ []) ∷ rs
-unfolding leads if◌then◌else◌
+unfolding leads when◌then◌else◌
 leads-feed [] = refl
 leads-feed (r ∷ rs) = refl
 
 leads-other : (b : ℕ) (r : List ℕ) (rs : List (List ℕ)) → (b ≡ 0x0A → ⊥) → leads b (r ∷ rs) ≡ (b ∷ r) ∷ rs
-unfolding leads if◌then◌else◌
+unfolding leads when◌then◌else◌
 leads-other b r rs h = rw (ne_eqb b 0x0A h)
 
 no-feed : (b : ℕ) (r : List ℕ) → feeds (b ∷ r) ≡ 0 → (b ≡ 0x0A → ⊥) × (feeds r ≡ 0)

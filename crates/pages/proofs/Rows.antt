@@ -1,7 +1,7 @@
 -- The rows of a text, byte by byte and by blocks. Assumes nothing.
 use Rattle.pages.proofs.Names.{ℕ, zero, suc, ◌+◌, ◌-◌, ◌≤◌, ◌<◌, ◌≡◌, refl, sym, ap, ap₂, ◌∙◌, true, false, List, [], ◌∷◌, ◌++◌, append_assoc, length}
 use Rattle.pages.proofs.Names.{take, drop, get_or, length-drop, take-append-drop, drop_of_length-le, drop-drop, length-take-le, arith, ne_eqb}
-use Rattle.pages.proofs.Names.{if◌then◌else◌, leads, rows, joined, feed, feeds, bytes_of, Bool, eqb, length-append, sub-zero, eq-eqb}
+use Rattle.pages.proofs.Names.{when◌then◌else◌, leads, rows, joined, feed, feeds, bytes_of, Bool, eqb, length-append, sub-zero, eq-eqb}
 use lib.Seq.{drop-cons, take-nil, drop-nil, take_all, take_at}
 use native.Mathlib.Numerals.{add-one, sub-one}
 use Rattle.pages.specs.InnerParts.{Fed}
@@ -9,11 +9,11 @@ use Rattle.pages.specs.InnerParts.{Fed}
 -- Line feeds
 
 pub feed-yes : (b : ℕ) → b ≡ 0x0A → feed b ≡ 1
-unfolding feed if◌then◌else◌
+unfolding feed when◌then◌else◌
 feed-yes b e = rw (eq-eqb b 0x0A e)
 
 pub feed-no : (b : ℕ) → (b ≡ 0x0A → ⊥) → feed b ≡ 0
-unfolding feed if◌then◌else◌
+unfolding feed when◌then◌else◌
 feed-no b e = rw (ne_eqb b 0x0A e)
 
 -- at a place
@@ -41,27 +41,27 @@ by-feed P b f g = go (eqb b 0x0A) refl
     go false e = g e
 
 joined-leads : (b : ℕ) (rs : List (List ℕ)) → joined (leads b rs) ≡ b ∷ joined rs
-unfolding leads joined if◌then◌else◌
+unfolding leads joined when◌then◌else◌
 joined-leads b [] = refl
 joined-leads b (r ∷ rs) = by-feed _ b (λ e. rw e) (λ e. rw e)
 
 length-leads : (b : ℕ) (r : List ℕ) (rs : List (List ℕ)) → length (leads b (r ∷ rs)) ≡ feed b + length (r ∷ rs)
-unfolding leads feed if◌then◌else◌
+unfolding leads feed when◌then◌else◌
 length-leads b r rs = by-feed _ b (λ e. rw e (omega arith)) (λ e. rw e (omega arith))
 
 joined-take-leads : (k b : ℕ) (rs : List (List ℕ)) → joined (take (suc k) (leads b rs)) ≡ b ∷ joined (take (suc k - feed b) rs)
-unfolding leads joined feed if◌then◌else◌
+unfolding leads joined feed when◌then◌else◌
 joined-take-leads k b [] = rw (take-nil k, take-nil (suc k - feed b))
 joined-take-leads k b (r ∷ rs) = by-feed _ b (λ e. rw (e, sub-one)) (λ e. rw (e, sub-zero))
 
 take-leads : (k b : ℕ) (rs : List (List ℕ)) → take (suc k) (leads b rs) ≡ leads b (take (suc k - feed b) rs)
-unfolding leads feed if◌then◌else◌
+unfolding leads feed when◌then◌else◌
 take-leads k b [] = rw (take-nil k, take-nil (suc k - feed b))
 take-leads zero b (r ∷ rs) = by-feed _ b (λ e. rw e) (λ e. rw (e, e))
 take-leads (suc k) b (r ∷ rs) = by-feed _ b (λ e. rw (e, sub-one, e)) (λ e. rw (e, sub-zero, e))
 
 drop-leads : (k b : ℕ) (rs : List (List ℕ)) → drop (suc k) (leads b rs) ≡ drop (suc k - feed b) rs
-unfolding leads feed if◌then◌else◌
+unfolding leads feed when◌then◌else◌
 drop-leads k b [] = rw (drop-nil k, drop-nil (suc k - feed b))
 drop-leads k b (r ∷ rs) = by-feed _ b (λ e. rw (e, sub-one)) (λ e. rw (e, sub-zero))
 
@@ -74,7 +74,7 @@ rows-joined [] = refl
 rows-joined (b ∷ s) = joined-leads b (rows s) ∙ ap (λ (l : List ℕ). b ∷ l) (rows-joined s)
 
 few_leads : (b n : ℕ) (rs : List (List ℕ)) → length rs ≤ n → length (leads b rs) ≤ suc n
-unfolding leads if◌then◌else◌
+unfolding leads when◌then◌else◌
 few_leads b n [] h = omega arith
 few_leads b n (r ∷ rs) h = by-feed _ b (λ e. rw e (omega arith)) (λ e. rw e (omega arith))
 
@@ -85,7 +85,7 @@ rows_few [] = omega arith
 rows_few (b ∷ s) = few_leads b (length s) (rows s) (rows_few s)
 
 some-leads : (b : ℕ) (rs : List (List ℕ)) → 1 ≤ length (leads b rs)
-unfolding leads if◌then◌else◌
+unfolding leads when◌then◌else◌
 some-leads b [] = omega arith
 some-leads b (r ∷ rs) = by-feed _ b (λ e. rw e (omega arith)) (λ e. rw e (omega arith))
 

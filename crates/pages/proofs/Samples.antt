@@ -1,5 +1,5 @@
 -- Small texts and their pages, by computation. Assumes nothing.
-use Rattle.pages.proofs.Names.{ℕ, ◌≡◌, refl, List, [], ◌∷◌, if◌then◌else◌, leads, rows, joined, pages_in, allowed, rows_before, page_of, page_start}
+use Rattle.pages.proofs.Names.{ℕ, ◌≡◌, refl, List, [], ◌∷◌, when◌then◌else◌, leads, rows, joined, pages_in, allowed, rows_before, page_of, page_start}
 use Rattle.pages.proofs.Names.{page_count, map}
 use Rattle.base.specs.Result.{Result, gives, refused, ◌>>=◌}
 use Prim.Native.String.{String}
@@ -51,13 +51,13 @@ unfoldable pub counts : List Count
 counts = has "a\nb\nc" 2 2 ∷ has "a\nb\n" 2 1 ∷ has "a\n\n" 1 2 ∷ has "é" 200 1 ∷ has "" 1 0 ∷ record { text = "é"; height = 201; pages = refused 20 0 } ∷ []
 
 pub pages_hold : map (λ (s : Sample). page_of s.height s.page (bytes s.text)) samples ≡ map (λ (s : Sample). s.part) samples
-unfolding samples leads rows joined pages_in allowed rows_before page_of encode bytes ◌>>=◌ if◌then◌else◌
+unfolding samples leads rows joined pages_in allowed rows_before page_of encode bytes ◌>>=◌ when◌then◌else◌
 pages_hold = refl
 
 pub starts_hold : map (λ (s : Sample). page_start s.height s.page (bytes s.text)) samples ≡ map (λ (s : Sample). s.start) samples
-unfolding samples leads rows joined pages_in allowed rows_before page_start encode bytes ◌>>=◌ if◌then◌else◌
+unfolding samples leads rows joined pages_in allowed rows_before page_start encode bytes ◌>>=◌ when◌then◌else◌
 starts_hold = refl
 
 pub counts_hold : map (λ (c : Count). page_count c.height (bytes c.text)) counts ≡ map (λ (c : Count). c.pages) counts
-unfolding counts leads rows pages_in allowed page_count encode bytes ◌>>=◌ if◌then◌else◌
+unfolding counts leads rows pages_in allowed page_count encode bytes ◌>>=◌ when◌then◌else◌
 counts_hold = refl

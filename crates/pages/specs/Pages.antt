@@ -1,13 +1,13 @@
 -- Pages of a text by height (02, point 12). A text is any bytes.
 use Rattle.std.specs.Prelude.{ℕ, ◌+◌, ◌-◌, ◌*◌, ◌/◌, List, [], ◌∷◌, ◌++◌, eqb, length, take, drop}
-use Rattle.base.specs.Choice.{if◌then◌else◌, among}
+use Rattle.base.specs.Choice.{when◌then◌else◌, among}
 use Rattle.base.specs.Result.{Result, gives, refused, ◌>>=◌}
 
 -- the rows of a byte and then a text with some rows: a line feed is a row by itself, any other byte begins the text's first row, or is a
 -- row where the text has none
 unfoldable pub leads : ℕ → List (List ℕ) → List (List ℕ)
 leads b [] = (b ∷ []) ∷ []
-leads b (r ∷ rs) = if eqb b 0x0A then (b ∷ []) ∷ r ∷ rs else (b ∷ r) ∷ rs
+leads b (r ∷ rs) = when eqb b 0x0A then (b ∷ []) ∷ r ∷ rs else (b ∷ r) ∷ rs
 
 -- 'rows end at a line feed, a non-empty rest is a row'. specs/RowList.antt says it once more.
 unfoldable pub rows : List ℕ → List (List ℕ)
@@ -25,11 +25,11 @@ pages_in height s = (length (rows s) + (height - 1)) / height
 
 -- '20 when the height is outside 1 to 200', 'with place 0'
 unfoldable pub allowed : ℕ → Result ℕ
-allowed height = if among 1 200 height then gives height else refused 20 0
+allowed height = when among 1 200 height then gives height else refused 20 0
 
 -- 20 is 'tested first', then '21 when the page is 0 or beyond the last', 'with place 0'; else how many rows stand before the page
 unfoldable pub rows_before : ℕ → ℕ → List ℕ → Result ℕ
-rows_before height page s = allowed height >>= λ _. if among 1 (pages_in height s) page then gives (height * (page - 1)) else refused 21 0
+rows_before height page s = allowed height >>= λ _. when among 1 (pages_in height s) page then gives (height * (page - 1)) else refused 21 0
 
 -- 'A page is whole rows': as many as the height after those before it, or as many as there are
 unfoldable pub page_of : ℕ → ℕ → List ℕ → Result (List ℕ)

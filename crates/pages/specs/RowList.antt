@@ -1,11 +1,11 @@
 -- Rows said without a pass over the bytes. What `rows` gives is such a list, and the only one that joins to the text (the laws `rows_are` and
 -- `rows-only`).
 use Rattle.std.specs.Prelude.{ℕ, ◌+◌, ◌≤◌, ◌≡◌, List, [], ◌∷◌, ◌++◌, eqb, length}
-use Rattle.base.specs.Choice.{if◌then◌else◌}
+use Rattle.base.specs.Choice.{when◌then◌else◌}
 
 -- how many line feeds a byte is
 unfoldable pub feed : ℕ → ℕ
-feed b = if eqb b 0x0A then 1 else 0
+feed b = when eqb b 0x0A then 1 else 0
 
 -- how many line feeds a text has
 unfoldable pub feeds : List ℕ → ℕ

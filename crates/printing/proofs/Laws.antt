@@ -7,7 +7,7 @@ use lib.Dec.{ltb}
 use lib.ListN.{drop}
 use native.Mathlib.Nat.{add-zero}
 use borrow.Author.Tests.{lt-ltb, le-leb, lt-leb, eq-eqb, ne_eqb}
-use Rattle.base.specs.Choice.{if◌then◌else◌}
+use Rattle.base.specs.Choice.{when◌then◌else◌}
 use Rattle.base.proofs.Bytes.{byte}
 use Rattle.base.proofs.Choice.{pick}
 use Rattle.utf8.specs.Utf8.{utf8}
@@ -21,19 +21,19 @@ use Rattle.printing.specs.InnerParts.{ascii_white, ascii_prints, Went, Ran}
 
 module _ (b : ℕ) where
   pub prints_space : b ≡ 0x20 → 0 ≡ ascii_prints b
-  unfolding ascii_prints if◌then◌else◌
+  unfolding ascii_prints when◌then◌else◌
   prints_space e = rw (eq-eqb b 0x20 e)
 
   pub prints-low : (b ≡ 0x20 → ⊥) → b < 0x09 → 1 ≡ ascii_prints b
-  unfolding ascii_prints if◌then◌else◌
+  unfolding ascii_prints when◌then◌else◌
   prints-low n h = rw (ne_eqb b 0x20 n, lt-leb 0x09 b h)
 
   pub prints-control : (b ≡ 0x20 → ⊥) → 0x09 ≤ b → b ≤ 0x0D → 0 ≡ ascii_prints b
-  unfolding ascii_prints if◌then◌else◌
+  unfolding ascii_prints when◌then◌else◌
   prints-control n h k = rw (ne_eqb b 0x20 n, le-leb 0x09 b h, le-leb b 0x0D k)
 
   pub prints-high : (b ≡ 0x20 → ⊥) → 0x09 ≤ b → 0x0D < b → 1 ≡ ascii_prints b
-  unfolding ascii_prints if◌then◌else◌
+  unfolding ascii_prints when◌then◌else◌
   prints-high n h k = rw (ne_eqb b 0x20 n, le-leb 0x09 b h, lt-leb b 0x0D k)
 
   pub prints_small : ascii_prints b ≤ 1

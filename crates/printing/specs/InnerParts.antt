@@ -1,6 +1,6 @@
 -- What the functions inside this crate promise each other; no rule of 01 or of the Unicode standard stands here.
 use Rattle.std.specs.Prelude.{ℕ, zero, suc, ◌+◌, ◌≤◌, ◌<◌, ◌≡◌, Bool, false, ◌&&◌, ◌||◌, List, eqb, leb, length, drop, get_or}
-use Rattle.base.specs.Choice.{if◌then◌else◌}
+use Rattle.base.specs.Choice.{when◌then◌else◌}
 use Rattle.utf8.specs.Utf8.{utf8}
 use Rattle.white.specs.White.{printing}
 use Rattle.printing.specs.declared.Run.{Run}
@@ -10,7 +10,7 @@ abbrev pub ascii_white : ℕ → Bool
 ascii_white b = eqb b 0x20 || (leb 0x09 b && leb b 0x0D)
 
 unfoldable pub ascii_prints : ℕ → ℕ
-ascii_prints b = if ascii_white b then 0 else 1
+ascii_prints b = when ascii_white b then 0 else 1
 
 -- of k bytes from a on
 unfoldable pub ascii_count : List ℕ → ℕ → ℕ → ℕ

@@ -7,22 +7,22 @@ use Rattle.recorded.specs.Spoken.{ReadsFull}
 use lib.ListN.{length-append}
 use Rattle.std.proofs.Common.{subst, take_all, ◌≡◌, ◌≢◌, ℕ, ◌≤◌, List, [], ◌∷◌, ◌++◌, Bool, true, false, refl, sym, ap, ◌∙◌, arith, length, take, get_or}
 use Rattle.std.specs.Prelude.{ltb}
-use Rattle.base.specs.Choice.{if◌then◌else◌}
+use Rattle.base.specs.Choice.{when◌then◌else◌}
 use Rattle.records.specs.Records.{little}
 use Rattle.recorded.specs.InnerCases.{number_in, number_size}
 
 -- one byte or five, by a test
 size_by : Bool → ℕ
-unfolding if◌then◌else◌
-size_by b = if b then 1 else 5
+unfolding when◌then◌else◌
+size_by b = when b then 1 else 5
 
 one_or_five : (b : Bool) → size_by b ≢ 5 → size_by b ≡ 1
-unfolding if◌then◌else◌ size_by
+unfolding when◌then◌else◌ size_by
 one_or_five true h = refl
 one_or_five false h = absurd (h refl)
 
 is_false : (b : Bool) → size_by b ≡ 5 → b ≡ false
-unfolding if◌then◌else◌ size_by
+unfolding when◌then◌else◌ size_by
 is_false true h = absurd (omega (arith, h))
 is_false false h = refl
 
@@ -31,7 +31,7 @@ unfolding number_size size_by
 size_one s h = one_or_five (ltb (get_or s 0 0) 255) h
 
 pub long_number : (s t : List ℕ) → length s ≡ 1 → length t ≡ 4 → number_size s ≡ 5 → number_in (s ++ t) ≡ little t
-unfolding number_in number_size if◌then◌else◌ size_by
+unfolding number_in number_size when◌then◌else◌ size_by
 long_number [] t h k five = absurd (omega (arith, h))
 long_number (b ∷ c ∷ s) t h k five = absurd (omega (arith, h))
 long_number (b ∷ []) [] h k five = absurd (omega (arith, k))

@@ -1,7 +1,7 @@
 -- A list of cases, as oracle/src/cases.rs says its form: numbers, a call, its document and its answer, and a room before a call. No rule
 -- of 01 stands here.
 use Rattle.std.specs.Prelude.{ℕ, ◌+◌, ◌*◌, ◌%◌, Bool, ◌&&◌, List, ltb, eqb, length, take, drop, get_or, set}
-use Rattle.base.specs.Choice.{if◌then◌else◌}
+use Rattle.base.specs.Choice.{when◌then◌else◌}
 use Rattle.records.specs.Records.{little}
 use Rattle.compared.specs.InnerCompared.{filled_by, holds_by}
 use Rattle.recorded.specs.declared.Call.{Call}
@@ -10,13 +10,13 @@ use Rattle.recorded.specs.declared.Call.{Call}
 -- answer has.
 unfoldable pub number_in : List ℕ → ℕ
 number_in s =
-    if ltb (get_or s 0 255) 255 then get_or s 0 255 else
-    if ltb (length s) 5 then 0xFFFF_FFFF else
+    when ltb (get_or s 0 255) 255 then get_or s 0 255 else
+    when ltb (length s) 5 then 0xFFFF_FFFF else
     little (take 4 (drop 1 s))
 
 -- how many bytes it takes, and the bytes after it
 unfoldable pub number_size : List ℕ → ℕ
-number_size s = if ltb (get_or s 0 0) 255 then 1 else 5
+number_size s = when ltb (get_or s 0 0) 255 then 1 else 5
 
 unfoldable pub past : List ℕ → List ℕ
 past s = drop (number_size s) s
@@ -62,4 +62,4 @@ keeps room document = holds_by pattern room document
 unfoldable pub counted : List ℕ → List ℕ → List ℕ
 counted counts case =
     let call = get_or case 0 255 in
-    if ltb call (length counts) && ltb (get_or counts call 0) 1_000_000 then set counts call (get_or counts call 0 + 1) else counts
+    when ltb call (length counts) && ltb (get_or counts call 0) 1_000_000 then set counts call (get_or counts call 0 + 1) else counts

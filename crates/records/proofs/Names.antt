@@ -1,7 +1,7 @@
 -- Names of other crates and libraries that the proofs of this crate cite, by where they are from.
 pub use Prim.Native.Nat.{◌*◌, ◌+◌, ◌-◌, ◌<◌, ◌≤◌, suc, zero, ℕ}
 pub use Rattle.base.proofs.Choice.{and_left, and_right, if_false, if_true, le_or_lt, pick}
-unfoldable pub use Rattle.base.specs.Choice.{if◌then◌else◌}
+unfoldable pub use Rattle.base.specs.Choice.{when◌then◌else◌}
 pub use Rattle.records.specs.Answers.{Read, token_of}
 pub use Rattle.records.specs.Records.{Token, index, is_end, is_start, is_text, number, tokens_from}
 unfoldable pub use Rattle.records.specs.Records.{blocks, kind_of, little, record_fits, size, styles, token_at, tokens}

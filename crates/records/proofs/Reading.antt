@@ -1,7 +1,7 @@
 -- A record's bytes as numbers, its kind, and where it ends. Assumes nothing.
 use Rattle.records.proofs.Names.{ℕ, suc, ◌+◌, ◌-◌, ◌*◌, ◌≤◌, ◌<◌, ◌≡◌, refl, sym, ap, ap₂, ◌∙◌, subst, true, false, List, [], ◌∷◌, leb, ltb, length}
 use Rattle.records.proofs.Names.{take, drop, get_or, length-drop, drop_of_length-le, get_or-eq_default, drop-drop, arith, le_refl, add-zero, lt-ltb}
-use Rattle.records.proofs.Names.{le-ltb, le-leb, lt-leb, leb-true, if◌then◌else◌, and_left, and_right, if_true, if_false, Token, little, styles}
+use Rattle.records.proofs.Names.{le-ltb, le-leb, lt-leb, leb-true, when◌then◌else◌, and_left, and_right, if_true, if_false, Token, little, styles}
 use Rattle.records.proofs.Names.{blocks, kind_of, size, token_at, tokens_from, record_fits, token_of, Read, Kind, Block, Style, Head}
 use lib.Seq.{get_or-drop, take_all, take-nil, length-take-le}
 use Rattle.base.specs.Bytes.{part}
@@ -45,15 +45,15 @@ little-none s at h = let z : get_or s at 0 ≡ 0 = get_or-eq_default s 0 h in om
 
 module _ (k : ℕ) where
   pub kind_text : (s : Style) → 1 ≤ k → k ≤ 5 → s ≡ get_or styles (k - 1) style.Text → kind.Text s ≡ kind_of k
-  unfolding kind_of if◌then◌else◌
+  unfolding kind_of when◌then◌else◌
   kind_text s h j e = rw (le-leb 1 k h, le-leb k 5 j) (ap kind.Text e)
 
   pub kind_start : (b : Block) → 0x0100 ≤ k → k ≤ 0x010B → b ≡ get_or blocks (k - 0x0100) block.Header → kind.Start b ≡ kind_of k
-  unfolding kind_of if◌then◌else◌
+  unfolding kind_of when◌then◌else◌
   kind_start b h j e = rw (le-leb 1 k (omega arith), lt-leb k 5 (omega arith), le-leb 0x0100 k h, le-leb k 0x010B j) (ap kind.Start e)
 
   pub kind_end : (b : Block) → 0x0200 ≤ k → k ≤ 0x020B → b ≡ get_or blocks (k - 0x0200) block.Header → kind.End b ≡ kind_of k
-  unfolding kind_of if◌then◌else◌
+  unfolding kind_of when◌then◌else◌
   kind_end b h j e =
       rw (
         le-leb 1 k (omega arith),
@@ -65,19 +65,19 @@ module _ (k : ℕ) where
       ) (ap kind.End e)
 
   pub kind_0 : k < 1 → kind.Unknown ≡ kind_of k
-  unfolding kind_of if◌then◌else◌
+  unfolding kind_of when◌then◌else◌
   kind_0 h = rw (lt-leb 1 k h, lt-leb 0x0100 k (omega arith), lt-leb 0x0200 k (omega arith))
 
   pub kind_1 : 5 < k → k < 0x0100 → kind.Unknown ≡ kind_of k
-  unfolding kind_of if◌then◌else◌
+  unfolding kind_of when◌then◌else◌
   kind_1 h j = rw (le-leb 1 k (omega arith), lt-leb k 5 h, lt-leb 0x0100 k j, lt-leb 0x0200 k (omega arith))
 
   pub kind_2 : 0x010B < k → k < 0x0200 → kind.Unknown ≡ kind_of k
-  unfolding kind_of if◌then◌else◌
+  unfolding kind_of when◌then◌else◌
   kind_2 h j = rw (le-leb 1 k (omega arith), lt-leb k 5 (omega arith), le-leb 0x0100 k (omega arith), lt-leb k 0x010B h, lt-leb 0x0200 k j)
 
   pub kind_3 : 0x020B < k → kind.Unknown ≡ kind_of k
-  unfolding kind_of if◌then◌else◌
+  unfolding kind_of when◌then◌else◌
   kind_3 h =
       rw (
         le-leb 1 k (omega arith),
@@ -124,7 +124,7 @@ module _ (s : List ℕ) (at : ℕ) where
   module _ (k : Kind) (h : at < length s) (ek : k ≡ kind_of (little (take 2 (drop (at + 4) s)))) where
     listed_here : (start next : ℕ) → start ≡ at + length (take 6 (drop at s)) → part s start next ≡ take (size (drop at s)) (drop (at + 6) s)
         → tokens_from s next ≡ tokens_from s (next_at s at)
-        → tokens_from s at ≡ if ltb at (length s) then token_of s at (record { kind = k; start = start; stop = next; next = next }) ∷ tokens_from s next else []
+        → tokens_from s at ≡ when ltb at (length s) then token_of s at (record { kind = k; start = start; stop = next; next = next }) ∷ tokens_from s next else []
     unfolding token_at
     listed_here start next d b t =
         tokens_at s at h

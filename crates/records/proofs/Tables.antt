@@ -1,11 +1,11 @@
 -- The tables of styles and blocks agree with their numbers and indices. Assumes nothing.
-use Rattle.records.proofs.Names.{◌+◌, ◌<◌, ◌≡◌, refl, if◌then◌else◌, styles, blocks, number, index, kind_of, Style, Block, arith}
+use Rattle.records.proofs.Names.{◌+◌, ◌<◌, ◌≡◌, refl, when◌then◌else◌, styles, blocks, number, index, kind_of, Style, Block, arith}
 use Rattle.records.specs.declared.Style.TheVariants as style
 use Rattle.records.specs.declared.Block.TheVariants as block
 use Rattle.records.specs.declared.Kind.TheVariants as kind
 
 pub kind_style : (st : Style) → kind_of (number st) ≡ kind.Text st
-unfolding kind_of styles if◌then◌else◌
+unfolding kind_of styles when◌then◌else◌
 kind_style style.Text = refl
 kind_style style.Emphasis = refl
 kind_style style.Literal = refl
@@ -13,7 +13,7 @@ kind_style style.Metavar = refl
 kind_style style.Invalid = refl
 
 pub kind_opens : (b : Block) → kind_of (0x0100 + index b) ≡ kind.Start b
-unfolding kind_of blocks if◌then◌else◌
+unfolding kind_of blocks when◌then◌else◌
 kind_opens block.Header = refl
 kind_opens block.Section2 = refl
 kind_opens block.Section3 = refl
@@ -28,7 +28,7 @@ kind_opens block.Meta = refl
 kind_opens block.Mono = refl
 
 pub kind_closes : (b : Block) → kind_of (0x0200 + index b) ≡ kind.End b
-unfolding kind_of blocks if◌then◌else◌
+unfolding kind_of blocks when◌then◌else◌
 kind_closes block.Header = refl
 kind_closes block.Section2 = refl
 kind_closes block.Section3 = refl

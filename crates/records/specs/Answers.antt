@@ -1,6 +1,6 @@
 -- What reading a record answers, seen as the rules' record.
 use Rattle.std.specs.Prelude.{ℕ, ◌+◌, ◌≤◌, ◌<◌, ◌≡◌, true, List, [], ◌∷◌, ltb, length, drop}
-use Rattle.base.specs.Choice.{if◌then◌else◌}
+use Rattle.base.specs.Choice.{when◌then◌else◌}
 use Rattle.base.specs.Bytes.{part}
 use Rattle.records.specs.Records.{Token, kind_of, tokens_from, record_fits, size}
 use Rattle.records.specs.declared.Kind.TheVariants as kind
@@ -18,7 +18,7 @@ token_of s at h = record { place = at; start = h.start; kind = h.kind; body = pa
 -- A record was read at a place: it is the next token and the rest follows; past the end there is none. A body that is cut short
 -- ends with the document.
 pub record Read (s : List ℕ) (at : ℕ) (h : Head) : Type 0 where
-  pub listed : tokens_from s at ≡ if ltb at (length s) then token_of s at h ∷ tokens_from s h.next else []
+  pub listed : tokens_from s at ≡ when ltb at (length s) then token_of s at h ∷ tokens_from s h.next else []
   pub low : at < length s → at < h.start
   pub order : h.start ≤ h.next
   pub ends : h.stop ≡ h.next

@@ -1,6 +1,6 @@
 -- The records of a stored document (01, 'The stored document'): their kinds and bodies, the document's text, and its printing order.
 use Rattle.std.specs.Prelude.{ℕ, zero, suc, ◌+◌, ◌*◌, ◌-◌, Bool, ◌&&◌, true, false, List, [], ◌∷◌, ◌++◌, leb, eqb, length, take, drop, get_or}
-use Rattle.base.specs.Choice.{if◌then◌else◌, among}
+use Rattle.base.specs.Choice.{when◌then◌else◌, among}
 use Rattle.white.specs.White.{printing}
 use Rattle.records.specs.declared.Style.{Style}
 use Rattle.records.specs.declared.Style.TheVariants as style
@@ -49,9 +49,9 @@ index block.Mono = 11
 -- 'Kinds 0x0001 to 0x0005 are text .. A block's start is 0x0100 plus its index, its end 0x0200 plus it'
 unfoldable pub kind_of : ℕ → Kind
 kind_of k =
-    if among 0x0001 0x0005 k then kind.Text (get_or styles (k - 0x0001) style.Text) else
-    if among 0x0100 0x010B k then kind.Start (get_or blocks (k - 0x0100) block.Header) else
-    if among 0x0200 0x020B k then kind.End (get_or blocks (k - 0x0200) block.Header) else kind.Unknown
+    when among 0x0001 0x0005 k then kind.Text (get_or styles (k - 0x0001) style.Text) else
+    when among 0x0100 0x010B k then kind.Start (get_or blocks (k - 0x0100) block.Header) else
+    when among 0x0200 0x020B k then kind.End (get_or blocks (k - 0x0200) block.Header) else kind.Unknown
 
 -- A record: where it starts, where its body starts, its kind and its body.
 pub record Token : Type 0 where
@@ -114,8 +114,8 @@ document_text s = joined (tokens 0 0 s)
 -- adds nothing'
 unfoldable pub adds : Kind → List ℕ → List ℕ
 adds (kind.Text s) body = printing body
-adds (kind.Start b) body = if eqb (index b) 9 then 0x60 ∷ [] else []
-adds (kind.End b) body = if eqb (index b) 9 then 0x60 ∷ [] else []
+adds (kind.Start b) body = when eqb (index b) 9 then 0x60 ∷ [] else []
+adds (kind.End b) body = when eqb (index b) 9 then 0x60 ∷ [] else []
 adds kind.Unknown body = []
 
 -- 'built from nothing, record by record'

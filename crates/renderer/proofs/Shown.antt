@@ -2,7 +2,7 @@
 -- that agree on what is shown agree. Assumes nothing.
 use Rattle.renderer.proofs.Names.{ℕ, ◌≤◌, ◌<◌, ◌≡◌, sym, ap, ◌∙◌, Bool, true, false, List, length, take, Result, gives, refused, ◌>>=◌, if_true}
 use Rattle.renderer.proofs.Names.{if_false, extended, seen, seen_in, seen-out, Page, with_out, page, write, shown, bind_assoc, bind_same}
-use Rattle.base.specs.Choice.{if◌then◌else◌}
+use Rattle.base.specs.Choice.{when◌then◌else◌}
 use Rattle.white.specs.White.{trim}
 
 -- a length within the room, and one past it
@@ -28,10 +28,10 @@ module _ {L A : Type 0} (room : List ℕ) (len : ℕ) (kept : List ℕ) (lay : L
 
   -- a test of the flags that passes, or does not
   module _ (t : L → Bool) (f g : Page L → Result A) where
-    pub shown-yes : t lay ≡ true → (shown room len kept lay >>= λ s. if t s.lay then f s else g s) ≡ (shown room len kept lay >>= f)
+    pub shown-yes : t lay ≡ true → (shown room len kept lay >>= λ s. when t s.lay then f s else g s) ≡ (shown room len kept lay >>= f)
     shown-yes e = shown_then _ f (λ x. if_true _ _ e)
 
-    pub shown-no : t lay ≡ false → (shown room len kept lay >>= λ s. if t s.lay then f s else g s) ≡ (shown room len kept lay >>= g)
+    pub shown-no : t lay ≡ false → (shown room len kept lay >>= λ s. when t s.lay then f s else g s) ≡ (shown room len kept lay >>= g)
     shown-no e = shown_then _ g (λ x. if_false _ _ e)
 
 -- a page that changes, to one with other things kept and other flags

@@ -1,6 +1,6 @@
 -- What the renderers share: the page, the walk over records, the walk over a body's chunks.
 use Rattle.std.specs.Prelude.{ℕ, Bool, true, false, not, List, [], ◌∷◌}
-use Rattle.base.specs.Choice.{if◌then◌else◌}
+use Rattle.base.specs.Choice.{when◌then◌else◌}
 use Rattle.base.specs.Result.{Result, gives, ◌>>=◌}
 use Rattle.room.specs.Room.{extended, seen}
 use Rattle.records.specs.Records.{Token}
@@ -62,4 +62,4 @@ module _ {S : Type 0} where
   -- the chunks of a body in order, each with its place; after the last one 'the rest of it is unread'
   unfoldable pub body : Bool → (Placed → S → Result S) → List Placed → S → Result S
   body full chunk [] s = gives s
-  body full chunk (c ∷ cs) s = chunk c s >>= λ s₁. if last full c.chunk then gives s₁ else body full chunk cs s₁
+  body full chunk (c ∷ cs) s = chunk c s >>= λ s₁. when last full c.chunk then gives s₁ else body full chunk cs s₁

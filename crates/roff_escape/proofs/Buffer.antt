@@ -1,7 +1,7 @@
 -- The labelled buffer: pieces escaped as they arise give the bytes that `escape` of the whole buffer gives at the end, and 13 just where these
 -- are longer than the room. Assumes nothing.
 use Rattle.roff_escape.proofs.Names.{ℕ, ◌+◌, ◌≤◌, ◌<◌, ◌≡◌, refl, sym, ap, ◌∙◌, Bool, true, false, List, [], ◌∷◌, ◌++◌, append_assoc, append-nil}
-use Rattle.roff_escape.proofs.Names.{length, length-append, arith, if◌then◌else◌, Result, gives, refused, ◌>>=◌, bind_assoc, bind_end, bind_same}
+use Rattle.roff_escape.proofs.Names.{length, length-append, arith, when◌then◌else◌, Result, gives, refused, ◌>>=◌, bind_assoc, bind_end, bind_same}
 use Rattle.roff_escape.proofs.Names.{bytes, extended, extended_in, extended-out, extended_twice, Escape, escape, line_start, preamble, Piece, piece}
 use Rattle.roff_escape.proofs.Names.{line_end, line_here, escape_all, line_after}
 use Rattle.roff_escape.specs.Monoid.{push_str, breaks, rendered, Written, writes, begun, new_line, put, push, pushes}
@@ -48,7 +48,7 @@ module _ (room : ℕ) where
   -- a piece is one write
   pub push-writes : (mode : Escape) (x : List ℕ) (w : Written)
       → push room mode x w ≡ writes room (line_end mode w.fresh ++ escape mode (line_here mode w.fresh) x) (line_start mode (line_here mode w.fresh) x) w
-  unfolding push new_line put line_end line_here if◌then◌else◌ ◌>>=◌
+  unfolding push new_line put line_end line_here when◌then◌else◌ ◌>>=◌
   push-writes mode x w = go (breaks mode w.fresh) refl
     where
       go : (b : Bool) → breaks mode w.fresh ≡ b

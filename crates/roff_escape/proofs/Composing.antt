@@ -1,5 +1,5 @@
 -- Pieces that are pushed one after another, as what stands in a room. Assumes nothing.
-use Rattle.roff_escape.proofs.Names.{ℕ, ◌≡◌, refl, sym, ap, ◌∙◌, Bool, true, false, List, [], ◌∷◌, ◌++◌, length, arith, if◌then◌else◌, Result, ◌>>=◌}
+use Rattle.roff_escape.proofs.Names.{ℕ, ◌≡◌, refl, sym, ap, ◌∙◌, Bool, true, false, List, [], ◌∷◌, ◌++◌, length, arith, when◌then◌else◌, Result, ◌>>=◌}
 use Rattle.roff_escape.proofs.Names.{pick, encode, bytes, seen, extended, seen_in, Escape, special, special_no_newline, escape, line_start, at_newline}
 use Rattle.roff_escape.proofs.Names.{Piece, piece, line_end, line_here, escape_all, line_after, font_escape, Followed, Pushed}
 use Rattle.roff_escape.specs.declared.roff.Roff.{Roff}
@@ -12,15 +12,15 @@ use Rattle.roff_escape.proofs.Buffer.{all_append, after-append, all_one, after_o
 
 module _ (mode : Escape) (start : Bool) where
   pub no-line_fresh : start ≡ true → line_end mode start ≡ []
-  unfolding line_end if◌then◌else◌
+  unfolding line_end when◌then◌else◌
   no-line_fresh e = rw e
 
   pub here_fresh : start ≡ true → start ≡ line_here mode start
-  unfolding line_here if◌then◌else◌
+  unfolding line_here when◌then◌else◌
   here_fresh e = rw e
 
   pub no-line_unasked : at_newline mode ≡ false → line_end mode start ≡ []
-  unfolding line_end if◌then◌else◌
+  unfolding line_end when◌then◌else◌
   no-line_unasked f = go start refl
     where
       go : (b : Bool) → start ≡ b → line_end mode start ≡ []
@@ -28,7 +28,7 @@ module _ (mode : Escape) (start : Bool) where
       go false e = rw (e, f)
 
   pub here_unasked : at_newline mode ≡ false → start ≡ line_here mode start
-  unfolding line_here if◌then◌else◌
+  unfolding line_here when◌then◌else◌
   here_unasked f = go start refl
     where
       go : (b : Bool) → start ≡ b → start ≡ line_here mode start
@@ -36,11 +36,11 @@ module _ (mode : Escape) (start : Bool) where
       go false e = rw (e, f)
 
   pub line_asked : start ≡ false → at_newline mode ≡ true → line_end mode start ≡ 0x0A ∷ []
-  unfolding line_end if◌then◌else◌ bytes encode
+  unfolding line_end when◌then◌else◌ bytes encode
   line_asked e f = rw (e, f)
 
   pub here_asked : start ≡ false → at_newline mode ≡ true → true ≡ line_here mode start
-  unfolding line_here if◌then◌else◌
+  unfolding line_here when◌then◌else◌
   here_asked e f = rw (e, f)
 
 -- One piece
@@ -65,7 +65,7 @@ module _ (mode : Escape) (x old new : List ℕ) (len r : ℕ) (start fresh : Boo
       (puts old old len len _ _ (no-line_unasked mode start a) (puts_nothing old len)) (here_unasked mode start a) f g
 
 -- the mode of text asks for none
-pub text_unasked : (strip : Bool) → at_newline (if strip then special_no_newline else special) ≡ false
+pub text_unasked : (strip : Bool) → at_newline (when strip then special_no_newline else special) ≡ false
 text_unasked strip = pick (λ m. at_newline m ≡ false) strip (λ _. refl) (λ _. refl)
 
 -- Some pieces
@@ -94,15 +94,15 @@ pushed-same e a = rw e a
 
 module _ (f : Font) where
   pub font_roman : f ≡ font.Roman → font_escape f ≡ 0x5C ∷ 0x66 ∷ 0x52 ∷ []
-  unfolding font_escape bytes encode if◌then◌else◌
+  unfolding font_escape bytes encode when◌then◌else◌
   font_roman e = rw e
 
   pub font_bold : f ≡ font.Bold → font_escape f ≡ 0x5C ∷ 0x66 ∷ 0x42 ∷ []
-  unfolding font_escape bytes encode if◌then◌else◌
+  unfolding font_escape bytes encode when◌then◌else◌
   font_bold e = rw e
 
   pub font_italic : f ≡ font.Italic → font_escape f ≡ 0x5C ∷ 0x66 ∷ 0x49 ∷ []
-  unfolding font_escape bytes encode if◌then◌else◌
+  unfolding font_escape bytes encode when◌then◌else◌
   font_italic e = rw e
 
 -- The preamble

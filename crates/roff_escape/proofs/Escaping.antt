@@ -1,7 +1,7 @@
 -- Bytes in a mode, as the code writes them one by one. Assumes nothing.
 use Rattle.roff_escape.proofs.Names.{ℕ, zero, suc, ◌+◌, ◌≤◌, ◌<◌, ◌≡◌, refl, sym, ap, ◌∙◌, Bool, true, false, false≢true, ⊎_elim, List, [], ◌∷◌, ◌++◌}
 use Rattle.roff_escape.proofs.Names.{append_assoc, append-nil, eqb, length, take, drop, get_or, length-take-le, drop-cons, add-one, arith, ne_eqb}
-use Rattle.roff_escape.proofs.Names.{if◌then◌else◌, Result, gives, ◌>>=◌, le_or_lt, bind_same, bind_assoc, encode, bytes, seen, extended, seen_in}
+use Rattle.roff_escape.proofs.Names.{when◌then◌else◌, Result, gives, ◌>>=◌, le_or_lt, bind_same, bind_assoc, encode, bytes, seen, extended, seen_in}
 use Rattle.roff_escape.proofs.Names.{seen-out, extended_in, extended_twice, Escape, unescaped_at_newline, spaces, special, special_no_newline, unescaped}
 use Rattle.roff_escape.proofs.Names.{guard, backslash, replaced, spaces_byte, escape_byte, starts_line, escape, line_start, as_it_is}
 use mathlib.Core.Logic.{◌⊎◌, inl, inr}
@@ -38,45 +38,45 @@ puts_two old mid new len m r x y k e f =
 
 module _ (start : Bool) (c : ℕ) where
   pub guard-some : start ≡ true → (c ≡ 0x27) ⊎ (c ≡ 0x2E) → guard start c ≡ 0x5C ∷ 0x26 ∷ []
-  unfolding guard bytes encode if◌then◌else◌
+  unfolding guard bytes encode when◌then◌else◌
   guard-some s h = ⊎_elim (λ (e : c ≡ 0x27). rw (s, e)) (λ (e : c ≡ 0x2E). rw (s, e)) h
 
   pub guard-other : ((c ≡ 0x27) ⊎ (c ≡ 0x2E) → ⊥) → start ≡ true → guard start c ≡ []
-  unfolding guard if◌then◌else◌
+  unfolding guard when◌then◌else◌
   guard-other h s = rw (s, ne_eqb c 0x2E (λ e. h (inr e)), ne_eqb c 0x27 (λ e. h (inl e)))
 
   pub guard_none : start ≡ false → guard start c ≡ []
-  unfolding guard if◌then◌else◌
+  unfolding guard when◌then◌else◌
   guard_none s = rw s
 
 module _ (c : ℕ) where
   pub backslash-some : (c ≡ 0x2D) ⊎ (c ≡ 0x5C) → backslash c ≡ 0x5C ∷ []
-  unfolding backslash bytes encode if◌then◌else◌
+  unfolding backslash bytes encode when◌then◌else◌
   backslash-some h = ⊎_elim (λ (e : c ≡ 0x2D). rw e) (λ (e : c ≡ 0x5C). rw e) h
 
   pub backslash-none : ((c ≡ 0x2D) ⊎ (c ≡ 0x5C) → ⊥) → backslash c ≡ []
-  unfolding backslash if◌then◌else◌
+  unfolding backslash when◌then◌else◌
   backslash-none h = rw (ne_eqb c 0x5C (λ e. h (inr e)), ne_eqb c 0x2D (λ e. h (inl e)))
 
   pub spaces-some : (c ≡ 0x0A) ⊎ (c ≡ 0x20) → spaces_byte c ≡ 0x5C ∷ 0x20 ∷ []
-  unfolding spaces_byte bytes encode if◌then◌else◌
+  unfolding spaces_byte bytes encode when◌then◌else◌
   spaces-some h = ⊎_elim (λ (e : c ≡ 0x0A). rw e) (λ (e : c ≡ 0x20). rw e) h
 
   pub spaces-other : ((c ≡ 0x0A) ⊎ (c ≡ 0x20) → ⊥) → spaces_byte c ≡ c ∷ []
-  unfolding spaces_byte if◌then◌else◌
+  unfolding spaces_byte when◌then◌else◌
   spaces-other h = rw (ne_eqb c 0x20 (λ e. h (inr e)), ne_eqb c 0x0A (λ e. h (inl e)))
 
 module _ (line_end c : ℕ) where
   pub replaced_apostrophe : c ≡ 0x27 → replaced line_end c ≡ 0x5C ∷ 0x2A ∷ 0x28 ∷ 0x41 ∷ 0x71 ∷ []
-  unfolding replaced bytes encode if◌then◌else◌
+  unfolding replaced bytes encode when◌then◌else◌
   replaced_apostrophe e = rw e
 
   pub replaced-line : c ≡ 0x0A → replaced line_end c ≡ line_end ∷ []
-  unfolding replaced if◌then◌else◌
+  unfolding replaced when◌then◌else◌
   replaced-line e = rw e
 
   pub replaced-other : (c ≡ 0x27 → ⊥) → (c ≡ 0x0A → ⊥) → replaced line_end c ≡ c ∷ []
-  unfolding replaced if◌then◌else◌
+  unfolding replaced when◌then◌else◌
   replaced-other h k = rw (ne_eqb c 0x27 h, ne_eqb c 0x0A k)
 
 -- Some bytes

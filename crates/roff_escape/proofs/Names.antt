@@ -4,7 +4,7 @@ pub use Rattle.base.proofs.Choice.{and_both, and_left, and_right, if_false, if_t
 pub use Rattle.base.proofs.Pasting.{overwritten_fits, overwritten-whole}
 pub use Rattle.base.proofs.Results.{bind_assoc, bind_end, bind_same}
 pub use Rattle.base.specs.Bytes.{overwritten, part}
-unfoldable pub use Rattle.base.specs.Choice.{if◌then◌else◌}
+unfoldable pub use Rattle.base.specs.Choice.{when◌then◌else◌}
 pub use Rattle.base.specs.Result.{Result, gives, refused}
 unfoldable pub use Rattle.base.specs.Result.{◌>>=◌}
 unfoldable pub use Rattle.roff_escape.specs.Composer.{control0, font_escape, linebreak, plaintext, text}

@@ -2,7 +2,7 @@
 use Rattle.roff_escape.proofs.Names.{ℕ, zero, suc, ◌+◌, ◌-◌, ◌≤◌, ◌<◌, min, ◌≡◌, refl, sym, ap, ◌∙◌, Bool, true, false, not, ◌&&◌, ◌||◌, false≢true}
 use Rattle.roff_escape.proofs.Names.{⊎_elim, List, [], ◌∷◌, ◌++◌, append-nil, append_assoc, eqb, length, take, drop, get_or, set, length-drop}
 use Rattle.roff_escape.proofs.Names.{length-append, take-append-drop, length-take-le, take_all, take-suc, take-add, take-append-le, take-append-add}
-use Rattle.roff_escape.proofs.Names.{take-take, get_or-drop, drop-drop, add-one, arith, ne_eqb, part, overwritten, if◌then◌else◌, ◌>>=◌, and_left}
+use Rattle.roff_escape.proofs.Names.{take-take, get_or-drop, drop-drop, add-one, arith, ne_eqb, part, overwritten, when◌then◌else◌, ◌>>=◌, and_left}
 use Rattle.roff_escape.proofs.Names.{and_right, and_both, le_or_lt, overwritten_fits, encode, bytes, seen, extended, seen-out, wrote, copied_more}
 use Rattle.roff_escape.proofs.Names.{among, Escape, unescaped_at_newline, spaces, special, special_no_newline, unescaped, special_byte, escape_byte}
 use Rattle.roff_escape.proofs.Names.{starts_line, guard, backslash, replaced, escape, line_start, text_mode, plain, all_plain, Copies}
@@ -19,14 +19,14 @@ module _ (c : ℕ) where
   plain_other h i j k = rw (ne_eqb c 0x0A h, ne_eqb c 0x27 i, ne_eqb c 0x2D j, ne_eqb c 0x5C k)
 
   -- a byte of text, where line ends are stripped or not
-  pub text_byte : (strip start : Bool) → escape_byte (text_mode strip) start c ≡ special_byte (if strip then 0x20 else 0x0A) start c
-  unfolding escape_byte if◌then◌else◌
+  pub text_byte : (strip start : Bool) → escape_byte (text_mode strip) start c ≡ special_byte (when strip then 0x20 else 0x0A) start c
+  unfolding escape_byte when◌then◌else◌
   text_byte true start = refl
   text_byte false start = refl
 
   -- a hyphen
   pub hyphen_byte : c ≡ 0x2D → (strip start : Bool) → escape_byte (text_mode strip) start c ≡ 0x5C ∷ 0x2D ∷ []
-  unfolding escape_byte special_byte guard backslash replaced bytes encode if◌then◌else◌
+  unfolding escape_byte special_byte guard backslash replaced bytes encode when◌then◌else◌
   hyphen_byte e true true = rw e
   hyphen_byte e true false = rw e
   hyphen_byte e false true = rw e
@@ -62,12 +62,12 @@ plain-append (c ∷ x) y e f = and_both {a = plain c} (and_left (plain c) (all_p
 
 -- those before the first of the four, and fewer of them
 pub run_plain : (r : ℕ) (x : List ℕ) → r ≤ length (before (among 0x0A 0x27 0x2D 0x5C) x) → all_plain (take r x) ≡ true
-unfolding before among plain all_plain if◌then◌else◌
+unfolding before among plain all_plain when◌then◌else◌
 run_plain zero x h = refl
 run_plain (suc r) [] h = refl
 run_plain (suc r) (c ∷ x) h = go (eqb c 0x0A || eqb c 0x27 || eqb c 0x2D || eqb c 0x5C) h (run_plain r x)
   where
-    go : (t : Bool) → suc r ≤ length (if t then [] else c ∷ before (among 0x0A 0x27 0x2D 0x5C) x)
+    go : (t : Bool) → suc r ≤ length (when t then [] else c ∷ before (among 0x0A 0x27 0x2D 0x5C) x)
         → (r ≤ length (before (among 0x0A 0x27 0x2D 0x5C) x) → all_plain (take r x) ≡ true) → (not t && all_plain (take r x)) ≡ true
     go true h on = absurd (omega arith)
     go false h on = on (omega arith)
@@ -83,7 +83,7 @@ module _ (strip : Bool) where
   escape-plain [] e = refl
   escape-plain (c ∷ x) e =
       let p = and_left (plain c) (all_plain x) e in
-      rw (text_byte c strip false, special_plain c p (if strip then 0x20 else 0x0A), starts-plain c p (text_mode strip))
+      rw (text_byte c strip false, special_plain c p (when strip then 0x20 else 0x0A), starts-plain c p (text_mode strip))
       (ap (λ (y : List ℕ). c ∷ y) (escape-plain x (and_right (plain c) (all_plain x) e)))
 
   line_plain : (x : List ℕ) → all_plain x ≡ true → line_start (text_mode strip) false x ≡ false

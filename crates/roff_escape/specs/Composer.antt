@@ -1,6 +1,6 @@
 -- Roff document composer (src/buffer/manpage/roff.rs): the pieces that each of its functions pushes.
 use Rattle.std.specs.Prelude.{ℕ, Bool, List, [], ◌∷◌}
-use Rattle.base.specs.Choice.{if◌then◌else◌}
+use Rattle.base.specs.Choice.{when◌then◌else◌}
 use Rattle.utf8.specs.Utf8.{bytes}
 use Rattle.roff_escape.specs.declared.roff.Font.{Font}
 use Rattle.roff_escape.specs.declared.roff.Font.TheVariants as font
@@ -38,7 +38,7 @@ control name arg =
 
 -- `Roff::plaintext`, where line ends are stripped from text (`strip_newlines`) or not
 unfoldable pub plaintext : Bool → List ℕ → Piece
-plaintext strip x = piece (if strip then special_no_newline else special) x
+plaintext strip x = piece (when strip then special_no_newline else special) x
 
 -- `Roff::text` of one text: its font, the text, RESTORE_FONT
 unfoldable pub text : Bool → Font → List ℕ → List Piece

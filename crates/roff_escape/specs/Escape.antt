@@ -1,22 +1,22 @@
 -- Escaping (src/buffer/manpage/escape.rs): the bytes of a text in one of the five `Escape` modes.
 use Rattle.std.specs.Prelude.{ℕ, Bool, true, false, ◌&&◌, ◌||◌, List, [], ◌∷◌, ◌++◌, eqb}
-use Rattle.base.specs.Choice.{if◌then◌else◌}
+use Rattle.base.specs.Choice.{when◌then◌else◌}
 use Rattle.utf8.specs.Utf8.{bytes}
 use Rattle.roff_escape.specs.declared.escape.Escape.{Escape}
 pub use Rattle.roff_escape.specs.declared.escape.Escape.TheVariants.{UnescapedAtNewline as unescaped_at_newline, Spaces as spaces, Special as special, SpecialNoNewline as special_no_newline, Unescaped as unescaped}
 
 -- 'if at_line_start && (c == b'.' || c == b'\'')': what goes before a byte at the start of a line
 unfoldable pub guard : Bool → ℕ → List ℕ
-guard start c = if start && (eqb c 0x2E || eqb c 0x27) then bytes "\\&" else []
+guard start c = when start && (eqb c 0x2E || eqb c 0x27) then bytes "\\&" else []
 
 -- 'if c == b'\\' || c == b'-'': a backslash before these two
 unfoldable pub backslash : ℕ → List ℕ
-backslash c = if eqb c 0x5C || eqb c 0x2D then bytes "\\" else []
+backslash c = when eqb c 0x5C || eqb c 0x2D then bytes "\\" else []
 
 -- An apostrophe becomes APOSTROPHE, a line end the byte given for it, and any other byte stays. (`Apostrophes::Handle`: render_roff
 -- asks for no other.)
 unfoldable pub replaced : ℕ → ℕ → List ℕ
-replaced line_end c = if eqb c 0x27 then bytes "\\*(Aq" else if eqb c 0x0A then line_end ∷ [] else c ∷ []
+replaced line_end c = when eqb c 0x27 then bytes "\\*(Aq" else when eqb c 0x0A then line_end ∷ [] else c ∷ []
 
 -- a byte of text, at the start of a line or not, and what a line end becomes
 unfoldable pub special_byte : ℕ → Bool → ℕ → List ℕ
@@ -24,7 +24,7 @@ special_byte line_end start c = guard start c ++ backslash c ++ replaced line_en
 
 -- a space or a line end in the argument of a control line
 unfoldable pub spaces_byte : ℕ → List ℕ
-spaces_byte c = if eqb c 0x20 || eqb c 0x0A then bytes "\\ " else c ∷ []
+spaces_byte c = when eqb c 0x20 || eqb c 0x0A then bytes "\\ " else c ∷ []
 
 -- the `match meta` of `escape`: a byte in a mode
 unfoldable pub escape_byte : Escape → Bool → ℕ → List ℕ

@@ -1,7 +1,7 @@
 -- What functions here promise their callers, beyond the rules; no rule of 01 stands here.
 use Rattle.std.specs.Prelude.{ℕ, ◌+◌, ◌-◌, ◌≤◌, ◌<◌, ◌≡◌, Bool, true, false, not, ◌&&◌, ◌||◌, List, [], ◌∷◌, ◌++◌, eqb, length, take}
 use Rattle.base.specs.Bytes.{part}
-use Rattle.base.specs.Choice.{if◌then◌else◌}
+use Rattle.base.specs.Choice.{when◌then◌else◌}
 use Rattle.base.specs.Result.{◌>>=◌}
 use Rattle.utf8.specs.Utf8.{bytes}
 use Rattle.room.specs.Room.{seen, extended}
@@ -12,7 +12,7 @@ use Rattle.roff_escape.specs.Monoid.{Piece, piece, escape_all, line_after}
 
 -- the mode of text, where line ends are stripped from it or not
 abbrev pub text_mode : Bool → Escape
-text_mode strip = if strip then special_no_newline else special
+text_mode strip = when strip then special_no_newline else special
 
 -- the modes in which every byte stays as it is
 abbrev pub as_it_is : Escape → Bool

@@ -1,6 +1,6 @@
 -- The labelled buffer (src/buffer/manpage/monoid.rs), `escape` of the whole of it at the end (escape.rs), and its pieces escaped as they arise.
 use Rattle.std.specs.Prelude.{ℕ, Bool, true, not, ◌&&◌, List, [], ◌∷◌, ◌++◌}
-use Rattle.base.specs.Choice.{if◌then◌else◌}
+use Rattle.base.specs.Choice.{when◌then◌else◌}
 use Rattle.base.specs.Result.{Result, gives, ◌>>=◌}
 use Rattle.utf8.specs.Utf8.{bytes}
 use Rattle.room.specs.Room.{extended}
@@ -29,11 +29,11 @@ breaks mode start = not start && at_newline mode
 
 -- 'out.push(b'\n')' before a piece in a mode, where a line starts or not
 unfoldable pub line_end : Escape → Bool → List ℕ
-line_end mode start = if breaks mode start then bytes "\n" else []
+line_end mode start = when breaks mode start then bytes "\n" else []
 
 -- 'at_line_start = true': whether a line starts after that
 unfoldable pub line_here : Escape → Bool → Bool
-line_here mode start = if breaks mode start then true else start
+line_here mode start = when breaks mode start then true else start
 
 -- 'for (&meta, payload) in items': the bytes of some pieces, where a line starts before them or not
 unfoldable pub escape_all : Bool → List Piece → List ℕ
@@ -69,7 +69,7 @@ module _ (room : ℕ) where
 
   -- a line end before a piece in a mode
   unfoldable pub new_line : Escape → Written → Result Written
-  new_line mode w = if breaks mode w.fresh then writes (bytes "\n") true w else gives w
+  new_line mode w = when breaks mode w.fresh then writes (bytes "\n") true w else gives w
 
   -- some bytes in a mode
   unfoldable pub put : Escape → List ℕ → Written → Result Written

@@ -1,7 +1,7 @@
 // Escape bytes by roff's rules, into a lent room (src/buffer/manpage/escape.rs).
 ghost use Rattle.std.specs.Prelude.{◌≡◌, not, ◌&&◌, ◌+◌, ◌≤◌, length, take, drop};
 ghost use Rattle.base.specs.Bytes.{part, overwritten};
-ghost use Rattle.base.specs.Choice.{if◌then◌else◌ as choose};
+ghost use Rattle.base.specs.Choice.{when◌then◌else◌ as choose};
 ghost use Rattle.base.specs.Result.{◌>>=◌ as bind};
 ghost use Rattle.room.specs.Room.{seen, extended};
 ghost use Rattle.splitter.specs.Split.{before};

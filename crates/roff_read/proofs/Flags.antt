@@ -1,6 +1,6 @@
 -- What is kept along the records of a page, whether line ends are stripped and whether text is captured, follows from the records so far. And the
 -- pieces of records in two parts are those of the first and then those of the second. Assumes nothing.
-use Rattle.roff_read.proofs.Names.{ℕ, ◌≡◌, refl, sym, ap, ◌∙◌, Bool, List, [], ◌∷◌, ◌++◌, append_assoc, if◌then◌else◌, Result, gives, ◌>>=◌, pick}
+use Rattle.roff_read.proofs.Names.{ℕ, ◌≡◌, refl, sym, ap, ◌∙◌, Bool, List, [], ◌∷◌, ◌++◌, append_assoc, when◌then◌else◌, Result, gives, ◌>>=◌, pick}
 use Rattle.roff_read.proofs.Names.{All, given, refusal, is-given, bind_assoc, bind_same, bind_gives, Token, Block, Kind, Piece, Locals, Outcome}
 use Rattle.roff_read.proofs.Names.{captures as captured, heading, started, ended, token, pushed_by, collected, passed}
 use Rattle.records.specs.declared.Block.TheVariants as block
@@ -21,7 +21,7 @@ so e f = record { strip_so = e; capture_so = f }
 -- One record
 
 started_flags : (p : ℕ) (b : Block) (l : Locals) → All (Turned (kind.Start b) l) (started p b l)
-unfolding started strips captures if◌then◌else◌
+unfolding started strips captures when◌then◌else◌
 started_flags p block.Header l = given (so refl refl)
 started_flags p block.Section2 l = given (so refl refl)
 started_flags p block.Section3 l = given (so refl refl)
@@ -36,7 +36,7 @@ started_flags p block.Meta l = given (so refl refl)
 started_flags p block.Mono l = given (so refl refl)
 
 ended_flags : (p : ℕ) (b : Block) (l : Locals) → All (Turned (kind.End b) l) (ended p b l)
-unfolding ended heading strips captures if◌then◌else◌
+unfolding ended heading strips captures when◌then◌else◌
 ended_flags p block.Header l = given (so refl refl)
 ended_flags p block.Section2 l = given (so refl refl)
 ended_flags p block.Section3 l = given (so refl refl)
@@ -51,7 +51,7 @@ ended_flags p block.Meta l = given (so refl refl)
 ended_flags p block.Mono l = given (so refl refl)
 
 pub token_flags : (p : ℕ) (k : Kind) (x : List ℕ) (l : Locals) → All (Turned k l) (token p k x l)
-unfolding token captured strips captures if◌then◌else◌
+unfolding token captured strips captures when◌then◌else◌
 token_flags p (kind.Text st) x l = pick (All (Turned (kind.Text st) l)) l.capture (λ _. given (so refl refl)) (λ _. given (so refl refl))
 token_flags p (kind.Start b) x l = started_flags p b l
 token_flags p (kind.End b) x l = ended_flags p b l

@@ -1,6 +1,6 @@
 -- A heading's control line tells nothing: its text is in upper case, so that no font is set in it. Assumes nothing.
 use Rattle.roff_read.proofs.Names.{ℕ, ◌+◌, ◌/◌, ◌%◌, ◌≤◌, ◌≡◌, refl, ap, Bool, true, false, not, ◌&&◌, false≢true, ⊎_elim, List, [], ◌∷◌, ◌++◌, eqb}
-use Rattle.roff_read.proofs.Names.{ltb, arith, ne_eqb, if◌then◌else◌, eq_or_not, pick, and_left, and_right, and_both, encode, bytes, maps_to, upper}
+use Rattle.roff_read.proofs.Names.{ltb, arith, ne_eqb, when◌then◌else◌, eq_or_not, pick, and_left, and_right, and_both, encode, bytes, maps_to, upper}
 use Rattle.roff_read.proofs.Names.{spaces_byte, escape_byte, escape, line_start, line_end, argument, both, tells_append, At, between, between_slash, says}
 use Rattle.roff_read.proofs.Names.{next}
 use Rattle.utf8.specs.Utf8.{encode_all, decode}
@@ -38,7 +38,7 @@ entry_no-font (d ∷ es) c e n =
     (λ _. entry_no-font es c (and_right (no_font (to d)) (none_becomes es) e) n)
 
 f_no-font : no_font (maps_to 0x66) ≡ true
-unfolding ascii_upper if◌then◌else◌
+unfolding ascii_upper when◌then◌else◌
 f_no-font = ap no_font (ascii_maps 0x66 (omega arith))
 
 maps_no-font : (c : ℕ) → no_font (maps_to c) ≡ true
@@ -82,7 +82,7 @@ unfolding upper
 upper-no-font x = encode_all_no-font (map_all (decode x)) (map-no-font (decode x))
 
 argument-no-font : (x : List ℕ) → no_font x ≡ true → no_font (argument x) ≡ true
-unfolding argument bytes encode if◌then◌else◌
+unfolding argument bytes encode when◌then◌else◌
 argument-no-font [] e = refl
 argument-no-font (c ∷ x) e = e
 
@@ -107,7 +107,7 @@ byte_cases P s l b o c =
     (eq_or_not c 0x5C)) (eq_or_not c 0x0A)) (eq_or_not c 0x20)
 
 byte_quiet : {at : At} {start : Bool} → Low at start → (c : ℕ) → eqb c 0x66 ≡ false → Quiet at (spaces_byte c) (eqb c 0x0A)
-unfolding spaces_byte reader.read reader.after says next bytes encode if◌then◌else◌
+unfolding spaces_byte reader.read reader.after says next bytes encode when◌then◌else◌
 byte_quiet clear =
     byte_cases _ (λ f. record { on = between; tells = both refl refl; low = clear }) (λ f. record { on = between; tells = both refl refl; low = clear })
     (λ f. record { on = between_slash; tells = both refl refl; low = pending })
@@ -128,7 +128,7 @@ argument_quiet (c ∷ x) e l =
 
 -- the line end after it
 line_quiet : {at : At} {start : Bool} → Low at start → Tells at (line_end mode.UnescapedAtNewline start) [] between
-unfolding line_end reader.read reader.after says next bytes encode if◌then◌else◌
+unfolding line_end reader.read reader.after says next bytes encode when◌then◌else◌
 line_quiet (clear {start = true}) = both refl refl
 line_quiet (clear {start = false}) = both refl refl
 line_quiet pending = both refl refl

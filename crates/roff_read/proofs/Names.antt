@@ -2,7 +2,7 @@
 pub use Prim.Native.Nat.{◌%◌, ◌+◌, ◌/◌, ◌≤◌, ℕ}
 pub use Rattle.base.proofs.Choice.{and_both, and_left, and_right, eq_or_not, if_false, if_true, not-passed, pick}
 pub use Rattle.base.proofs.Results.{All, bind_assoc, bind_gives, bind_same, given, if_gives, is-given, refusal}
-unfoldable pub use Rattle.base.specs.Choice.{if◌then◌else◌}
+unfoldable pub use Rattle.base.specs.Choice.{when◌then◌else◌}
 pub use Rattle.base.specs.Result.{Result, gives, refused}
 unfoldable pub use Rattle.base.specs.Result.{◌>>=◌}
 pub use Rattle.manpage.proofs.Whole.{roff-given, roff_law}

@@ -1,6 +1,6 @@
 -- A whole page is read back, record by record. Assumes nothing.
 use Rattle.roff_read.proofs.Names.{ℕ, ◌+◌, ◌≤◌, ◌≡◌, refl, sym, ap, ap₂, ◌∙◌, subst, Bool, true, false, List, [], ◌∷◌, ◌++◌, append_assoc, append-nil}
-use Rattle.roff_read.proofs.Names.{leb, length, length-append, arith, leb-true, if◌then◌else◌, Result, gives, ◌>>=◌, All, given, refusal, is-given}
+use Rattle.roff_read.proofs.Names.{leb, length, length-append, arith, leb-true, when◌then◌else◌, Result, gives, ◌>>=◌, All, given, refusal, is-given}
 use Rattle.roff_read.proofs.Names.{bind_gives, if_gives, encode, bytes, Token, Style, Block, Kind, extended, upper, escape_byte, escape, line_start}
 use Rattle.roff_read.proofs.Names.{preamble, Piece, piece, line_end, line_here, escape_all, line_after, rendered, argument, linebreak, control0, control}
 use Rattle.roff_read.proofs.Names.{all_append, rendered_prefix, Locals, initial, Outcome, captures as captured, heading, started, ended, token}
@@ -36,7 +36,7 @@ abbrev heading_start : List ℕ → List Piece
 heading_start name = piece mode.UnescapedAtNewline (bytes ".") ∷ piece mode.Unescaped name ∷ piece mode.Unescaped (bytes " ") ∷ []
 
 heading-line : (start : Bool) (name : List ℕ) → line_after start (heading_start name) ≡ false
-unfolding line_after line_start bytes encode if◌then◌else◌
+unfolding line_after line_start bytes encode when◌then◌else◌
 heading-line start name = refl
 
 -- .. and from there on
@@ -45,7 +45,7 @@ heading_end x = piece mode.Spaces (argument x) ∷ piece mode.UnescapedAtNewline
 
 heading-bytes : (x : List ℕ)
     → escape mode.Spaces false (argument x) ++ line_end mode.UnescapedAtNewline (line_start mode.Spaces false (argument x)) ≡ escape_all false (heading_end x)
-unfolding escape_all line_end line_here escape if◌then◌else◌
+unfolding escape_all line_end line_here escape when◌then◌else◌
 heading-bytes x = sym (ap (λ (y : List ℕ). escape mode.Spaces false (argument x) ++ y) (append-nil _ ∙ append-nil _))
 
 heading_tells : (name : List ℕ) (l : Locals) → Tell [] (heading_start name) → All (Pushes []) (heading name l)
@@ -59,7 +59,7 @@ heading_tells name l h =
     (tells_append (h start) (argument_tells l.kept)))
 
 started_tell : (p : ℕ) (b : Block) (l : Locals) → All (Pushes []) (started p b l)
-unfolding started control0 escape_all line_end line_here escape escape_byte line_start reader.read reader.after says next bytes encode if◌then◌else◌
+unfolding started control0 escape_all line_end line_here escape escape_byte line_start reader.read reader.after says next bytes encode when◌then◌else◌
 started_tell p block.Header l = given (λ start. both refl refl)
 started_tell p block.Section2 l = given (λ start. both refl refl)
 started_tell p block.Section3 l = given (λ start. both refl refl)
@@ -74,7 +74,7 @@ started_tell p block.Meta l = given (at_either (control0 (bytes "nf")) (both ref
 started_tell p block.Mono l = given (λ start. both refl refl)
 
 ended_tell : (p : ℕ) (b : Block) (l : Locals) → All (Pushes []) (ended p b l)
-unfolding ended linebreak control0 escape_all line_end line_here escape escape_byte line_start reader.read reader.after says next bytes encode if◌then◌else◌
+unfolding ended linebreak control0 escape_all line_end line_here escape escape_byte line_start reader.read reader.after says next bytes encode when◌then◌else◌
 ended_tell p block.Header l = heading_tells (bytes "SH") l (at_either (heading_start (bytes "SH")) (both refl refl) (both refl refl))
 ended_tell p block.Section2 l = heading_tells (bytes "SS") l (at_either (heading_start (bytes "SS")) (both refl refl) (both refl refl))
 ended_tell p block.Section3 l = heading_tells (bytes "SS") l (at_either (heading_start (bytes "SS")) (both refl refl) (both refl refl))
@@ -91,7 +91,7 @@ ended_tell p block.Mono l = given (λ start. both refl refl)
 -- text, captured or not
 text_tell : (p : ℕ) (st : Style) (x : List ℕ) (l : Locals) (on : Bool) → l.capture ≡ on
     → All (Pushes (added_text l.strip l.capture (kind.Text st) x)) (token p (kind.Text st) x l)
-unfolding added_text token captured escape_all reader.read reader.after if◌then◌else◌
+unfolding added_text token captured escape_all reader.read reader.after when◌then◌else◌
 text_tell p st x l true e = rw e (given (λ start. both refl refl))
 text_tell p st x l false e =
     rw e (given (λ start. subst (λ (y : List ℕ). Tells between y (spaced_if l.strip x) between) (sym (written_all st start l.strip x))
@@ -124,7 +124,7 @@ collected_tell (t ∷ ts) l m e start =
     all)
 
 preamble_tells : Tells between preamble [] between
-unfolding preamble reader.read reader.after says next bytes encode if◌then◌else◌
+unfolding preamble reader.read reader.after says next bytes encode when◌then◌else◌
 preamble_tells = both refl refl
 
 page_told : (room : ℕ) (ts : List Token) (page : List ℕ) → roff_on room ts ≡ gives page → read_back page ≡ page_text ts

@@ -1,7 +1,7 @@
 -- The test record by record passes exactly inside an ItemTerm before any inner term or body has ended, and no text is captured outside headings.
 -- Assumes nothing.
 use Rattle.roff_read.proofs.Names.{ℕ, ◌≤◌, ◌≡◌, refl, sym, ap, ◌∙◌, Bool, true, false, ◌||◌, false≢true, ◌⊎◌, inl, inr, ⊎_elim, List, [], ◌∷◌, ◌++◌}
-use Rattle.roff_read.proofs.Names.{eqb, arith, if◌then◌else◌, pick, if_true, if_false, not-passed, Token, Kind, Places}
+use Rattle.roff_read.proofs.Names.{eqb, arith, when◌then◌else◌, pick, if_true, if_false, not-passed, Token, Kind, Places}
 use Rattle.records.specs.Records.{index, is_start}
 use Rattle.records.specs.declared.Kind.TheVariants as kind
 use Rattle.roff_read.specs.Places.{since, counted, is_term, is_heading, OutsideTerm, captures, ends_item, any_ends, Inside, strips, is_inside}
@@ -72,7 +72,7 @@ open_since test these step (t ∷ ts) on n h e =
     open_since test these step ts (test t.kind on) (counted these t.kind n) (step t.kind on n h) e
 
 strips-step : Step strips is_term
-unfolding strips counted if◌then◌else◌
+unfolding strips counted when◌then◌else◌
 strips-step (kind.Text st) on n h e = h e
 strips-step (kind.Start b) on n h e = go (eqb (index b) 4) refl
   where
@@ -88,7 +88,7 @@ strips-step (kind.End b) on n h e = go (eqb (index b) 4) refl (eqb (index b) 5) 
 strips-step kind.Unknown on n h e = h e
 
 captures-step : Step captures is_heading
-unfolding captures counted if◌then◌else◌
+unfolding captures counted when◌then◌else◌
 captures-step (kind.Text st) on n h e = h e
 captures-step (kind.Start b) on n h e = go (is_heading (index b)) refl
   where

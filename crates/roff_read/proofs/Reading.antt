@@ -1,5 +1,5 @@
 -- An escaped body is read back. Assumes nothing.
-use Rattle.roff_read.proofs.Names.{ℕ, ◌≡◌, refl, sym, ap, ap₂, ◌∙◌, Bool, true, false, ⊎_elim, List, [], ◌∷◌, ◌++◌, ne_eqb, eqb, if◌then◌else◌}
+use Rattle.roff_read.proofs.Names.{ℕ, ◌≡◌, refl, sym, ap, ap₂, ◌∙◌, Bool, true, false, ⊎_elim, List, [], ◌∷◌, ◌++◌, ne_eqb, eqb, when◌then◌else◌}
 use Rattle.roff_read.proofs.Names.{eq_or_not, if_false, encode, bytes, guard, backslash, replaced, special_byte, escape_byte, escape, line_start, both}
 use Rattle.roff_read.proofs.Names.{tells_append, At, in_text, controls, says, next, body_back, as_space, spaced, mode_of, spaced_if, Bodies}
 use Rattle.roff_escape.specs.declared.escape.Escape.TheVariants as mode
@@ -26,7 +26,7 @@ byte_cases P a b d e l o c =
 
 -- what is written for a byte tells it, and the reading then stands as the writing does
 special_tells : (start : Bool) (c : ℕ) → Tells (in_text start) (special_byte 0x0A start c) (c ∷ []) (in_text (eqb c 0x0A))
-unfolding reader.read reader.after says next controls special_byte guard backslash replaced bytes encode if◌then◌else◌
+unfolding reader.read reader.after says next controls special_byte guard backslash replaced bytes encode when◌then◌else◌
 special_tells true =
     byte_cases _ (both refl refl) (both refl refl) (both refl refl) (both refl refl) (both refl refl)
     (λ c a b d e l. both (simp (a, b, d, e, l)) (simp (a, b, d, e, l)))
@@ -35,7 +35,7 @@ special_tells false =
     (λ c a b d e l. both (simp (a, b, d, l)) (simp (a, b, d, l)))
 
 stripped_tells : (start : Bool) (c : ℕ) → Tells (in_text start) (special_byte 0x20 start c) (as_space c ∷ []) (in_text false)
-unfolding reader.read reader.after says next controls special_byte guard backslash replaced bytes encode as_space if◌then◌else◌
+unfolding reader.read reader.after says next controls special_byte guard backslash replaced bytes encode as_space when◌then◌else◌
 stripped_tells true =
     byte_cases _ (both refl refl) (both refl refl) (both refl refl) (both refl refl) (both refl refl)
     (λ c a b d e l. both (simp (a, b, d, e, l)) (simp (a, b, d, e, l)))
@@ -45,7 +45,7 @@ stripped_tells false =
 
 -- a line end and a space are written alike where line ends are stripped
 stripped-same : (start : Bool) (c : ℕ) → special_byte 0x20 start c ≡ special_byte 0x20 start (as_space c)
-unfolding special_byte guard backslash replaced as_space if◌then◌else◌
+unfolding special_byte guard backslash replaced as_space when◌then◌else◌
 stripped-same start c =
     ⊎_elim (λ (q : c ≡ 0x0A). rw q (line-space start))
     (λ (n : c ≡ 0x0A → ⊥). ap (special_byte 0x20 start) (sym (if_false 0x20 c (ne_eqb c 0x0A n)))) (eq_or_not c 0x0A)
@@ -69,7 +69,7 @@ stripped-body start (c ∷ x) = tells_append (stripped_tells start c) (stripped-
 
 pub body_tells : (strip start : Bool) (x : List ℕ)
     → Tells (in_text start) (escape (mode_of strip) start x) (spaced_if strip x) (in_text (line_start (mode_of strip) start x))
-unfolding spaced_if if◌then◌else◌
+unfolding spaced_if when◌then◌else◌
 body_tells true start x = stripped-body start x
 body_tells false start x = special_body start x
 

@@ -1,6 +1,6 @@
 -- What a text record outside headings gives, and that it is read back. Assumes nothing.
 use Rattle.roff_read.proofs.Names.{ℕ, ◌≡◌, refl, sym, ap, ap₂, ◌∙◌, Bool, true, false, List, [], ◌∷◌, ◌++◌, append-nil, append_cancel_left}
-use Rattle.roff_read.proofs.Names.{if◌then◌else◌, Result, gives, if_false, bind_gives, encode, bytes, Token, Style, extended, escape_byte, escape}
+use Rattle.roff_read.proofs.Names.{when◌then◌else◌, Result, gives, if_false, bind_gives, encode, bytes, Token, Style, extended, escape_byte, escape}
 use Rattle.roff_read.proofs.Names.{line_start, Piece, piece, line_end, line_here, escape_all, line_after, rendered, font_escape, control0, plaintext, text}
 use Rattle.roff_read.proofs.Names.{all_append, after-append, rendered_prefix, Locals, initial, Outcome, font_of, subsection, token, roff_on, pushed_by}
 use Rattle.roff_read.proofs.Names.{collected, passed, pieces, roff_law, roff-given, both, tells_append, between, in_text, sets, says, next, lead}
@@ -19,12 +19,12 @@ use Rattle.roff_read.proofs.Flags.{passed_flags, collected-append}
 
 -- the font before, wherever a line starts
 restored : (start : Bool) → escape_all start (piece mode.Unescaped (bytes "\\fP") ∷ []) ≡ bytes "\\fP"
-unfolding escape_all line_end line_here escape escape_byte line_start bytes encode if◌then◌else◌
+unfolding escape_all line_end line_here escape escape_byte line_start bytes encode when◌then◌else◌
 restored true = refl
 restored false = refl
 
 font_all : (start : Bool) (f : Font) → escape_all start (piece mode.Unescaped (font_escape f) ∷ []) ≡ font_escape f
-unfolding escape_all line_end line_here escape escape_byte line_start font_escape bytes encode if◌then◌else◌
+unfolding escape_all line_end line_here escape escape_byte line_start font_escape bytes encode when◌then◌else◌
 font_all true font.Roman = refl
 font_all true font.Bold = refl
 font_all true font.Italic = refl
@@ -33,13 +33,13 @@ font_all false font.Bold = refl
 font_all false font.Italic = refl
 
 font-after : (start : Bool) (f : Font) → line_after start (piece mode.Unescaped (font_escape f) ∷ []) ≡ false
-unfolding line_after line_start font_escape bytes encode if◌then◌else◌
+unfolding line_after line_start font_escape bytes encode when◌then◌else◌
 font-after start font.Roman = refl
 font-after start font.Bold = refl
 font-after start font.Italic = refl
 
 plain_all : (strip : Bool) (x : List ℕ) → escape_all false (plaintext strip x ∷ []) ≡ escape (mode_of strip) false x
-unfolding escape_all line_end line_here plaintext if◌then◌else◌
+unfolding escape_all line_end line_here plaintext when◌then◌else◌
 plain_all true x = append-nil (escape mode.SpecialNoNewline false x)
 plain_all false x = append-nil (escape mode.Special false x)
 
@@ -58,12 +58,12 @@ text_all start strip f x =
 
 -- and no line starts after it
 text-after : (start strip : Bool) (f : Font) (x : List ℕ) → line_after start (text strip f x) ≡ false
-unfolding text line_after line_start bytes encode if◌then◌else◌
+unfolding text line_after line_start bytes encode when◌then◌else◌
 text-after start strip f x = refl
 
 -- with the control line before emphasis
 pub written_all : (st : Style) (start strip : Bool) (x : List ℕ) → escape_all start (subsection st ++ text strip (font_of st) x) ≡ written st start strip x
-unfolding subsection control0 written escape_all line_end line_here escape escape_byte line_start bytes encode if◌then◌else◌
+unfolding subsection control0 written escape_all line_end line_here escape escape_byte line_start bytes encode when◌then◌else◌
 written_all style.Text start strip x = text_all start strip font.Roman x
 written_all style.Emphasis true strip x = ap (λ (y : List ℕ). bytes ".SS\n" ++ y) (text_all true strip font.Bold x)
 written_all style.Emphasis false strip x = ap (λ (y : List ℕ). bytes "\n.SS\n" ++ y) (text_all true strip font.Bold x)
@@ -78,7 +78,7 @@ written_after st start strip x =
 -- Read back
 
 lead_tells : (st : Style) (start : Bool) → Tells between (lead st start) [] between
-unfolding reader.read reader.after says next bytes encode if◌then◌else◌
+unfolding reader.read reader.after says next bytes encode when◌then◌else◌
 lead_tells style.Text start = both refl refl
 lead_tells style.Emphasis true = both refl refl
 lead_tells style.Emphasis false = both refl refl
@@ -87,13 +87,13 @@ lead_tells style.Metavar start = both refl refl
 lead_tells style.Invalid start = both refl refl
 
 font_tells : (f : Font) → Tells between (font_escape f) [] (in_text false)
-unfolding reader.read reader.after says next sets font_escape bytes encode if◌then◌else◌
+unfolding reader.read reader.after says next sets font_escape bytes encode when◌then◌else◌
 font_tells font.Roman = both refl refl
 font_tells font.Bold = both refl refl
 font_tells font.Italic = both refl refl
 
 restore_tells : (start : Bool) → Tells (in_text start) (bytes "\\fP") [] between
-unfolding reader.read reader.after says next bytes encode if◌then◌else◌
+unfolding reader.read reader.after says next bytes encode when◌then◌else◌
 restore_tells start = both refl refl
 
 -- what a record gives tells its text, and the reading then stands between texts again

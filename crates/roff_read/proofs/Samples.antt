@@ -1,5 +1,5 @@
 -- Bytes of roff and what they tell, and documents that share a page, by computation. Assumes nothing.
-use Rattle.roff_read.proofs.Names.{◌≡◌, refl, ap, false≢true, List, [], ◌∷◌, ◌++◌, map, ℕ, eqb, get_or, if◌then◌else◌, Result, gives, refused, ◌>>=◌}
+use Rattle.roff_read.proofs.Names.{◌≡◌, refl, ap, false≢true, List, [], ◌∷◌, ◌++◌, map, ℕ, eqb, get_or, when◌then◌else◌, Result, gives, refused, ◌>>=◌}
 use Rattle.roff_read.proofs.Names.{encode, bytes, maps_to, upper, extended, guard, backslash, replaced, special_byte, spaces_byte, escape_byte, escape}
 use Rattle.roff_read.proofs.Names.{line_start, preamble, font_escape, argument, linebreak, control0, control, plaintext, text as roff_text, captures}
 use Rattle.roff_read.proofs.Names.{heading, subsection, started, ended, token, turn, roff, controls, sets, says, next, read_back}
@@ -36,7 +36,7 @@ samples =
     ∷ []
 
 pub samples_hold : map (λ (s : Told). read_back (bytes s.roff)) samples ≡ map (λ (s : Told). bytes s.text) samples
-unfolding samples if◌then◌else◌ encode bytes controls sets says next reader.read
+unfolding samples when◌then◌else◌ encode bytes controls sets says next reader.read
 samples_hold = refl
 
 -- Documents that share a page
@@ -61,7 +61,7 @@ shared =
 
 pub shared_hold : map (λ (s : Shared). roff 60 s.one ∷ roff 60 s.other ∷ []) shared
     ≡ map (λ (s : Shared). gives (preamble ++ bytes s.page) ∷ gives (preamble ++ bytes s.page) ∷ []) shared
-unfolding shared if◌then◌else◌ ◌>>=◌ top pushed popped table row_of encode bytes little styles blocks kind_of size token_at tokens record_fits opens closes
+unfolding shared when◌then◌else◌ ◌>>=◌ top pushed popped table row_of encode bytes little styles blocks kind_of size token_at tokens record_fits opens closes
     bodiless accept first reads open_blocks short closed check little_bytes stored text start end around extended walk guard backslash replaced special_byte
     spaces_byte escape_byte escape line_start preamble writes begun new_line put push pushes font_escape argument linebreak control0 control plaintext
     roff_text mappings maps_to upper captures heading subsection started ended token turn roff

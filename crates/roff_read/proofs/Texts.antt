@@ -1,5 +1,5 @@
 -- The claims about one text record hold. Assumes nothing.
-use Rattle.roff_read.proofs.Names.{ℕ, ◌≡◌, refl, sym, ap, ap₂, ◌∙◌, Bool, true, false, List, [], ◌∷◌, ◌++◌, if◌then◌else◌, Result, gives, refused}
+use Rattle.roff_read.proofs.Names.{ℕ, ◌≡◌, refl, sym, ap, ap₂, ◌∙◌, Bool, true, false, List, [], ◌∷◌, ◌++◌, when◌then◌else◌, Result, gives, refused}
 use Rattle.roff_read.proofs.Names.{◌>>=◌, bytes, Token, Style, extended, escape_all, line_after, rendered, preamble, font_escape, text, all_append}
 use Rattle.roff_read.proofs.Names.{Locals, initial, Outcome, font_of, subsection, token, roff_on, pushed_by, collected, passed, pieces, roff_law}
 use Rattle.roff_read.proofs.Names.{read_back, spaced, lead, written, spaced_if, text_record, Gives, Texts}
@@ -16,11 +16,11 @@ module _ (before : List Token) (st : Style) (x b : List ℕ) (free : Uncaptured 
   tells = ap read_back (gives-written before st x b free g) ∙ (written_tells st (line_after true (pieces before)) (is_inside before) x).tells
 
   tells_text : (Inside before → ⊥) → read_back b ≡ x
-  unfolding spaced_if if◌then◌else◌
+  unfolding spaced_if when◌then◌else◌
   tells_text n = tells ∙ ap (λ (s : Bool). spaced_if s x) (not-inside before n)
 
   tells_spaced : Inside before → read_back b ≡ spaced x
-  unfolding spaced_if if◌then◌else◌
+  unfolding spaced_if when◌then◌else◌
   tells_spaced i = tells ∙ ap (λ (s : Bool). spaced_if s x) (places.passes before i)
 
 -- Texts that agree
@@ -46,7 +46,7 @@ module _ (p q : ℕ) (st : Style) (onward : List Token) where
 
   module _ (x y : List ℕ) (e : spaced x ≡ spaced y) where
     same-written : (start strip : Bool) → strip ≡ true → written st start strip x ≡ written st start strip y
-    unfolding written if◌then◌else◌
+    unfolding written when◌then◌else◌
     same-written start strip s =
         rw s (ap (λ (z : List ℕ). lead st start ++ font_escape (font_of st) ++ z ++ bytes "\\fP") (same-stripped false x y e))
 

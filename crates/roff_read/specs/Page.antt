@@ -1,7 +1,7 @@
 -- What a whole page tells: the texts that are no part of a heading, in order, with line ends as spaces where they are stripped. 02 asks for one record
 -- alone.
 use Rattle.std.specs.Prelude.{ℕ, Bool, false, List, [], ◌∷◌, ◌++◌}
-use Rattle.base.specs.Choice.{if◌then◌else◌}
+use Rattle.base.specs.Choice.{when◌then◌else◌}
 use Rattle.records.specs.Records.{Token}
 use Rattle.records.specs.declared.Kind.{Kind}
 use Rattle.records.specs.declared.Kind.TheVariants as kind
@@ -10,7 +10,7 @@ use Rattle.roff_read.specs.Places.{captures, strips}
 
 -- what a record adds, where line ends are stripped or not, and text is captured or not
 unfoldable pub added_text : (strip capture : Bool) → Kind → List ℕ → List ℕ
-added_text strip capture (kind.Text st) x = if capture then [] else spaced_if strip x
+added_text strip capture (kind.Text st) x = when capture then [] else spaced_if strip x
 added_text strip capture (kind.Start b) x = []
 added_text strip capture (kind.End b) x = []
 added_text strip capture kind.Unknown x = []

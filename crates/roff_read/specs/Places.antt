@@ -1,7 +1,7 @@
 -- Where a text record stands, by the records before it (02, point 8): 'outside headings', 'outside an ItemTerm', or 'inside one, before any inner
 -- term or body has ended'.
 use Rattle.std.specs.Prelude.{ℕ, ◌+◌, ◌-◌, ◌≡◌, Bool, true, false, ◌||◌, List, [], ◌∷◌, ◌++◌, eqb, leb}
-use Rattle.base.specs.Choice.{if◌then◌else◌}
+use Rattle.base.specs.Choice.{when◌then◌else◌}
 use Rattle.records.specs.Records.{Token, index, is_start, is_end}
 use Rattle.records.specs.declared.Kind.{Kind}
 use Rattle.records.specs.declared.Kind.TheVariants as kind
@@ -16,8 +16,8 @@ since change (t ∷ ts) a = since change ts (change t.kind a)
 -- a start opens one more, an end closes one: in a document that is not refused, the innermost
 unfoldable pub counted : (ℕ → Bool) → Kind → ℕ → ℕ
 counted these (kind.Text st) n = n
-counted these (kind.Start b) n = if these (index b) then n + 1 else n
-counted these (kind.End b) n = if these (index b) then n - 1 else n
+counted these (kind.Start b) n = when these (index b) then n + 1 else n
+counted these (kind.End b) n = when these (index b) then n - 1 else n
 counted these kind.Unknown n = n
 
 abbrev pub is_term : ℕ → Bool
@@ -40,8 +40,8 @@ OutsideHeading before = since (counted is_heading) before 0 ≡ 0
 -- whether text is captured after a record: 'An inner heading's end also ends capture for the outer' (01)
 unfoldable pub captures : Kind → Bool → Bool
 captures (kind.Text st) on = on
-captures (kind.Start b) on = if is_heading (index b) then true else on
-captures (kind.End b) on = if is_heading (index b) then false else on
+captures (kind.Start b) on = when is_heading (index b) then true else on
+captures (kind.End b) on = when is_heading (index b) then false else on
 captures kind.Unknown on = on
 
 -- text after these records is no part of a heading; so outside headings, and in an outer heading after the end of an inner one
@@ -70,7 +70,7 @@ pub record Inside (before : List Token) : Type 0 where
 
 -- the same as a test, record by record (claimed in `Places`, Claims.antt)
 unfoldable pub strips : Kind → Bool → Bool
-strips k on = if is_start 4 k then true else if ends_item k then false else on
+strips k on = when is_start 4 k then true else when ends_item k then false else on
 
 abbrev pub is_inside : List Token → Bool
 is_inside before = since strips before false

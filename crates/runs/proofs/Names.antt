@@ -1,7 +1,7 @@
 -- Names of other crates and libraries that the proofs of this crate cite, by where they are from.
 pub use Prim.Native.Nat.{◌+◌, ◌-◌, ◌<◌, ◌≤◌, min, suc, zero, ℕ}
 pub use Rattle.base.proofs.Choice.{if_false, if_true, le_or_lt, pick}
-unfoldable pub use Rattle.base.specs.Choice.{if◌then◌else◌}
+unfoldable pub use Rattle.base.specs.Choice.{when◌then◌else◌}
 pub use Rattle.runs.specs.InnerRuns.{Reached}
 unfoldable pub use Rattle.runs.specs.InnerRuns.{among, any}
 pub use borrow.Author.Rules.{rules}

@@ -1,7 +1,7 @@
 -- Runs of bytes up to the first that passes a test. Assumes nothing.
 use Rattle.runs.proofs.Names.{ℕ, zero, suc, ◌+◌, ◌≤◌, ◌<◌, min, ◌≡◌, refl, sym, ap, ◌∙◌, Bool, true, false, ◌||◌, false≢true, ◌⊎◌, inl, inr, ⊎_elim}
 use Rattle.runs.proofs.Names.{List, [], ◌∷◌, ◌++◌, length, take, drop, get_or, length-drop, take-append-drop, length-append, length-take-le, take-suc}
-use Rattle.runs.proofs.Names.{get_or-drop, get_or-take, drop-drop, arith, if◌then◌else◌, pick, if_true, if_false, le_or_lt, among, any, Reached}
+use Rattle.runs.proofs.Names.{get_or-drop, get_or-take, drop-drop, arith, when◌then◌else◌, pick, if_true, if_false, le_or_lt, among, any, Reached}
 use lib.Dec.{eqb}
 use native.Mathlib.Nat.{le_refl}
 use native.Mathlib.Numerals.{add-one}
@@ -11,22 +11,22 @@ use Rattle.splitter.proofs.Before.{before-stop, before-go, before-none, before-s
 -- A mark
 
 -- set by one test after another: by both
-either : (s t : Bool) (m p q : ℕ) → p ≡ if s then 1 else m → q ≡ if t then 1 else p → q ≡ if s || t then 1 else m
-unfolding if◌then◌else◌
+either : (s t : Bool) (m p q : ℕ) → p ≡ when s then 1 else m → q ≡ when t then 1 else p → q ≡ when s || t then 1 else m
+unfolding when◌then◌else◌
 either true true m p q e f = f
 either true false m p q e f = f ∙ e
 either false true m p q e f = f
 either false false m p q e f = f ∙ e
 
-pub mark_four : (x a b c d m p q r z : ℕ) → p ≡ if eqb x a then 1 else m → q ≡ if eqb x b then 1 else p → r ≡ if eqb x c then 1 else q
-    → z ≡ if eqb x d then 1 else r → z ≡ if among a b c d x then 1 else m
+pub mark_four : (x a b c d m p q r z : ℕ) → p ≡ when eqb x a then 1 else m → q ≡ when eqb x b then 1 else p → r ≡ when eqb x c then 1 else q
+    → z ≡ when eqb x d then 1 else r → z ≡ when among a b c d x then 1 else m
 unfolding among
 mark_four x a b c d m p q r z e f g h =
     either (eqb x a || eqb x b || eqb x c) (eqb x d) m r z (either (eqb x a || eqb x b) (eqb x c) m q r (either (eqb x a) (eqb x b) m p q e f) g) h
 
 -- it tells the test
-pub mark_tells : (t : Bool) (m : ℕ) → m ≡ if t then 1 else 0 → eqb m 1 ≡ t
-unfolding if◌then◌else◌
+pub mark_tells : (t : Bool) (m : ℕ) → m ≡ when t then 1 else 0 → eqb m 1 ≡ t
+unfolding when◌then◌else◌
 mark_tells true m e = rw e refl
 mark_tells false m e = rw e refl
 
@@ -47,13 +47,13 @@ module _ (stop : ℕ → Bool) where
       or_assoc false q r = refl
 
   -- none is marked yet
-  pub marked_start : (s : List ℕ) → ◌≡◌ {A = ℕ} 0 (if any stop (take 0 s) then 1 else 0)
-  unfolding any if◌then◌else◌
+  pub marked_start : (s : List ℕ) → ◌≡◌ {A = ℕ} 0 (when any stop (take 0 s) then 1 else 0)
+  unfolding any when◌then◌else◌
   marked_start s = refl
 
   -- one byte more is marked
-  pub marked_more : (s : List ℕ) (at i m n : ℕ) → at + i < length s → m ≡ if any stop (take i (drop at s)) then 1 else 0
-      → n ≡ if stop (get_or s (at + i) 0) then 1 else m → n ≡ if any stop (take (i + 1) (drop at s)) then 1 else 0
+  pub marked_more : (s : List ℕ) (at i m n : ℕ) → at + i < length s → m ≡ when any stop (take i (drop at s)) then 1 else 0
+      → n ≡ when stop (get_or s (at + i) 0) then 1 else m → n ≡ when any stop (take (i + 1) (drop at s)) then 1 else 0
   marked_more s at i m n h e f =
       let k : i < length (drop at s) = omega (arith, length-drop at s) in
       let g : take (i + 1) (drop at s) ≡ take i (drop at s) ++ get_or s (at + i) 0 ∷ [] =
@@ -61,7 +61,7 @@ module _ (stop : ℕ → Bool) where
       rw (g, any-more (take i (drop at s)) (get_or s (at + i) 0)) (either (any stop (take i (drop at s))) (stop (get_or s (at + i) 0)) 0 m n e f)
 
   before-append : (x y : List ℕ) → any stop x ≡ false → before stop (x ++ y) ≡ x ++ before stop y
-  unfolding any before if◌then◌else◌
+  unfolding any before when◌then◌else◌
   before-append [] y e = refl
   before-append (b ∷ x) y e = go (stop b) refl e (before-append x y)
     where
@@ -135,7 +135,7 @@ Least stop x n j k = ((length (before stop x) < j) × (k ≡ length (before stop
 
 module _ (stop : ℕ → Bool) (x : List ℕ) (n : ℕ) where
   -- one more was looked at
-  pub least_more : length x ≡ n → (j k r : ℕ) → j < n → Least stop x n j k → r ≡ min k (if stop (get_or x j 0) then j else n) → Least stop x n (j + 1) r
+  pub least_more : length x ≡ n → (j k r : ℕ) → j < n → Least stop x n j k → r ≡ min k (when stop (get_or x j 0) then j else n) → Least stop x n (j + 1) r
   least_more size j k r h l e = go (stop (get_or x j 0)) refl
     where
       go : (t : Bool) → stop (get_or x j 0) ≡ t → Least stop x n (j + 1) r

@@ -4,7 +4,7 @@
 #![tactic(auto)]
 
 ghost use Rattle.std.specs.Prelude.{◌≡◌, ◌+◌, ◌≤◌, min as min_of, eqb, leb, length, take, drop};
-ghost use Rattle.base.specs.Choice.{if◌then◌else◌ as choose};
+ghost use Rattle.base.specs.Choice.{when◌then◌else◌ as choose};
 ghost use Rattle.splitter.specs.Split.{before};
 ghost use Rattle.runs.specs.InnerRuns.{among, any, Reached};
 

@@ -1,5 +1,5 @@
 -- The answer to a call by its letter, and beside the wanted one. Assumes nothing.
-use Rattle.sample_calls.proofs.Names.{ℕ, ◌-◌, ◌≤◌, ◌<◌, ◌≡◌, sym, ap, ◌∙◌, [], length, take, replicate, if◌then◌else◌, measured, is_call, is_wanted}
+use Rattle.sample_calls.proofs.Names.{ℕ, ◌-◌, ◌≤◌, ◌<◌, ◌≡◌, sym, ap, ◌∙◌, [], length, take, replicate, when◌then◌else◌, measured, is_call, is_wanted}
 use mathlib.Core.Bool.{true, false, ◌&&◌}
 use mathlib.Core.List.{List, ◌++◌}
 use lib.Dec.{eqb}
@@ -65,9 +65,9 @@ module _ (letter width n : ℕ) (document : List ℕ) where
       module _ (b : letter ≡ 0x62 → ⊥) where
         by_markup : Result (List ℕ)
         by_markup =
-            if eqb letter 0x68 then html n false true false document else
-            if eqb letter 0x73 then html n true true false document else
-            if eqb letter 0x6D then markdown n true document else
+            when eqb letter 0x68 then html n false true false document else
+            when eqb letter 0x73 then html n true true false document else
+            when eqb letter 0x6D then markdown n true document else
             roff n document
 
         not_kcb : by_letter letter width n document ≡ by_markup

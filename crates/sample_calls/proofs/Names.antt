@@ -1,6 +1,6 @@
 -- Names of other crates and libraries that the proofs of this crate cite, by where they are from.
 pub use Prim.Native.Nat.{◌-◌, ◌<◌, ◌≤◌, ℕ}
-unfoldable pub use Rattle.base.specs.Choice.{if◌then◌else◌}
+unfoldable pub use Rattle.base.specs.Choice.{when◌then◌else◌}
 pub use Rattle.base.specs.Result.{measured}
 unfoldable pub use Rattle.sample_calls.specs.InnerCalls.{is_call, is_wanted}
 pub use borrow.Author.Rules.{rules}

@@ -1,6 +1,6 @@
 -- What a line of the list of samples adds to a document. No rule of 01 stands here.
 use Rattle.std.specs.Prelude.{ℕ, zero, suc, ◌+◌, ◌/◌, ◌%◌, List, [], ◌∷◌, ◌++◌, length, ◌==◌, nat_lt, slice_index}
-use Rattle.base.specs.Choice.{if◌then◌else◌}
+use Rattle.base.specs.Choice.{when◌then◌else◌}
 use Rattle.sample_lines.specs.InnerLines.{number_at, next_number, text_from}
 
 -- some bytes, so many times
@@ -23,17 +23,17 @@ block_records first line = repeated (next_number line (number_at line 2)).value 
 -- 'T E L M I: text in style Text, Emphasis, Literal, Metavar, Invalid'; 0 for any other letter
 unfoldable pub style_of : ℕ → ℕ
 style_of letter =
-    if letter == 0x54 then 1 else
-    if letter == 0x45 then 2 else
-    if letter == 0x4C then 3 else
-    if letter == 0x4D then 4 else
-    if letter == 0x49 then 5 else 0
+    when letter == 0x54 then 1 else
+    when letter == 0x45 then 2 else
+    when letter == 0x4C then 3 else
+    when letter == 0x4D then 4 else
+    when letter == 0x49 then 5 else 0
 
 -- what a line adds: text; '( 5 8: eight starts of the block with index 5, and ) 5 8 eight ends'; 'Z 10: ten zeros'; else bytes
 unfoldable pub added_by : List ℕ → List ℕ
 added_by line =
-    if nat_lt 0 (style_of (slice_index line 0)) then text_record (style_of (slice_index line 0)) (text_from line 2) else
-    if slice_index line 0 == 0x28 then block_records 0x0100 line else
-    if slice_index line 0 == 0x29 then block_records 0x0200 line else
-    if slice_index line 0 == 0x5A then repeated (number_at line 2).value (0 ∷ []) else
+    when nat_lt 0 (style_of (slice_index line 0)) then text_record (style_of (slice_index line 0)) (text_from line 2) else
+    when slice_index line 0 == 0x28 then block_records 0x0100 line else
+    when slice_index line 0 == 0x29 then block_records 0x0200 line else
+    when slice_index line 0 == 0x5A then repeated (number_at line 2).value (0 ∷ []) else
     text_from line 2

@@ -1,6 +1,6 @@
 -- The numbers and the text of a line of the list of samples, whose first lines tell its form. No rule of 01 stands here.
 use Rattle.std.specs.Prelude.{ℕ, zero, suc, ◌+◌, ◌-◌, ◌*◌, ◌%◌, ◌^◌, Bool, ◌&&◌, List, [], ◌∷◌, length, drop, ◌==◌, nat_le, slice_index}
-use Rattle.base.specs.Choice.{if◌then◌else◌, among}
+use Rattle.base.specs.Choice.{when◌then◌else◌, among}
 use Rattle.splitter.specs.Split.{Chunk, raw, paragraph, line_break}
 use Rattle.compared.specs.InnerCompared.{same}
 use Rattle.sample_lines.specs.declared.Number.{Number}
@@ -10,7 +10,7 @@ use Rattle.sample_lines.specs.declared.Tally.{Tally}
 unfoldable pub number_from : ℕ → ℕ → List ℕ → Number
 number_from value at [] = record { value = value; next = at }
 number_from value at (b ∷ s) =
-    if among 0x30 0x39 b && nat_le value 1_000_000 then number_from (value * 10 + (b - 0x30)) (at + 1) s else
+    when among 0x30 0x39 b && nat_le value 1_000_000 then number_from (value * 10 + (b - 0x30)) (at + 1) s else
     record { value = value; next = at }
 
 -- the number at a place of a line
@@ -22,14 +22,14 @@ abbrev pub next_number : List ℕ → Number → Number
 next_number line n = number_at (drop n.next line) 1
 
 unfoldable pub hex_digit : ℕ → ℕ
-hex_digit b = if among 0x30 0x39 b then b - 0x30 else if among 0x41 0x46 b then b - 0x41 + 10 else 0
+hex_digit b = when among 0x30 0x39 b then b - 0x30 else when among 0x41 0x46 b then b - 0x41 + 10 else 0
 
 -- '\ and two hexadecimal digits are one byte'; any other byte is itself. The bytes that some stand for, after `pass` more of them.
 unfoldable pub written : ℕ → List ℕ → List ℕ
 written pass [] = []
 written (suc pass) (b ∷ s) = written pass s
 written zero (b ∷ s) =
-    if b == 0x5C && nat_le 2 (length s) then (hex_digit (slice_index s 0) * 16 + hex_digit (slice_index s 1)) ∷ written 2 s else
+    when b == 0x5C && nat_le 2 (length s) then (hex_digit (slice_index s 0) * 16 + hex_digit (slice_index s 1)) ∷ written 2 s else
     b ∷ written 0 s
 
 -- the text of a line, from a place on
@@ -48,4 +48,4 @@ is_chunk line line_break = slice_index line 0 == 0x42
 
 -- one answer more was compared
 unfoldable pub tally_of : Tally → Bool → Tally
-tally_of t same = record { compared = (t.compared + 1) % 2 ^ 64; differ = if same then t.differ else (t.differ + 1) % 2 ^ 64 }
+tally_of t same = record { compared = (t.compared + 1) % 2 ^ 64; differ = when same then t.differ else (t.differ + 1) % 2 ^ 64 }

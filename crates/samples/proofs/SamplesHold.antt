@@ -1,6 +1,6 @@
 -- The samples of 01's proved set hold of the written rules, by computation. Assumes nothing.
 use mathlib.Core.Path.{refl}
-use Rattle.base.specs.Choice.{if◌then◌else◌}
+use Rattle.base.specs.Choice.{when◌then◌else◌}
 use Rattle.base.specs.Bytes.{starts_with, ends_with}
 use Rattle.base.specs.Result.{◌>>=◌}
 use Rattle.base.specs.Stack.{top, pushed, popped}
@@ -25,7 +25,7 @@ use Rattle.manpage.specs.Roff as rof
 use Rattle.samples.specs.Samples.{plain, literal, nested, by_rules, samples, Hold}
 
 pub samples_hold : Hold samples
-unfolding plain literal nested by_rules samples if◌then◌else◌ starts_with ends_with ◌>>=◌ top pushed popped table row_of encode bytes whites white
+unfolding plain literal nested by_rules samples when◌then◌else◌ starts_with ends_with ◌>>=◌ top pushed popped table row_of encode bytes whites white
     blank trim little styles blocks kind_of size token_at tokens record_fits opens closes bodiless accept first reads open_blocks short closed check little_bytes
     stored text start end around before after_line_end ticked step placed split is_space extended write empty skip_start skip_end walk body con.term_start
     con.term_end con.term con.terms con.tabstop con.empty_block con.gap_ahead con.line_end con.due_line con.due_blank con.pad_gutter con.place con.reach con.pad

@@ -1,6 +1,6 @@
 -- The tabstops and places of the list are those of the written rules, by computation. Assumes nothing.
 use mathlib.Core.Path.{refl}
-use Rattle.base.specs.Choice.{if◌then◌else◌}
+use Rattle.base.specs.Choice.{when◌then◌else◌}
 use Rattle.base.specs.Result.{◌>>=◌}
 use Rattle.base.specs.Stack.{top, pushed, popped}
 use Rattle.utf8.specs.Utf8.{table, row_of, encode, bytes}
@@ -12,7 +12,7 @@ use Rattle.samples.specs.Samples.{plain, literal}
 use Rattle.samples.specs.Tabstops.{tabstops, TabbedHold}
 
 pub tabstops_hold : TabbedHold tabstops
-unfolding plain literal tabstops if◌then◌else◌ ◌>>=◌ top pushed popped table row_of encode bytes little styles blocks kind_of size token_at tokens
+unfolding plain literal tabstops when◌then◌else◌ ◌>>=◌ top pushed popped table row_of encode bytes little styles blocks kind_of size token_at tokens
     record_fits little_bytes stored text start end around opens closes bodiless accept first reads open_blocks short closed check term_start term_end term terms
     tabstop settled_from settled_at tabstop_in settled_in
 tabstops_hold = (refl, refl)

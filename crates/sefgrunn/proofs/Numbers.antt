@@ -3,7 +3,7 @@ use Rattle.sefgrunn.proofs.Names.{ℕ, ◌+◌, ◌-◌, ◌≡◌, refl, sym, a
 use Rattle.sefgrunn.proofs.Names.{refusal_number, refusal_place, Refusal, Style, answered, Rendered, number_of, place_of, length_or_place, or_zero}
 use lib.Dec.{leb}
 use borrow.Author.Tests.{leb-true, le-leb}
-use Rattle.base.specs.Choice.{if◌then◌else◌, among}
+use Rattle.base.specs.Choice.{when◌then◌else◌, among}
 use Rattle.base.proofs.Choice.{and_right, and_both, same_test, not-passed}
 use Rattle.records.specs.Records.{kind_of}
 use Rattle.document.specs.Answers.{verdict_of}
@@ -82,7 +82,7 @@ module _ (b : Built) (n : ℕ) where
 -- a caller reads a text's length off an accepted call
 pub caller_reads-gives : (x : Result (List ℕ)) (k p : ℕ) (text : List ℕ) → k ≡ number_of x → p ≡ length_or_place (measured x) → x ≡ gives text
     → caller_reads k p ≡ gives (length text)
-unfolding if◌then◌else◌
+unfolding when◌then◌else◌
 caller_reads-gives x k p text f g e = rw (f, g, e)
 
 -- a call of the builder, by the rule that its number stands for
@@ -103,11 +103,11 @@ by_style (kind.End b) f = refused 3 0
 by_style kind.Unknown f = refused 3 0
 
 style_kind : (k : ℕ) (f : Style → Result (List ℕ)) → in_style k f ≡ by_style (kind_of k) f
-unfolding kind_of if◌then◌else◌
+unfolding kind_of when◌then◌else◌
 style_kind k f = go (among 1 5 k) (among 0x0100 0x010B k) (among 0x0200 0x020B k) _ _ _
   where
     go : (x y z : Bool) (s : Style) (a b : Block)
-        → (if x then f s else refused 3 0) ≡ by_style (if x then kind.Text s else if y then kind.Start a else if z then kind.End b else kind.Unknown) f
+        → (when x then f s else refused 3 0) ≡ by_style (when x then kind.Text s else when y then kind.Start a else when z then kind.End b else kind.Unknown) f
     go true y z s a b = refl
     go false true z s a b = refl
     go false false true s a b = refl
@@ -138,7 +138,7 @@ by_block (kind.End b) f = refused 3 0
 by_block kind.Unknown f = refused 3 0
 
 block_kind : (i : ℕ) (f : Block → Result (List ℕ)) → in_block i f ≡ by_block (kind_of (0x0100 + i)) f
-unfolding kind_of if◌then◌else◌
+unfolding kind_of when◌then◌else◌
 block_kind i f =
     let no_text : among 0x0001 0x0005 (0x0100 + i) ≡ false =
     not-passed _ (λ h. let l = leb-true (0x0100 + i) 5 (and_right (leb 1 (0x0100 + i)) (leb (0x0100 + i) 5) h) in omega (arith, l)) in
@@ -150,7 +150,7 @@ block_kind i f =
     rw (no_text, same, back) (go (leb i 11) (among 0x0200 0x020B (0x0100 + i)) _ _)
   where
     go : (y z : Bool) (a b : Block)
-        → (if y then f a else refused 3 0) ≡ by_block (if y then kind.Start a else if z then kind.End b else kind.Unknown) f
+        → (when y then f a else refused 3 0) ≡ by_block (when y then kind.Start a else when z then kind.End b else kind.Unknown) f
     go true z a b = refl
     go false true a b = refl
     go false false a b = refl

@@ -1,6 +1,6 @@
 -- What the C interface returns: 0 for accepted, else the refusal's number; and what it stores, a length or the refusal's place.
 use Rattle.std.specs.Prelude.{ℕ, ◌-◌, List, Bool, leb, eqb, get_or}
-use Rattle.base.specs.Choice.{if◌then◌else◌, among}
+use Rattle.base.specs.Choice.{when◌then◌else◌, among}
 use Rattle.base.specs.Result.{Result, gives, refused}
 use Rattle.records.specs.Records.{styles, blocks}
 use Rattle.records.specs.declared.Style.{Style}
@@ -39,21 +39,21 @@ length_after m (refused k p) = m
 
 -- what a caller reads off the number that is returned and the number that is stored
 abbrev pub caller_reads : ℕ → ℕ → Result ℕ
-caller_reads number at = if eqb number 0 then gives at else refused number at
+caller_reads number at = when eqb number 0 then gives at else refused number at
 
 -- '`characters` off is the crate's measure'
 abbrev pub measure_asked : Bool → Measure
-measure_asked c = if c then measure.Characters else measure.Bytes
+measure_asked c = when c then measure.Characters else measure.Bytes
 
 abbrev pub settings : ℕ → Bool → Bool → Settings
 settings w f c = record { width = w; full = f; measure = measure_asked c }
 
 -- A style's number from 1 to 5, or a block's index from 0 to 11; any other is refused as 3 with place 0, before anything else.
 abbrev pub in_style : ℕ → (Style → Result (List ℕ)) → Result (List ℕ)
-in_style k f = if among 1 5 k then f (get_or styles (k - 1) style.Text) else refused 3 0
+in_style k f = when among 1 5 k then f (get_or styles (k - 1) style.Text) else refused 3 0
 
 abbrev pub in_block : ℕ → (Block → Result (List ℕ)) → Result (List ℕ)
-in_block i f = if leb i 11 then f (get_or blocks i block.Header) else refused 3 0
+in_block i f = when leb i 11 then f (get_or blocks i block.Header) else refused 3 0
 
 -- text in the style with a number, the start and the end of the block with an index
 abbrev pub writes_in : List ℕ → ℕ → ℕ → List ℕ → Result (List ℕ)

@@ -1,7 +1,7 @@
 -- An accepted document: each end record is that of the innermost open block, so that the code need not ask which block it ends, and no
 -- block is open at the end. What the code finds is 02's answer. Assumes nothing.
 use Rattle.shape.proofs.Names.{ℕ, zero, suc, ◌+◌, ◌≡◌, refl, sym, ap, subst, ◌∙◌, Bool, true, false, List, [], ◌∷◌, ◌++◌, Option, none, some, length}
-use Rattle.shape.proofs.Names.{get_or, length-append, arith, eq-eqb, if◌then◌else◌, Result, gives, refused, ◌>>=◌, top, pushed, popped, length-pushed}
+use Rattle.shape.proofs.Names.{get_or, length-append, arith, eq-eqb, when◌then◌else◌, Result, gives, refused, ◌>>=◌, top, pushed, popped, length-pushed}
 use Rattle.shape.proofs.Names.{popped-pushed, bind_gives, gives_same, Token, index, size, tokens, reads, open_blocks, check, Block, Kind, kinds}
 use Rattle.shape.proofs.Names.{Shaped, OutOfPlace, Want, parts, Inside, opens, refuses, inside, texts, closes, go, stray, Walked, Answers, Way}
 use lib.Seq.{get_or-append_seam}
@@ -57,16 +57,16 @@ top-pushed x xs =
 -- one record: where it is allowed, which block an end record ends need not be asked
 
 left-same : (b : Block) (fs : List Frame) → Allowed (kind.End b) (indices fs) → loose.left (laters fs) ≡ loosen (left b fs)
-unfolding loose.left left laters loosen indices if◌then◌else◌
+unfolding loose.left left laters loosen indices when◌then◌else◌
 left-same b [] a = absurd (omega (arith, a.0))
 left-same b (f ∷ fs) a = rw (eq-eqb (index f.opened) (index b) (sym (top-pushed (index f.opened) (indices fs)) ∙ a.1))
 
 step_same : (k : Kind) (w : Want) (fs : List Frame) → Allowed k (indices fs)
     → loose.step k w (laters fs) ≡ loosen (step k w fs)
-unfolding loose.step loose.entered step entered loosen laters if◌then◌else◌
+unfolding loose.step loose.entered step entered loosen laters when◌then◌else◌
 step_same (kind.Text st) w fs a = go (texts w)
   where
-    go : (t : Bool) → (if t then loose.on w (laters fs) else loose.out) ≡ loosen (if t then on w fs else out)
+    go : (t : Bool) → (when t then loose.on w (laters fs) else loose.out) ≡ loosen (when t then on w fs else out)
     go true = refl
     go false = refl
 step_same (kind.Start b) w fs a = go (inside w b)
@@ -76,7 +76,7 @@ step_same (kind.Start b) w fs a = go (inside w b)
     go refuses = refl
 step_same (kind.End b) w fs a = go (closes w)
   where
-    go : (t : Bool) → (if t then loose.left (laters fs) else loose.out) ≡ loosen (if t then left b fs else out)
+    go : (t : Bool) → (when t then loose.left (laters fs) else loose.out) ≡ loosen (when t then left b fs else out)
     go true = left-same b fs a
     go false = refl
 step_same kind.Unknown w fs a = refl

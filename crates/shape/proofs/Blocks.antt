@@ -1,5 +1,5 @@
 -- Which blocks may stand where, and blocks told apart by their index. Assumes nothing.
-use Rattle.shape.proofs.Names.{ℕ, ◌≡◌, refl, sym, ap, subst, ◌∙◌, Bool, true, false, not, ◌||◌, get_or, arith, eqb-true, eq-eqb, if◌then◌else◌, if_true}
+use Rattle.shape.proofs.Names.{ℕ, ◌≡◌, refl, sym, ap, subst, ◌∙◌, Bool, true, false, not, ◌||◌, get_or, arith, eqb-true, eq-eqb, when◌then◌else◌, if_true}
 use Rattle.shape.proofs.Names.{if_false, blocks, index, Block, same, other, inline, Want, parts, pairs, inlines, body, opens, refuses, inside, texts}
 use Rattle.shape.proofs.Names.{closes}
 use Rattle.records.specs.declared.Block.TheVariants as block
@@ -37,7 +37,7 @@ pub data Fits : Want → Block → Want → Want → Type 0 where
   wrap : {b : Block} → inline b ≡ true → Fits inlines b inlines inlines
 
 pub fits_inside : {w : Want} {b : Block} {v u : Want} → Fits w b v u → inside w b ≡ opens v u
-unfolding inside if◌then◌else◌
+unfolding inside when◌then◌else◌
 fits_inside (part e) = rw e
 fits_inside list = refl
 fits_inside term = refl
@@ -51,18 +51,18 @@ refuses-opens : {v u : Want} → refuses ≡ opens v u → ⊥
 refuses-opens e = let z : ◌≡◌ {A = ℕ} 0 1 = cc in omega arith
 
 -- a choice with one block that may stand
-one : {w v u v' u' : Want} (b : Block) (t : Bool) → (t ≡ true → Fits w b v u) → (if t then opens v u else refuses) ≡ opens v' u' → Fits w b v' u'
-unfolding if◌then◌else◌
+one : {w v u v' u' : Want} (b : Block) (t : Bool) → (t ≡ true → Fits w b v u) → (when t then opens v u else refuses) ≡ opens v' u' → Fits w b v' u'
+unfolding when◌then◌else◌
 one {w} {v} {u} {v'} {u'} b true f e =
     let p = opens-same e in subst (λ (x : Want). Fits w b x u') p.0 (subst (λ (x : Want). Fits w b v x) p.1 (f refl))
 one b false f e = absurd (refuses-opens e)
 
 pub inside_fits : (w : Want) (b : Block) {v u : Want} → inside w b ≡ opens v u → Fits w b v u
-unfolding inside if◌then◌else◌
+unfolding inside when◌then◌else◌
 inside_fits parts b {v} {u} e = go (other b) refl e
   where
     go : (t : Bool) → other b ≡ t
-        → (if t then opens parts parts else if same b block.DefinitionList then opens pairs parts else refuses) ≡ opens v u → Fits parts b v u
+        → (when t then opens parts parts else when same b block.DefinitionList then opens pairs parts else refuses) ≡ opens v u → Fits parts b v u
     go true o e = one b true (λ _. part o) e
     go false o e = one b (same b block.DefinitionList) (λ s. subst (λ (x : Block). Fits parts x pairs parts) (sym (same-is b block.DefinitionList s)) list) e
 inside_fits pairs b e = one b (same b block.ItemTerm) (λ s. subst (λ (x : Block). Fits pairs x inlines body) (sym (same-is b block.ItemTerm s)) term) e

@@ -1,7 +1,7 @@
 -- The shape record by record, with the blocks that are open: records go on exactly where further ones could lead to the shape.
 -- Assumes nothing.
 use Rattle.shape.proofs.Names.{ℕ, ◌≡◌, refl, sym, ap, subst, ◌∙◌, Bool, true, false, List, [], ◌∷◌, ◌++◌, append_assoc, append-nil, arith}
-use Rattle.shape.proofs.Names.{if◌then◌else◌, Style, Block, Kind, same, around, Shaped, Viable, Want, parts, pairs, inlines, body, Inside, opens}
+use Rattle.shape.proofs.Names.{when◌then◌else◌, Style, Block, Kind, same, around, Shaped, Viable, Want, parts, pairs, inlines, body, Inside, opens}
 use Rattle.shape.proofs.Names.{refuses, inside, texts, closes}
 use Rattle.records.specs.declared.Block.TheVariants as block
 use Rattle.records.specs.declared.Kind.TheVariants as kind
@@ -27,12 +27,12 @@ entered b refuses fs = out
 
 unfoldable pub left : Block → List Frame → State
 left b [] = out
-left b (f ∷ fs) = if same f.opened b then on f.later fs else out
+left b (f ∷ fs) = when same f.opened b then on f.later fs else out
 
 unfoldable pub step : Kind → Want → List Frame → State
-step (kind.Text st) w fs = if texts w then on w fs else out
+step (kind.Text st) w fs = when texts w then on w fs else out
 step (kind.Start b) w fs = entered b (inside w b) fs
-step (kind.End b) w fs = if closes w then left b fs else out
+step (kind.End b) w fs = when closes w then left b fs else out
 step kind.Unknown w fs = out
 
 unfoldable pub onward : State → (Want → List Frame → State) → State
@@ -69,8 +69,8 @@ run_append (k ∷ x) y w fs = go (λ v gs. run_append x y v gs) (step k w fs)
 
 -- One record
 
-if_on : (t : Bool) (n : State) {w : Want} {fs : List Frame} → (if t then n else out) ≡ on w fs → (t ≡ true) × (n ≡ on w fs)
-unfolding if◌then◌else◌
+if_on : (t : Bool) (n : State) {w : Want} {fs : List Frame} → (when t then n else out) ≡ on w fs → (t ≡ true) × (n ≡ on w fs)
+unfolding when◌then◌else◌
 if_on true n e = (refl, e)
 if_on false n e = absurd (out-on e)
 
@@ -112,11 +112,11 @@ unfolding run step onward entered
 run_start f x fs = rw (fits_inside f)
 
 run_end : (b : Block) (u v : Want) → closes v ≡ true → (x : List Kind) (fs : List Frame) → run (kind.End b ∷ x) v (frame b u ∷ fs) ≡ run x u fs
-unfolding run step onward left if◌then◌else◌
+unfolding run step onward left when◌then◌else◌
 run_end b u v c x fs = rw (c, same_self b)
 
 pub runs : {w w' : Want} {x : List Kind} → Run w x w' → (fs : List Frame) (more : List Kind) → run (x ++ more) w fs ≡ run more w' fs
-unfolding run step onward if◌then◌else◌
+unfolding run step onward when◌then◌else◌
 runs done fs more = refl
 runs (text {r = r} e h) fs more = rw e (runs h fs more)
 runs (wrapped {v = v} {u = u} {v' = v'} {b = b} {x = x} {r = r} f h c k) fs more =
@@ -176,7 +176,7 @@ Closable : Want → List Frame → Type 0
 Closable w fs = (more : List Kind) × (v : Want) × (run more w fs ≡ on v []) × (closes v ≡ true)
 
 can_close : (fs : List Frame) (w : Want) → Closable w fs
-unfolding Closable run step onward entered left inside if◌then◌else◌
+unfolding Closable run step onward entered left inside when◌then◌else◌
 can_close [] parts = ([], parts, refl, refl)
 can_close [] pairs = ([], pairs, refl, refl)
 can_close [] inlines = ([], inlines, refl, refl)

@@ -3,7 +3,7 @@ pub use Prim.Native.Nat.{◌+◌, ◌-◌, ◌<◌, ◌≤◌, suc, zero, ℕ}
 pub use Rattle.base.proofs.Choice.{if_false, if_true}
 pub use Rattle.base.proofs.Results.{bind_gives, gives_same, refused-gives}
 pub use Rattle.base.proofs.Stack.{length-popped, length-pushed, popped-pushed}
-unfoldable pub use Rattle.base.specs.Choice.{if◌then◌else◌}
+unfoldable pub use Rattle.base.specs.Choice.{when◌then◌else◌}
 pub use Rattle.base.specs.Result.{Result, gives, refused}
 unfoldable pub use Rattle.base.specs.Result.{◌>>=◌}
 unfoldable pub use Rattle.base.specs.Stack.{popped, pushed, top}

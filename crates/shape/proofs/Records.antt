@@ -1,5 +1,5 @@
 -- One record on the way of the code, by what may stand next. Assumes nothing.
-use Rattle.shape.proofs.Names.{ℕ, ◌+◌, ◌≤◌, ◌<◌, ◌≡◌, refl, ap, ◌∙◌, true, false, List, ◌∷◌, none, some, length, arith, lt-ltb, if◌then◌else◌}
+use Rattle.shape.proofs.Names.{ℕ, ◌+◌, ◌≤◌, ◌<◌, ◌≡◌, refl, ap, ◌∙◌, true, false, List, ◌∷◌, none, some, length, arith, lt-ltb, when◌then◌else◌}
 use Rattle.shape.proofs.Names.{if_true, Token, tokens_from, Read, Style, Block, Kind, Head, Want, opens, refuses, inside, texts, closes, entered, left}
 use Rattle.shape.proofs.Names.{step, go, stray, ahead, Leads, OpenAt, Walked, Way}
 use Rattle.records.specs.declared.Kind.TheVariants as kind
@@ -31,11 +31,11 @@ module _ (s : List ℕ) {at : ℕ} {h : Head} (r : Read s at h) (l : at < length
       ∙ ap (λ (x : Kind). go at (step x w later) (stray (tokens_from s h.next))) e
 
   pub text-on : {st : Style} → h.kind ≡ kind.Text st → texts w ≡ true → Leads s w at w h.next
-  unfolding step go if◌then◌else◌
+  unfolding step go when◌then◌else◌
   text-on {st} e t later = stray-here (kind.Text st) e later ∙ rw t
 
   pub text_out : {st : Style} → h.kind ≡ kind.Text st → texts w ≡ false → Strays s w at at
-  unfolding step go if◌then◌else◌
+  unfolding step go when◌then◌else◌
   text_out {st} e t later = stray-here (kind.Text st) e later ∙ rw t
 
   pub unknown_out : h.kind ≡ kind.Unknown → Strays s w at at
@@ -43,7 +43,7 @@ module _ (s : List ℕ) {at : ℕ} {h : Head} (r : Read s at h) (l : at < length
   unknown_out e later = stray-here kind.Unknown e later
 
   pub end-out : {b : Block} → h.kind ≡ kind.End b → closes w ≡ false → Strays s w at at
-  unfolding step go if◌then◌else◌
+  unfolding step go when◌then◌else◌
   end-out {b} e c later = stray-here (kind.End b) e later ∙ rw c
 
   -- after a start or end record, the next record stands where its body would start
@@ -65,5 +65,5 @@ module _ (s : List ℕ) {at : ℕ} {h : Head} (r : Read s at h) (l : at < length
   -- where the block around may end, what may stand after it is wanted after its end record
   pub end-leads : {b : Block} → h.kind ≡ kind.End b → h.start ≡ h.next → closes w ≡ true
       → (u : Want) (later : List Want) → stray (tokens_from s at) w (u ∷ later) ≡ stray (tokens_from s h.start) u later
-  unfolding step go left if◌then◌else◌
+  unfolding step go left when◌then◌else◌
   end-leads {b} e q c u later = stray-here (kind.End b) e (u ∷ later) ∙ rw (c, q)

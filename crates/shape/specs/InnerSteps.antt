@@ -2,7 +2,7 @@
 -- next, and for each open block what may stand after it.
 use Rattle.std.specs.Prelude.{ℕ, ◌+◌, ◌≤◌, ◌≡◌, Bool, true, false, List, [], ◌∷◌, length, drop}
 use Rattle.std.proofs.Math.Option.{Option, none, some}
-use Rattle.base.specs.Choice.{if◌then◌else◌}
+use Rattle.base.specs.Choice.{when◌then◌else◌}
 use Rattle.base.specs.Result.{gives}
 use Rattle.records.specs.Records.{Token, tokens_from}
 use Rattle.records.specs.declared.Block.{Block}
@@ -27,10 +27,10 @@ pub data Inside : Type 0 where
   refuses : Inside
 
 unfoldable pub inside : Want → Block → Inside
-inside parts b = if other b then opens parts parts else if same b block.DefinitionList then opens pairs parts else refuses
-inside pairs b = if same b block.ItemTerm then opens inlines body else refuses
-inside inlines b = if inline b then opens inlines inlines else refuses
-inside body b = if same b block.ItemBody then opens parts pairs else refuses
+inside parts b = when other b then opens parts parts else when same b block.DefinitionList then opens pairs parts else refuses
+inside pairs b = when same b block.ItemTerm then opens inlines body else refuses
+inside inlines b = when inline b then opens inlines inlines else refuses
+inside body b = when same b block.ItemBody then opens parts pairs else refuses
 
 -- text may stand here
 abbrev pub texts : Want → Bool
@@ -61,9 +61,9 @@ left (u ∷ later) = on u later
 
 -- a record; which block an end record ends is not asked
 unfoldable pub step : Kind → Want → List Want → Next
-step (kind.Text st) w later = if texts w then on w later else out
+step (kind.Text st) w later = when texts w then on w later else out
 step (kind.Start b) w later = entered (inside w b) later
-step (kind.End b) w later = if closes w then left later else out
+step (kind.End b) w later = when closes w then left later else out
 step kind.Unknown w later = out
 
 unfoldable pub go : ℕ → Next → (Want → List Want → Option ℕ) → Option ℕ

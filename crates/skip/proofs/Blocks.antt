@@ -3,7 +3,7 @@ use Rattle.skip.proofs.Names.{refl, eqb, pick, Block, skip_start, skip_end, new_
 use Prim.Native.Nat.{ℕ}
 use mathlib.Core.Path.{◌≡◌}
 use mathlib.Core.Bool.{true, false}
-use Rattle.base.specs.Choice.{if◌then◌else◌}
+use Rattle.base.specs.Choice.{when◌then◌else◌}
 use Rattle.records.specs.Records.{index}
 use Rattle.records.specs.declared.Block.TheVariants as block
 
@@ -13,7 +13,7 @@ new_or_old_same n = pick (λ (x : ℕ). n ≡ x) _ (λ _. refl) (λ _. refl)
 
 module _ (b : Block) (n : ℕ) where
   pub start-other : eqb (index b) 8 ≡ false → n ≡ new_if_fits n (skip_start b n)
-  unfolding skip_start if◌then◌else◌
+  unfolding skip_start when◌then◌else◌
   start-other h = rw h (new_or_old_same n)
 
   pub start-inline : (r : ℕ) → eqb (index b) 8 ≡ true → r ≡ new_if_fits n (skip_start block.InlineBlock n) → r ≡ new_if_fits n (skip_start b n)
@@ -21,7 +21,7 @@ module _ (b : Block) (n : ℕ) where
   start-inline r h k = rw h k
 
   pub end-other : eqb (index b) 8 ≡ false → n ≡ skip_end b n
-  unfolding skip_end if◌then◌else◌
+  unfolding skip_end when◌then◌else◌
   end-other h = rw h
 
   pub end-inline : (r : ℕ) → eqb (index b) 8 ≡ true → r ≡ skip_end block.InlineBlock n → r ≡ skip_end b n

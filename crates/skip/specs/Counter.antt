@@ -1,6 +1,6 @@
 -- The skip counter (01, 'Port order', src/buffer.rs).
 use Rattle.std.specs.Prelude.{ℕ, ◌+◌, ◌-◌, Bool, ◌&&◌, ltb, eqb}
-use Rattle.base.specs.Choice.{if◌then◌else◌}
+use Rattle.base.specs.Choice.{when◌then◌else◌}
 use Rattle.records.specs.Records.{index}
 use Rattle.records.specs.declared.Block.{Block}
 
@@ -14,8 +14,8 @@ skip_paragraph n = 1
 
 -- 'InlineBlock's start adds 1 if it is over 0'
 unfoldable pub skip_start : Block → ℕ → ℕ
-skip_start b n = if eqb (index b) 8 && ltb 0 n then n + 1 else n
+skip_start b n = when eqb (index b) 8 && ltb 0 n then n + 1 else n
 
 -- 'its end takes 1 down to 0'
 unfoldable pub skip_end : Block → ℕ → ℕ
-skip_end b n = if eqb (index b) 8 then n - 1 else n
+skip_end b n = when eqb (index b) 8 then n - 1 else n

@@ -1,6 +1,6 @@
 -- The answers of the code as the rules have them. Assumes nothing.
 use Rattle.splitter.proofs.Names.{ℕ, ◌+◌, ◌-◌, ◌≤◌, ◌<◌, ◌≡◌, refl, sym, ap, ap₂, ◌∙◌, Bool, true, false, and-true, List, [], ◌∷◌, eqb, length, drop}
-use Rattle.splitter.proofs.Names.{get_or, length-drop, drop-drop, drop-cons, arith, eq-eqb, ne_eqb, if◌then◌else◌, starts_with, Chunk, raw, paragraph}
+use Rattle.splitter.proofs.Names.{get_or, length-drop, drop-drop, drop-cons, arith, eq-eqb, ne_eqb, when◌then◌else◌, starts_with, Chunk, raw, paragraph}
 use Rattle.splitter.proofs.Names.{line_break, line, word, ticks, four, is_line_end, Step, after_line_end, ticked, step, stripped, Follows, word_from, Code}
 use Rattle.splitter.proofs.Names.{Cursor, Piece, Raw, Space, Paragraph, LineBreak, Take, Done}
 use Rattle.base.specs.Bytes.{part}
@@ -31,19 +31,19 @@ module _ (body : List ℕ) (at to : ℕ) (e : to ≡ at + length (line (drop at 
   tick-piece = at_first at _ _ (line-piece at (line (drop at body)) 1_000_001 to e refl)
 
   pub ticked-on : (last : Bool) → last ≡ false → Take (Raw at to 1_000_001) (cursor (to + 1) code.Rest) ≡ answer at (ticked last (drop at body))
-  unfolding ticked if◌then◌else◌
+  unfolding ticked when◌then◌else◌
   ticked-on last f = rw f (given at (ticked false (drop at body)) (Raw at to 1_000_001) (to + 1) code.Rest tick-piece (omega arith) refl)
 
   module _ (last : Bool) (f : last ≡ true) where
     pub ticked-kept : starts_with (0x0A ∷ 0x0A ∷ []) (drop to body) ≡ true
         → Take (Raw at to 1_000_001) (cursor to code.No) ≡ answer at (ticked last (drop at body))
-    unfolding ticked if◌then◌else◌
+    unfolding ticked when◌then◌else◌
     ticked-kept g =
         rw f (given at (ticked true (drop at body)) (Raw at to 1_000_001) to code.No tick-piece (rw (before-after is_line_end body at to e, g) e) refl)
 
     pub ticked-last : starts_with (0x0A ∷ 0x0A ∷ []) (drop to body) ≡ false
         → Take (Raw at to 1_000_001) (cursor (to + 1) code.No) ≡ answer at (ticked last (drop at body))
-    unfolding ticked if◌then◌else◌
+    unfolding ticked when◌then◌else◌
     ticked-last g =
         rw f (given at (ticked true (drop at body)) (Raw at to 1_000_001) (to + 1) code.No tick-piece
         (rw (before-after is_line_end body at to e, g) (omega arith)) refl)
@@ -63,7 +63,7 @@ module _ (body tail : List ℕ) (at : ℕ) (f : Follows body at tail) where
   pub after-code : (rest : List ℕ) (to : ℕ) → rest ≡ stripped four tail → length rest < length tail
       → to ≡ length body - length rest + length (line (drop (length body - length rest) body))
       → Answers (Take (Raw (length body - length rest) to 1_000_000) (cursor to code.No))
-  unfolding after_line_end if◌then◌else◌
+  unfolding after_line_end when◌then◌else◌
   after-code rest to e h k =
       let p : at + 5 ≡ length body - length rest = omega (arith, tail_place four rest e h) in
       let from = length body - length rest in
@@ -75,18 +75,18 @@ module _ (body tail : List ℕ) (at : ℕ) (f : Follows body at tail) where
 
   module _ (na : starts_with four tail ≡ false) where
     pub after-ticks : starts_with (0x0A ∷ ticks) tail ≡ true → Answers (Take (Paragraph at) (cursor (at + 1 + 1) code.First))
-    unfolding after_line_end if◌then◌else◌ piece_at
+    unfolding after_line_end when◌then◌else◌ piece_at
     after-ticks e = rw (na, e) (given at _ (Paragraph at) (at + 1 + 1) code.First (at_first at paragraph _ refl) (omega arith) refl)
 
     module _ (nb : starts_with (0x0A ∷ ticks) tail ≡ false) where
       pub after-four : starts_with (0x0A ∷ four) tail ≡ true → Answers (Take (Paragraph at) (cursor (at + 1) code.No))
-      unfolding after_line_end if◌then◌else◌ piece_at
+      unfolding after_line_end when◌then◌else◌ piece_at
       after-four e = rw (na, nb, e) (given at _ (Paragraph at) (at + 1) code.No (at_first at paragraph _ refl) refl refl)
 
       module _ (nc : starts_with (0x0A ∷ four) tail ≡ false) where
         pub after_para : (rest : List ℕ) → rest ≡ stripped (0x0A ∷ []) tail → length rest < length tail
             → Answers (Take (Paragraph at) (cursor (length body - length rest) code.No))
-        unfolding after_line_end if◌then◌else◌ piece_at
+        unfolding after_line_end when◌then◌else◌ piece_at
         after_para rest e h =
             rw (na, nb, nc, shorter_starts (0x0A ∷ []) tail rest e h)
             (given at _ (Paragraph at) (length body - length rest) code.No (at_first at paragraph _ refl)
@@ -95,14 +95,14 @@ module _ (body tail : List ℕ) (at : ℕ) (f : Follows body at tail) where
         module _ (nd : starts_with (0x0A ∷ []) tail ≡ false) where
           pub after_break : (rest : List ℕ) → rest ≡ stripped (0x20 ∷ []) tail → length rest < length tail
               → Answers (Take (LineBreak at) (cursor (length body - length rest) code.No))
-          unfolding after_line_end if◌then◌else◌ piece_at
+          unfolding after_line_end when◌then◌else◌ piece_at
           after_break rest e h =
               rw (na, nb, nc, nd, shorter_starts (0x20 ∷ []) tail rest e h)
               (given at _ (LineBreak at) (length body - length rest) code.No (at_first at line_break _ refl)
               (omega (arith, tail_place (0x20 ∷ []) rest e h)) refl)
 
           pub after_space : starts_with (0x20 ∷ []) tail ≡ false → Answers (Take (Space at) (cursor (at + 1) code.No))
-          unfolding after_line_end if◌then◌else◌ piece_at
+          unfolding after_line_end when◌then◌else◌ piece_at
           after_space e =
               rw (na, nb, nc, nd, e)
               (given at _ (Space at) (at + 1) code.No (at_first at (raw (0x20 ∷ []) 1) _ (space_piece at)) refl refl)
@@ -114,12 +114,12 @@ module _ (body : List ℕ) (at : ℕ) (h : at < length body) where
 
   module _ (n : starts_with (0x0A ∷ []) (drop at body) ≡ false) where
     space_step : starts_with (0x20 ∷ []) (drop at body) ≡ true → Plain (Take (Space at) (cursor (at + 1) code.No))
-    unfolding step if◌then◌else◌
+    unfolding step when◌then◌else◌
     space_step e = rw (n, e) (given at _ (Space at) (at + 1) code.No (at_first at (raw (0x20 ∷ []) 1) _ (space_piece at)) refl refl)
 
     word-step : (w : Word) → starts_with (0x20 ∷ []) (drop at body) ≡ false → w ≡ word_from body at
         → Plain (Take (Raw at w.to w.width) (cursor w.to code.No))
-    unfolding step if◌then◌else◌
+    unfolding step when◌then◌else◌
     word-step w m e =
         let f = ap (λ (x : Word). x.to) e in
         let g = ap (λ (x : Word). x.width) e in
@@ -140,7 +140,7 @@ module _ (body : List ℕ) (at : ℕ) (h : at < length body) where
       line_follows = (h, shorter_drop (0x0A ∷ []) input tail e l ∙ ap (drop 1) i ∙ drop-drop 1 at body)
 
       pub after_line : (r : Answer) → r ≡ answer at (after_line_end tail) → Plain r
-      unfolding step if◌then◌else◌
+      unfolding step when◌then◌else◌
       after_line r g =
           let q : drop 1 (drop at body) ≡ tail = sym (shorter_drop (0x0A ∷ []) input tail e l ∙ ap (drop 1) i) in
           rw (a-line, q) g

@@ -1,6 +1,6 @@
 -- The bytes before the first that passes a test: one byte at a time, and as a part of a body. Assumes nothing.
 use Rattle.splitter.proofs.Names.{ℕ, suc, ◌+◌, ◌-◌, ◌≤◌, ◌<◌, ◌≡◌, refl, sym, ap, ◌∙◌, Bool, true, false, List, [], ◌∷◌, length, take, drop, get_or}
-use Rattle.splitter.proofs.Names.{length-drop, drop_of_length-le, drop-cons, drop-drop, le_refl, arith, if◌then◌else◌, pick, ne_eqb, before}
+use Rattle.splitter.proofs.Names.{length-drop, drop_of_length-le, drop-cons, drop-drop, le_refl, arith, when◌then◌else◌, pick, ne_eqb, before}
 use Rattle.splitter.proofs.Names.{is_line_end_or_space}
 use native.Mathlib.Numerals.{add-one}
 
@@ -19,11 +19,11 @@ module _ (stop : ℕ → Bool) where
   -- from a place on
   module _ (s : List ℕ) (i : ℕ) where
     pub before-stop : i < length s → stop (get_or s i 0) ≡ true → before stop (drop i s) ≡ []
-    unfolding before if◌then◌else◌
+    unfolding before when◌then◌else◌
     before-stop h e = rw (drop-cons s i 0 h, e)
 
     pub before-go : i < length s → stop (get_or s i 0) ≡ false → before stop (drop i s) ≡ get_or s i 0 ∷ before stop (drop (i + 1) s)
-    unfolding before if◌then◌else◌
+    unfolding before when◌then◌else◌
     before-go h e = rw (drop-cons s i 0 h, e, add-one i)
 
     pub before-none : length s ≤ i → before stop (drop i s) ≡ []

@@ -1,6 +1,6 @@
 -- One step: it moves on, and its chunk stands where it begins. Assumes nothing.
 use Rattle.splitter.proofs.Names.{ℕ, ◌+◌, ◌≤◌, ◌≡◌, refl, Bool, true, false, false≢true, List, [], ◌∷◌, eqb, length, drop, length-drop, le_refl}
-use Rattle.splitter.proofs.Names.{arith, eqb-true, if◌then◌else◌, starts_with, pick, and_left, and_fails, starts-length, characters, continues, Chunk}
+use Rattle.splitter.proofs.Names.{arith, eqb-true, when◌then◌else◌, starts_with, pick, and_left, and_fails, starts-length, characters, continues, Chunk}
 use Rattle.splitter.proofs.Names.{raw, paragraph, line_break, before, line, word, ticks, four, is_line_end, is_line_end_or_space, Step, after_line_end, ticked}
 use Rattle.splitter.proofs.Names.{step, Code}
 use Rattle.splitter.specs.declared.Code.TheVariants as code
@@ -22,11 +22,11 @@ after_moves b s =
     pick P _ (λ _. omega arith) λ _. pick P _ (λ _. omega arith) λ _. omega arith
 
 word_moves : (b : ℕ) (s : List ℕ) → eqb b 0x0A ≡ false → eqb b 0x20 ≡ false → 1 ≤ length (word (b ∷ s))
-unfolding if◌then◌else◌ before
+unfolding when◌then◌else◌ before
 word_moves b s n m = simp (n, m) (omega arith)
 
 pub ticks-move : (b : ℕ) (s : List ℕ) → starts_with ticks (b ∷ s) ≡ true → 1 ≤ length (line (b ∷ s))
-unfolding if◌then◌else◌ before starts_with
+unfolding when◌then◌else◌ before starts_with
 ticks-move b s e = rw (eqb-true b 0x60 (and_left (eqb b 0x60) _ e)) (omega arith)
 
 ticked_moves : (last : Bool) (s : List ℕ) → (last ≡ true → 1 ≤ length (line s)) → Moves s (ticked last s)
@@ -51,7 +51,7 @@ step_moves c b s = (moves c b s).0
 -- A step's chunk stands where it begins
 
 -- at most one character a byte
-adds_most : (b : ℕ) → (if continues b then 0 else 1) ≤ 1
+adds_most : (b : ℕ) → (when continues b then 0 else 1) ≤ 1
 adds_most b = pick (λ (n : ℕ). n ≤ 1) (continues b) (λ _. omega arith) (λ _. omega arith)
 
 -- a character has a byte at least
@@ -68,7 +68,7 @@ pub data Stands (s : List ℕ) : ℕ → Chunk → Type 0 where
 
 -- how many bytes a chunk has to itself where it begins: those of its text, or one; an empty code line has none
 abbrev pub extent : Chunk → ℕ
-extent (raw [] width) = if eqb width 1_000_000 then 0 else 1
+extent (raw [] width) = when eqb width 1_000_000 then 0 else 1
 extent (raw (b ∷ text) width) = length (b ∷ text)
 extent paragraph = 1
 extent line_break = 1
@@ -83,7 +83,7 @@ extent_most [] width n h k = pick (λ (m : ℕ). m ≤ n) (eqb width 1_000_000) 
 extent_most (b ∷ text) width n h k = h
 
 extent_code : (text : List ℕ) → extent (raw text 1_000_000) ≤ length text
-unfolding if◌then◌else◌
+unfolding when◌then◌else◌
 extent_code [] = le_refl 0
 extent_code (b ∷ text) = le_refl (length (b ∷ text))
 

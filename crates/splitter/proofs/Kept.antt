@@ -1,7 +1,7 @@
 -- Every byte of a body is in the text of a chunk, or is a space or a line end: no byte is lost, and none is handed out twice.
 -- Of any bytes, UTF-8 or not. Assumes nothing.
 use Rattle.splitter.proofs.Names.{ℕ, zero, suc, ◌+◌, ◌-◌, ◌≡◌, refl, sym, ap, ap₂, ◌∙◌, Bool, true, false, ◌&&◌, List, [], ◌∷◌, ◌++◌, append-nil, eqb}
-use Rattle.splitter.proofs.Names.{length, take, drop, take-append-drop, drop-drop, take-add, eqb-true, if◌then◌else◌, starts_with, pick, and_left}
+use Rattle.splitter.proofs.Names.{length, take, drop, take-append-drop, drop-drop, take-add, eqb-true, when◌then◌else◌, starts_with, pick, and_left}
 use Rattle.splitter.proofs.Names.{and_right, and_both, drop_less, Chunk, raw, paragraph, line_break, before, is_line_end, is_line_end_or_space, line, ticks}
 use Rattle.splitter.proofs.Names.{four, Step, after_line_end, ticked, step, chunks, chunks_of, Code}
 use Rattle.splitter.specs.declared.Code.TheVariants as code
@@ -139,7 +139,7 @@ after_accounted s =
 ticked_accounted : (last : Bool) (s : List ℕ) → Accounted s (ticked last s)
 unfolding ticked
 ticked_accounted last s =
-    pick (λ (u : ℕ). Accounted s (record { chunk = raw (line s) 1_000_001; begins = 0; used = u; code = if last then code.No else code.Rest })) _
+    pick (λ (u : ℕ). Accounted s (record { chunk = raw (line s) 1_000_001; begins = 0; used = u; code = when last then code.No else code.Rest })) _
     (λ _. before-step is_line_end line_ends s 1_000_001 _) (λ _. line_step s _)
 
 pub step_accounted : (c : Code) (b : ℕ) (s : List ℕ) → Accounted (b ∷ s) (step c (b ∷ s))
@@ -157,7 +157,7 @@ step_accounted code.Rest b s = ticked_accounted (starts_with ticks (b ∷ s)) (b
 -- the bytes other than spaces and line ends, in order
 abbrev pub solid : List ℕ → List ℕ
 solid [] = []
-solid (b ∷ s) = if is_line_end_or_space b then solid s else b ∷ solid s
+solid (b ∷ s) = when is_line_end_or_space b then solid s else b ∷ solid s
 
 -- the texts of some chunks, joined
 abbrev pub texts : List Chunk → List ℕ
@@ -167,22 +167,22 @@ texts (paragraph ∷ cs) = texts cs
 texts (line_break ∷ cs) = texts cs
 
 solid_append : (a b : List ℕ) → solid (a ++ b) ≡ solid a ++ solid b
-unfolding if◌then◌else◌
+unfolding when◌then◌else◌
 solid_append [] b = refl
 solid_append (x ∷ a) b = go (is_line_end_or_space x) (solid_append a b)
   where
     go : (t : Bool) → solid (a ++ b) ≡ solid a ++ solid b
-        → if t then solid (a ++ b) else x ∷ solid (a ++ b) ≡ (if t then solid a else x ∷ solid a) ++ solid b
+        → when t then solid (a ++ b) else x ∷ solid (a ++ b) ≡ (when t then solid a else x ∷ solid a) ++ solid b
     go true e = e
     go false e = ap (λ (l : List ℕ). x ∷ l) e
 
 gaps_solid : (w : List ℕ) → gaps w ≡ true → solid w ≡ []
-unfolding if◌then◌else◌
+unfolding when◌then◌else◌
 gaps_solid [] e = refl
 gaps_solid (b ∷ w) e = rw (and_left (is_line_end_or_space b) (gaps w) e) (gaps_solid w (and_right (is_line_end_or_space b) (gaps w) e))
 
 holds_solid : {kept : List ℕ} {c : Chunk} → Holds kept c → (cs : List Chunk) → solid (texts (c ∷ cs)) ≡ solid kept ++ solid (texts cs)
-unfolding if◌then◌else◌
+unfolding when◌then◌else◌
 holds_solid (itself kept width) cs = solid_append kept (texts cs)
 holds_solid a_space cs = refl
 holds_solid a_paragraph cs = refl

@@ -4,7 +4,7 @@ pub use Rattle.base.proofs.Choice.{and_both, and_fails, and_left, and_right, le_
 pub use Rattle.base.proofs.Parts.{drop_less, part_over}
 pub use Rattle.base.proofs.Prefix.{starts-length, starts-split}
 unfoldable pub use Rattle.base.specs.Bytes.{starts_with}
-unfoldable pub use Rattle.base.specs.Choice.{if◌then◌else◌}
+unfoldable pub use Rattle.base.specs.Choice.{when◌then◌else◌}
 pub use Rattle.splitter.specs.InnerParts.{Follows, word_from}
 pub use Rattle.splitter.specs.Split.{Chunk, Placed, Step, four, is_line_end, is_line_end_or_space, line, line_break, paragraph, raw, ticks, word}
 unfoldable pub use Rattle.splitter.specs.Split.{after_line_end, before, chunks, chunks_of, is_space, placed, split, step, stripped, ticked}

@@ -1,6 +1,6 @@
 -- Where the chunks of a body begin: each stands at its place, the places ascend, and all lie within the body. Assumes nothing.
 use Rattle.splitter.proofs.Names.{ℕ, zero, suc, ◌+◌, ◌-◌, ◌≤◌, ◌≡◌, refl, ap, ◌∙◌, subst, Bool, true, false, List, [], ◌∷◌, map, eqb, length, drop}
-use Rattle.splitter.proofs.Names.{drop-drop, arith, eqb-true, if◌then◌else◌, Chunk, raw, paragraph, line_break, step, Placed, placed, split, chunks}
+use Rattle.splitter.proofs.Names.{drop-drop, arith, eqb-true, when◌then◌else◌, Chunk, raw, paragraph, line_break, step, Placed, placed, split, chunks}
 use Rattle.splitter.proofs.Names.{chunks_of, Code}
 use Rattle.splitter.specs.declared.Code.TheVariants as code
 use Rattle.splitter.proofs.Fits.{step_moves, Stands, extent, step_fits}
@@ -70,10 +70,10 @@ split_ascend body = placed_ascend body 0 code.No 0 0 (length body) (omega arith)
 
 -- so the places ascend strictly, save after an empty code line, and are below the body's length, save that of an empty code line at its end
 pub without_extent : (c : Chunk) → extent c ≡ 0 → c ≡ raw [] 1_000_000
-unfolding if◌then◌else◌
+unfolding when◌then◌else◌
 without_extent (raw [] width) e = go (eqb width 1_000_000) refl e
   where
-    go : (t : Bool) → eqb width 1_000_000 ≡ t → ◌≡◌ {A = ℕ} (if t then 0 else 1) 0 → raw [] width ≡ raw [] 1_000_000
+    go : (t : Bool) → eqb width 1_000_000 ≡ t → ◌≡◌ {A = ℕ} (when t then 0 else 1) 0 → raw [] width ≡ raw [] 1_000_000
     go true f g = ap (raw []) (eqb-true width 1_000_000 f)
     go false f g = absurd (omega arith)
 without_extent (raw (b ∷ text) width) e = absurd (omega arith)

@@ -1,6 +1,6 @@
 -- The chunks of a UTF-8 body are UTF-8, and say its printing characters. Assumes nothing.
 use Rattle.splitter.proofs.Names.{ℕ, zero, suc, ◌+◌, ◌-◌, ◌≡◌, refl, sym, ap, ap₂, ◌∙◌, Bool, true, false, ◌||◌, List, [], ◌∷◌, ◌++◌, append_assoc}
-use Rattle.splitter.proofs.Names.{append-nil, eqb, drop, take-append-drop, eqb-true, if◌then◌else◌, and_left, and_right, and_both, drop_less}
+use Rattle.splitter.proofs.Names.{append-nil, eqb, drop, take-append-drop, eqb-true, when◌then◌else◌, and_left, and_right, and_both, drop_less}
 use Rattle.splitter.proofs.Names.{continues, Chunk, raw, paragraph, line_break, is_line_end_or_space, Step, step, Placed, placed, split, Code}
 use Rattle.utf8.specs.Utf8.{row_of, table}
 use Rattle.white.specs.White.{printing, blank, white, whites}
@@ -39,7 +39,7 @@ stop-begins : (b : ℕ) → is_line_end_or_space b ≡ true → continues b ≡ 
 stop-begins b e = either (λ b. continues b ≡ false) b e refl refl
 
 stop-blank : (b : ℕ) → is_line_end_or_space b ≡ true → blank (b ∷ []) ≡ true
-unfolding if◌then◌else◌ blank row_of table white whites
+unfolding when◌then◌else◌ blank row_of table white whites
 stop-blank b e = either (λ b. blank (b ∷ []) ≡ true) b e refl refl
 
 gaps_blank : (w : List ℕ) → gaps w ≡ true → blank w ≡ true

@@ -1,7 +1,7 @@
 -- The chunks of a body one step at a time: those from a cursor on are the first and those from the next cursor on. Assumes nothing.
 use Rattle.splitter.proofs.Names.{ℕ, zero, suc, ◌+◌, ◌-◌, ◌≤◌, ◌<◌, ◌≡◌, refl, sym, ap, ap₂, ◌∙◌, true, false, ◌&&◌, and-false, ⊎_elim, List, [], ◌∷◌}
 use Rattle.splitter.proofs.Names.{eqb, length, take, drop, length-drop, drop_of_length-le, drop-drop, drop-cons, arith, eqb-true, le-leb, lt-leb}
-use Rattle.splitter.proofs.Names.{if◌then◌else◌, starts_with, pick, and_left, and_right, le_or_lt, starts-length, drop_less, Chunk, raw, paragraph}
+use Rattle.splitter.proofs.Names.{when◌then◌else◌, starts_with, pick, and_left, and_right, le_or_lt, starts-length, drop_less, Chunk, raw, paragraph}
 use Rattle.splitter.proofs.Names.{line_break, is_space, Step, step, Placed, placed, split, Code, Cursor, Piece, Raw, Space, Take, Done}
 use Rattle.splitter.specs.Answers.{piece_at, answer, first_chunk, placed_of, cursor, start, placed_from, PieceWithin, Within}
 use Rattle.splitter.proofs.Starts.{starts-take, is_space-one}
@@ -39,16 +39,16 @@ placed-step at c b s =
 
 -- the chunk of one space, a text that is no space, and one of another width
 pub space_piece : (at : ℕ) → piece_at at (raw (0x20 ∷ []) 1) ≡ Space at
-unfolding piece_at is_space if◌then◌else◌
+unfolding piece_at is_space when◌then◌else◌
 space_piece at = refl
 
 module _ (at : ℕ) (text : List ℕ) (width to : ℕ) (f : to ≡ at + length text) where
   pub word_piece : is_space text ≡ false → piece_at at (raw text width) ≡ Raw at to width
-  unfolding piece_at if◌then◌else◌
+  unfolding piece_at when◌then◌else◌
   word_piece e = rw e (ap (λ (n : ℕ). Raw at n width) (sym f))
 
   pub line-piece : eqb width 1 ≡ false → piece_at at (raw text width) ≡ Raw at to width
-  unfolding piece_at if◌then◌else◌
+  unfolding piece_at when◌then◌else◌
   line-piece e = rw (e, and-false) (ap (λ (n : ℕ). Raw at n width) (sym f))
 
 module _ (body : List ℕ) (at : ℕ) where
@@ -96,11 +96,11 @@ next_from body c = cursor (c.at + (step_from body c).used) (step_from body c).co
 
 module _ (body : List ℕ) (c : Cursor) where
   pub first-none : length body ≤ c.at → first_chunk body c ≡ Done
-  unfolding first_chunk if◌then◌else◌
+  unfolding first_chunk when◌then◌else◌
   first-none h = rw (le-leb _ _ h)
 
   pub first_some : c.at < length body → first_chunk body c ≡ answer c.at (step_from body c)
-  unfolding first_chunk if◌then◌else◌
+  unfolding first_chunk when◌then◌else◌
   first_some h = rw (lt-leb _ _ h)
 
   module _ (h : c.at < length body) where

@@ -1,14 +1,14 @@
 -- The part that prefix stripping hands back: it is shorter than the text exactly where the prefix is there. Assumes nothing.
 use Rattle.splitter.proofs.Names.{ℕ, ◌+◌, ◌-◌, ◌≤◌, ◌<◌, ◌≡◌, refl, sym, ap, ◌∙◌, Bool, true, false, List, length, drop, length-drop, arith}
-use Rattle.splitter.proofs.Names.{if◌then◌else◌, starts_with, starts-length, stripped}
+use Rattle.splitter.proofs.Names.{when◌then◌else◌, starts_with, starts-length, stripped}
 
 module _ (prefix text : List ℕ) where
   pub stripped_there : starts_with prefix text ≡ true → stripped prefix text ≡ drop (length prefix) text
-  unfolding stripped if◌then◌else◌
+  unfolding stripped when◌then◌else◌
   stripped_there e = rw e
 
   pub stripped-not : starts_with prefix text ≡ false → text ≡ stripped prefix text
-  unfolding stripped if◌then◌else◌
+  unfolding stripped when◌then◌else◌
   stripped-not e = rw e
 
   module _ (tail : List ℕ) (e : tail ≡ stripped prefix text) where

@@ -1,7 +1,7 @@
 -- What the step over a slice and a cursor answers, as the rules have it.
 use Rattle.std.specs.Prelude.{ℕ, ◌+◌, ◌≤◌, ◌<◌, ◌&&◌, List, [], ◌∷◌, eqb, leb, length, drop}
 use Rattle.base.specs.Bytes.{part}
-use Rattle.base.specs.Choice.{if◌then◌else◌}
+use Rattle.base.specs.Choice.{when◌then◌else◌}
 use Rattle.splitter.specs.Split.{Chunk, raw, paragraph, line_break, is_space, step, Placed, placed, chunk_ticked_code}
 use Rattle.splitter.specs.Split as rules
 use Rattle.splitter.specs.declared.Code.{Code}
@@ -15,7 +15,7 @@ use Rattle.splitter.specs.declared.Step.TheVariants.{Take, Done}
 -- the piece that a chunk is at a place of a body: 'A word or line is handed back as a part of that body'; 'the chunk of one space' is a case of
 -- its own, for a space of the body and for a line end, which the byte at its place tells apart.
 unfoldable pub piece_at : ℕ → Chunk → Piece
-piece_at at (raw text width) = if is_space text && eqb width 1 then Space at else Raw at (at + length text) width
+piece_at at (raw text width) = when is_space text && eqb width 1 then Space at else Raw at (at + length text) width
 piece_at at paragraph = Paragraph at
 piece_at at line_break = LineBreak at
 
@@ -32,7 +32,7 @@ answer at s = Take (piece_at (at + s.begins) s.chunk) (cursor (at + s.used) s.co
 
 -- 'a step giving a chunk and a cursor'; 'a cursor at or past the body's end has no further chunk'
 unfoldable pub first_chunk : List ℕ → Cursor → Step
-first_chunk body c = if leb (length body) c.at then Done else answer c.at (step c.code (drop c.at body))
+first_chunk body c = when leb (length body) c.at then Done else answer c.at (step c.code (drop c.at body))
 
 -- the chunk that a piece of a body is
 abbrev pub chunk_of : List ℕ → Piece → Chunk

@@ -1,7 +1,7 @@
 -- The splitter (01, 'Port order', first paragraph; src/buffer/splitter.rs): the chunks of a body, each with the place where it begins
 -- (02, point 2).
 use Rattle.std.specs.Prelude.{ℕ, zero, suc, ◌+◌, ◌-◌, Bool, false, ◌&&◌, ◌||◌, List, [], ◌∷◌, eqb, length, drop}
-use Rattle.base.specs.Choice.{if◌then◌else◌}
+use Rattle.base.specs.Choice.{when◌then◌else◌}
 use Rattle.base.specs.Bytes.{starts_with}
 use Rattle.utf8.specs.Utf8.{characters}
 use Rattle.splitter.specs.declared.Code.{Code}
@@ -24,7 +24,7 @@ chunk_ticked_code = 1_000_001
 -- the bytes before the first that passes a test
 unfoldable pub before : (ℕ → Bool) → List ℕ → List ℕ
 before stop [] = []
-before stop (b ∷ s) = if stop b then [] else b ∷ before stop s
+before stop (b ∷ s) = when stop b then [] else b ∷ before stop s
 
 abbrev pub is_line_end : ℕ → Bool
 is_line_end b = eqb b 0x0A
@@ -69,11 +69,11 @@ pub record Step : Type 0 where
 -- A code line begins after the `\n` and the four spaces; 'a paragraph, a break or a line end's space begins at its first line end'.
 unfoldable pub after_line_end : List ℕ → Step
 after_line_end s =
-    if starts_with four s then record { chunk = raw (line (drop 4 s)) chunk_code; begins = 5; used = 5 + length (line (drop 4 s)); code = code.No } else
-    if starts_with (0x0A ∷ ticks) s then record { chunk = paragraph; begins = 0; used = 2; code = code.First } else
-    if starts_with (0x0A ∷ four) s then record { chunk = paragraph; begins = 0; used = 1; code = code.No } else
-    if starts_with (0x0A ∷ []) s then record { chunk = paragraph; begins = 0; used = 2; code = code.No } else
-    if starts_with (0x20 ∷ []) s then record { chunk = line_break; begins = 0; used = 2; code = code.No } else
+    when starts_with four s then record { chunk = raw (line (drop 4 s)) chunk_code; begins = 5; used = 5 + length (line (drop 4 s)); code = code.No } else
+    when starts_with (0x0A ∷ ticks) s then record { chunk = paragraph; begins = 0; used = 2; code = code.First } else
+    when starts_with (0x0A ∷ four) s then record { chunk = paragraph; begins = 0; used = 1; code = code.No } else
+    when starts_with (0x0A ∷ []) s then record { chunk = paragraph; begins = 0; used = 2; code = code.No } else
+    when starts_with (0x20 ∷ []) s then record { chunk = line_break; begins = 0; used = 2; code = code.No } else
     record { chunk = raw (0x20 ∷ []) 1; begins = 0; used = 1; code = code.No }
 
 -- 'In ticks each line is a chunk of width 1,000,001, empty lines included; .. the last, and its `\n` is kept if two follow.'
@@ -81,15 +81,15 @@ unfoldable pub ticked : Bool → List ℕ → Step
 ticked last s = record {
   chunk = raw (line s) chunk_ticked_code;
   begins = 0;
-  used = if last && starts_with (0x0A ∷ 0x0A ∷ []) (drop (length (line s)) s) then length (line s) else length (line s) + 1;
-  code = if last then code.No else code.Rest;
+  used = when last && starts_with (0x0A ∷ 0x0A ∷ []) (drop (length (line s)) s) then length (line s) else length (line s) + 1;
+  code = when last then code.No else code.Rest;
 }
 
 -- the first chunk of some bytes, of which there is one or more; 'a later line starting with three backticks is the last'
 unfoldable pub step : Code → List ℕ → Step
 step code.No s =
-    if starts_with (0x0A ∷ []) s then after_line_end (drop 1 s) else
-    if starts_with (0x20 ∷ []) s then record { chunk = raw (0x20 ∷ []) 1; begins = 0; used = 1; code = code.No } else
+    when starts_with (0x0A ∷ []) s then after_line_end (drop 1 s) else
+    when starts_with (0x20 ∷ []) s then record { chunk = raw (0x20 ∷ []) 1; begins = 0; used = 1; code = code.No } else
     record { chunk = raw (word s) (characters (word s)); begins = 0; used = length (word s); code = code.No }
 step code.First s = ticked false s
 step code.Rest s = ticked (starts_with ticks s) s
@@ -123,4 +123,4 @@ chunks_of body = chunks code.No 0 body
 
 -- 'the text after a given prefix .., all of it if the prefix isn't there'
 unfoldable pub stripped : List ℕ → List ℕ → List ℕ
-stripped prefix text = if starts_with prefix text then drop (length prefix) text else text
+stripped prefix text = when starts_with prefix text then drop (length prefix) text else text

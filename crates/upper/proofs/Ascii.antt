@@ -1,5 +1,5 @@
 -- What the table says of ASCII: a to z become A to Z, and nothing else changes. Assumes nothing.
-use Rattle.upper.proofs.Names.{◌≡◌, refl, ◌∙◌, Bool, true, List, [], ◌∷◌, ℕ, ◌<◌, if◌then◌else◌, Entry, table, entry_of, maps_to, ascii_upper, below}
+use Rattle.upper.proofs.Names.{◌≡◌, refl, ◌∙◌, Bool, true, List, [], ◌∷◌, ℕ, ◌<◌, when◌then◌else◌, Entry, table, entry_of, maps_to, ascii_upper, below}
 use Rattle.base.proofs.Bytes.{all, all_at}
 use Rattle.upper.proofs.Tables.{entry_below}
 use Rattle.upper.proofs.Whole.{whole}
@@ -9,7 +9,7 @@ abbrev agrees : List Entry → Bool
 agrees es = all 0x80 (λ c. same (entry_of es c) (ascii_upper c ∷ []))
 
 low-agrees : agrees (below 0x80 table) ≡ true
-unfolding if◌then◌else◌ table ascii_upper
+unfolding when◌then◌else◌ table ascii_upper
 low-agrees = refl
 
 pub ascii_maps : (c : ℕ) → c < 0x80 → maps_to c ≡ ascii_upper c ∷ []

@@ -1,7 +1,7 @@
 -- What the columns of the code say of the table. Each fact about all entries is one test. Assumes nothing.
 use Rattle.upper.proofs.Names.{◌≡◌, refl, sym, ap, ◌∙◌, ◌⊎◌, ⊎_elim, Bool, true, false, ◌&&◌, and-false, false≢true, List, [], ◌∷◌, map, ℕ, zero, suc}
 use Rattle.upper.proofs.Names.{◌+◌, ◌-◌, ◌<◌, ◌≤◌, not-suc-le-zero, le_of_suc-le-suc, arith, leb, eqb, length, get_or, take, drop, length-map}
-use Rattle.upper.proofs.Names.{get_or-map, ltb-true, leb-true, eqb-true, le-leb, lt-leb, lt-ltb, if◌then◌else◌, among, if_true, if_false, and_left}
+use Rattle.upper.proofs.Names.{get_or-map, ltb-true, leb-true, eqb-true, le-leb, lt-leb, lt-ltb, when◌then◌else◌, among, if_true, if_false, and_left}
 use Rattle.upper.proofs.Names.{and_right, and_both, Entry, table, from, to, entry_of, maps_to, ascending, in_order, single, codes, near, far}
 use Rattle.upper.proofs.Names.{near_from_column, near_to_column, longer_column, far_from_column, far_to_column, from_column, to_column, Columns, NearColumns}
 use Rattle.upper.proofs.Names.{FarColumns, Found, three_at}
@@ -45,10 +45,10 @@ abbrev coded : ℕ → Bool
 coded u = among 0xD800 0xDFFF u
 
 abbrev said : List ℕ → ℕ → List ℕ
-said long u = if coded u then three_at long (u - 0xD800) else u ∷ []
+said long u = when coded u then three_at long (u - 0xD800) else u ∷ []
 
 abbrev inside : List ℕ → ℕ → Bool
-inside long u = leb (if coded u then u - 0xD800 + 3 else 0) (length long)
+inside long u = leb (when coded u then u - 0xD800 + 3 else 0) (length long)
 
 abbrev agree : List ℕ → List Entry → List ℕ → Bool
 agree long [] us = true
@@ -56,7 +56,7 @@ agree long (e ∷ es) [] = false
 agree long (e ∷ es) (u ∷ us) = inside long u && same (said long u) (to e) && agree long es us
 
 near_agree : agree longer_column near near_to_column ≡ true
-unfolding if◌then◌else◌ table near near_to_column longer_column
+unfolding when◌then◌else◌ table near near_to_column longer_column
 near_agree = refl
 
 record Agrees (long : List ℕ) (e : Entry) (u : ℕ) : Type 0 where
@@ -78,7 +78,7 @@ agree_at long (e ∷ es) (u ∷ us) a (suc k) h =
 
 codes-length : (place : ℕ) (es : List Entry) → length (codes place es) ≡ length es
 codes-length place [] = refl
-codes-length place (e ∷ es) = ap suc (codes-length (place + (if single (to e) then 0 else 3)) es)
+codes-length place (e ∷ es) = ap suc (codes-length (place + (when single (to e) then 0 else 3)) es)
 
 not_coded : (u : ℕ) → (u < 0xD800) ⊎ (0xDFFF < u) → coded u ≡ false
 not_coded u h = ⊎_elim (λ (l : u < 0xD800). rw (lt-leb 0xD800 u l)) (λ (l : 0xDFFF < u). rw (lt-leb u 0xDFFF l) (and-false (leb 0xD800 u))) h
@@ -153,7 +153,7 @@ abbrev far_entry : Entry → Bool
 far_entry e = among 0x10000 0x1FFFF (from e) && same ((0x10000 + low_to e) ∷ []) (to e)
 
 far_entries : every far_entry far ≡ true
-unfolding if◌then◌else◌ table far
+unfolding when◌then◌else◌ table far
 far_entries = refl
 
 record Far (e : Entry) : Type 0 where
@@ -227,30 +227,30 @@ just_one e f g = e ∙ ap (λ (k : ℕ). k ∷ []) f ∙ g
 -- the parts of the columns that are lent
 module _ {xs ys : List ℕ} (p : Columns xs ys) where
   pub near-part : NearColumns (take (1273 - 0) (drop 0 xs)) (take (1273 - 0) (drop 0 ys))
-  unfolding if◌then◌else◌ table near far near_from_column near_to_column far_from_column far_to_column from_column to_column
+  unfolding when◌then◌else◌ table near far near_from_column near_to_column far_from_column far_to_column from_column to_column
   near-part = (ap (λ (l : List ℕ). take (1273 - 0) (drop 0 l)) p.0, ap (λ (l : List ℕ). take (1273 - 0) (drop 0 l)) p.1)
 
   pub far-part : FarColumns (take (1580 - 1273) (drop 1273 xs)) (take (1580 - 1273) (drop 1273 ys))
-  unfolding if◌then◌else◌ table near far near_from_column near_to_column far_from_column far_to_column from_column to_column
+  unfolding when◌then◌else◌ table near far near_from_column near_to_column far_from_column far_to_column from_column to_column
   far-part = (ap (λ (l : List ℕ). take (1580 - 1273) (drop 1273 l)) p.0, ap (λ (l : List ℕ). take (1580 - 1273) (drop 1273 l)) p.1)
 
 -- the sizes of the columns
 pub from-size : length from_column ≡ 1580
-unfolding if◌then◌else◌ table near far near_from_column far_from_column from_column
+unfolding when◌then◌else◌ table near far near_from_column far_from_column from_column
 from-size = refl
 
 pub to-size : length to_column ≡ 1580
-unfolding if◌then◌else◌ table near far near_to_column far_to_column to_column
+unfolding when◌then◌else◌ table near far near_to_column far_to_column to_column
 to-size = refl
 
 pub longer-size : length longer_column ≡ 306
-unfolding if◌then◌else◌ table near longer_column
+unfolding when◌then◌else◌ table near longer_column
 longer-size = refl
 
 pub far-size : length far_from_column ≡ 307
-unfolding if◌then◌else◌ table far far_from_column
+unfolding when◌then◌else◌ table far far_from_column
 far-size = refl
 
 pub far-to-size : length far_to_column ≡ 307
-unfolding if◌then◌else◌ table far far_to_column
+unfolding when◌then◌else◌ table far far_to_column
 far-to-size = refl

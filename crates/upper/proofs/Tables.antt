@@ -1,6 +1,6 @@
 -- What holds of any table in order: each entry is what its character maps to, and a table can be cut at a number. Assumes nothing.
 use Rattle.upper.proofs.Names.{◌≡◌, refl, ap, ◌∙◌, Bool, true, ◌&&◌, List, [], ◌∷◌, map, ℕ, zero, suc, ◌<◌, ◌≤◌, not-suc-le-zero, le_of_suc-le-suc}
-use Rattle.upper.proofs.Names.{arith, ltb, eqb, length, get_or, length-map, get_or-map, ltb-true, ltb-false, eq-eqb, ne_eqb, if◌then◌else◌, among}
+use Rattle.upper.proofs.Names.{arith, ltb, eqb, length, get_or, length-map, get_or-map, ltb-true, ltb-false, eq-eqb, ne_eqb, when◌then◌else◌, among}
 use Rattle.upper.proofs.Names.{if_true, if_false, pick, and_left, and_right, and_both, scalar, Entry, ◌becomes◌, from, to, entry_of, under, ascending}
 use Rattle.upper.proofs.Names.{scalars, proper, in_order, below, beyond}
 use Rattle.upper.proofs.Search.{ascends}
@@ -79,7 +79,7 @@ pub entry_below : (n : ℕ) (es : List Entry) (c : ℕ) → in_order es ≡ true
 entry_below n [] c o h = refl
 entry_below n (e ∷ es) c o h =
     pick (λ l. entry_of (e ∷ es) c ≡ entry_of l c) (ltb (from e) n)
-    (λ _. ap (λ (x : List ℕ). if eqb (from e) c then to e else x) (entry_below n es c (rest_in_order e es o) h))
+    (λ _. ap (λ (x : List ℕ). when eqb (from e) c then to e else x) (entry_below n es c (rest_in_order e es o) h))
     (λ q. no_entry (e ∷ es) c (nowhere (ltb-false (from e) n q)))
   where
     nowhere : n ≤ from e → (k : ℕ) → k < length (e ∷ es) → from (get_or (e ∷ es) k none) ≡ c → ⊥

@@ -1,7 +1,7 @@
 -- Bytes written after those of a buffer, and the bytes of the characters that one maps to. Assumes nothing.
 use Rattle.upper.proofs.Names.{◌≡◌, refl, sym, ap, ◌∙◌, Bool, true, false, List, [], ◌∷◌, ◌++◌, append_assoc, ℕ, suc, ◌+◌, ◌/◌, ◌%◌, ◌<◌, ◌≤◌, arith}
 use Rattle.upper.proofs.Names.{leb, ltb, eqb, length, take, drop, set, length-take-le, take-append-add, take-append-le, sets-eq, lt-ltb, le-ltb}
-use Rattle.upper.proofs.Names.{ltb-true, leb-true, eq-eqb, ne_eqb, if◌then◌else◌, among, and_right, encode, encode_all, scalar, characters_of, Wrote}
+use Rattle.upper.proofs.Names.{ltb-true, leb-true, eq-eqb, ne_eqb, when◌then◌else◌, among, and_right, encode, encode_all, scalar, characters_of, Wrote}
 use mathlib.Core.Path.{ap₂}
 use mathlib.Core.Bool.{◌||◌}
 use mathlib.Core.List.{append-nil}
@@ -30,20 +30,20 @@ wrote_three f i g j h n k =
 -- table 3-6, line by line
 module _ (c : ℕ) where
   pub encoded_1 : c < 0x80 → c ∷ [] ≡ encode c
-  unfolding if◌then◌else◌ encode
+  unfolding when◌then◌else◌ encode
   encoded_1 h = rw (lt-ltb c 0x80 h)
 
   pub encoded_2 : 0x80 ≤ c → c < 0x800 → (0xC0 + c / 64) ∷ (0x80 + c % 64) ∷ [] ≡ encode c
-  unfolding if◌then◌else◌ encode
+  unfolding when◌then◌else◌ encode
   encoded_2 g h = rw (le-ltb c 0x80 g, lt-ltb c 0x800 h)
 
   pub encoded_3 : 0x80 ≤ c → 0x800 ≤ c → c < 0x10000 → (0xE0 + c / 4096) ∷ (0x80 + c / 64 % 64) ∷ (0x80 + c % 64) ∷ [] ≡ encode c
-  unfolding if◌then◌else◌ encode
+  unfolding when◌then◌else◌ encode
   encoded_3 f g h = rw (le-ltb c 0x80 f, le-ltb c 0x800 g, lt-ltb c 0x10000 h)
 
   pub encoded_4 : 0x80 ≤ c → 0x800 ≤ c → 0x10000 ≤ c
       → (0xF0 + c / 262144) ∷ (0x80 + c / 4096 % 64) ∷ (0x80 + c / 64 % 64) ∷ (0x80 + c % 64) ∷ [] ≡ encode c
-  unfolding if◌then◌else◌ encode
+  unfolding when◌then◌else◌ encode
   encoded_4 f g h = rw (le-ltb c 0x80 f, le-ltb c 0x800 g, le-ltb c 0x10000 h)
 
   pub scalar_most : scalar c ≡ true → c ≤ 0x10FFFF
@@ -76,19 +76,19 @@ put_wrote l at n a b c d h g =
 -- one, two or three characters
 module _ (m : Mapped) where
   one_of : m.second ≡ 0 → characters_of m ≡ m.first ∷ []
-  unfolding if◌then◌else◌
+  unfolding when◌then◌else◌
   one_of e = rw (eq-eqb m.second 0 e)
 
-  some_of : (m.second ≡ 0 → ⊥) → characters_of m ≡ m.first ∷ m.second ∷ (if eqb m.third 0 then [] else m.third ∷ [])
-  unfolding if◌then◌else◌
+  some_of : (m.second ≡ 0 → ⊥) → characters_of m ≡ m.first ∷ m.second ∷ (when eqb m.third 0 then [] else m.third ∷ [])
+  unfolding when◌then◌else◌
   some_of n = rw (ne_eqb m.second 0 n)
 
   two_of : (m.second ≡ 0 → ⊥) → m.third ≡ 0 → characters_of m ≡ m.first ∷ m.second ∷ []
-  unfolding if◌then◌else◌
+  unfolding when◌then◌else◌
   two_of n e = rw (ne_eqb m.second 0 n, eq-eqb m.third 0 e)
 
   three_of : (m.second ≡ 0 → ⊥) → (m.third ≡ 0 → ⊥) → characters_of m ≡ m.first ∷ m.second ∷ m.third ∷ []
-  unfolding if◌then◌else◌
+  unfolding when◌then◌else◌
   three_of n o = rw (ne_eqb m.second 0 n, ne_eqb m.third 0 o)
 
   pub bytes_of_one : m.second ≡ 0 → encode m.first ≡ encode_all (characters_of m)

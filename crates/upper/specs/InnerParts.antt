@@ -1,6 +1,6 @@
 -- What the functions of this crate promise each other and their callers; no rule of 02 stands here.
 use Rattle.std.specs.Prelude.{◌≡◌, Bool, true, List, [], ◌∷◌, ◌++◌, map, ℕ, ◌+◌, ◌-◌, ◌<◌, ◌≤◌, ltb, eqb, length, get_or, take, drop}
-use Rattle.base.specs.Choice.{if◌then◌else◌}
+use Rattle.base.specs.Choice.{when◌then◌else◌}
 use Rattle.utf8.specs.Utf8.{utf8, encode}
 use Rattle.upper.specs.Table.{Entry, table}
 use Rattle.upper.specs.Upper.{from, to, upper, ascending}
@@ -11,11 +11,11 @@ use Rattle.upper.specs.declared.Uppercased.{Uppercased}
 -- the entries at the head of a table that are below n, and those after them
 abbrev pub below : ℕ → List Entry → List Entry
 below n [] = []
-below n (e ∷ es) = if ltb (from e) n then e ∷ below n es else []
+below n (e ∷ es) = when ltb (from e) n then e ∷ below n es else []
 
 abbrev pub beyond : ℕ → List Entry → List Entry
 beyond n [] = []
-beyond n (e ∷ es) = if ltb (from e) n then beyond n es else e ∷ es
+beyond n (e ∷ es) = when ltb (from e) n then beyond n es else e ∷ es
 
 -- the table in two parts: the characters that have 16 bits, and the others
 unfoldable pub near : List Entry
@@ -31,15 +31,15 @@ single cs = eqb (length cs) 1
 abbrev pub codes : ℕ → List Entry → List ℕ
 codes place [] = []
 codes place (e ∷ es) =
-    let rest = codes (place + (if single (to e) then 0 else 3)) es in
-    (if single (to e) then get_or (to e) 0 0 else 0xD800 + place) ∷ rest
+    let rest = codes (place + (when single (to e) then 0 else 3)) es in
+    (when single (to e) then get_or (to e) 0 0 else 0xD800 + place) ∷ rest
 
 abbrev pub three : List ℕ → List ℕ
 three cs = get_or cs 0 0 ∷ get_or cs 1 0 ∷ get_or cs 2 0 ∷ []
 
 abbrev pub longs : List Entry → List ℕ
 longs [] = []
-longs (e ∷ es) = (if single (to e) then [] else three (to e)) ++ longs es
+longs (e ∷ es) = (when single (to e) then [] else three (to e)) ++ longs es
 
 unfoldable pub near_from_column : List ℕ
 near_from_column = map from near
@@ -81,7 +81,7 @@ pub record Found (xs : List ℕ) (c r : ℕ) : Type 0 where
 
 -- a character, a second where that is not 0, and then a third where that is not 0
 abbrev pub three_of : ℕ → ℕ → ℕ → List ℕ
-three_of a b c = a ∷ (if eqb b 0 then [] else b ∷ (if eqb c 0 then [] else c ∷ []))
+three_of a b c = a ∷ (when eqb b 0 then [] else b ∷ (when eqb c 0 then [] else c ∷ []))
 
 abbrev pub characters_of : Mapped → List ℕ
 characters_of m = three_of m.first m.second m.third

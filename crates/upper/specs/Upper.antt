@@ -1,6 +1,6 @@
 -- Upper case by the Unicode Character Database (02, point 6), as `str::to_uppercase` has it.
 use Rattle.std.specs.Prelude.{Bool, true, ◌&&◌, List, [], ◌∷◌, ◌++◌, map, ℕ, ◌-◌, ltb, eqb, length}
-use Rattle.base.specs.Choice.{if◌then◌else◌, among}
+use Rattle.base.specs.Choice.{when◌then◌else◌, among}
 use Rattle.utf8.specs.Utf8.{decode, encode_all, scalar}
 use Rattle.upper.specs.Table.{Entry, ◌becomes◌, table}
 
@@ -14,7 +14,7 @@ to (c becomes cs) = cs
 -- what a character is by a table: its entry, and 'a character without an entry maps to itself'
 abbrev pub entry_of : List Entry → ℕ → List ℕ
 entry_of [] c = c ∷ []
-entry_of (e ∷ es) c = if eqb (from e) c then to e else entry_of es c
+entry_of (e ∷ es) c = when eqb (from e) c then to e else entry_of es c
 
 -- 'the whole upper-case mapping'
 unfoldable pub maps_to : ℕ → List ℕ
@@ -53,4 +53,4 @@ in_order es = ascending (map from es) && proper es
 
 -- 01's 'ASCII upper-cased', of which this takes the place: the law `ascii_upper_lem` says that ASCII text is what it was
 unfoldable pub ascii_upper : ℕ → ℕ
-ascii_upper c = if among 0x61 0x7A c then c - 32 else c
+ascii_upper c = when among 0x61 0x7A c then c - 32 else c

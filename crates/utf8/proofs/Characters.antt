@@ -2,7 +2,7 @@
 -- Assumes nothing.
 use Rattle.utf8.proofs.Names.{◌≡◌, refl, ap, ap₂, sym, ◌∙◌, ⊎_elim, Bool, true, false, false≢true, List, [], ◌∷◌, ◌++◌, append-nil, ℕ, zero, suc, ◌+◌}
 use Rattle.utf8.proofs.Names.{◌-◌, ◌*◌, ◌<◌, ◌≤◌, not-suc-le-zero, add-one, arith, lt-ltb, length, get_or, drop, take, take-append-drop, length-drop}
-use Rattle.utf8.proofs.Names.{drop_of_length-le, drop-cons, drop-drop, get_or-drop, if◌then◌else◌, eq_or_not, and_left, and_right, if_true, if_false}
+use Rattle.utf8.proofs.Names.{drop_of_length-le, drop-cons, drop-drop, get_or-drop, when◌then◌else◌, eq_or_not, and_left, and_right, if_true, if_false}
 use Rattle.utf8.proofs.Names.{Range, within, row_of, begins, size_of, well_formed, utf8, emit, decode_from, decode, encode, scalar, first_of, character_at}
 use Rattle.utf8.proofs.Names.{Char, Nothing}
 use Rattle.utf8.proofs.Laws.{size-next, size-stop, size-yes, due_1}
@@ -36,11 +36,11 @@ head_of [] = 0
 head_of (b ∷ t) = joined (b - (row_of b).lead) (take (length (row_of b).after) t)
 
 pub size-begins : (b : ℕ) (t : List ℕ) → (size_of (b ∷ t) ≡ 0 → ⊥) → (begins (row_of b).after t ≡ true) × (size_of (b ∷ t) ≡ suc (length (row_of b).after))
-unfolding if◌then◌else◌ size_of
+unfolding when◌then◌else◌ size_of
 size-begins b t n = go (begins (row_of b).after t) n
   where
-    go : (x : Bool) → (if x then suc (length (row_of b).after) else 0 ≡ 0 → ⊥)
-        → (x ≡ true) × (if x then suc (length (row_of b).after) else 0 ≡ suc (length (row_of b).after))
+    go : (x : Bool) → (when x then suc (length (row_of b).after) else 0 ≡ 0 → ⊥)
+        → (x ≡ true) × (when x then suc (length (row_of b).after) else 0 ≡ suc (length (row_of b).after))
     go true n = (refl, refl)
     go false n = absurd (n refl)
 
@@ -162,11 +162,11 @@ started s at {k} h e n =
     }
 
 -- by the test whether a character of k bytes stands there
-pub begun : (s : List ℕ) (at k : ℕ) {l : ℕ} {x : Bool} → at < length s → if x then k else 0 ≡ size_of (drop at s) → x ≡ true → (k ≡ 0 → ⊥)
+pub begun : (s : List ℕ) (at k : ℕ) {l : ℕ} {x : Bool} → at < length s → when x then k else 0 ≡ size_of (drop at s) → x ≡ true → (k ≡ 0 → ⊥)
     → lead_of (get_or s at 0) ≡ l → Started s at k l
 begun s at k h e t n q = rw (← q) (started s at h (sym (if_true k 0 t) ∙ e) n)
 
-pub not-begun : (s : List ℕ) (at k : ℕ) {x : Bool} → if x then k else 0 ≡ size_of (drop at s) → x ≡ false → Nothing ≡ character_at s at
+pub not-begun : (s : List ℕ) (at k : ℕ) {x : Bool} → when x then k else 0 ≡ size_of (drop at s) → x ≡ false → Nothing ≡ character_at s at
 not-begun s at k e t = character_none s at (sym e ∙ if_false k 0 t)
 
 module _ (s : List ℕ) (at l : ℕ) {c d : ℕ} where
@@ -189,7 +189,7 @@ module _ (s : List ℕ) (at l : ℕ) {c d : ℕ} where
   four-read {e} {f} g p q r t = going_done s at 4 4 f (going_more s at 4 3 e (first_three 4 g (omega arith) p q r) (omega arith) t) refl
 
 pub ascii_at : (s : List ℕ) (at : ℕ) → at < length s → get_or s at 0 < 0x80 → Char (get_or s at 0) (at + 1) ≡ character_at s at
-unfolding if◌then◌else◌ lead_of
+unfolding when◌then◌else◌ lead_of
 ascii_at s at h l =
     let f = started s at h (size-yes s at [] h (due_1 _ l) refl refl) (λ z. omega arith) in
     let q : get_or s at 0 - lead_of (get_or s at 0) ≡ get_or s at 0 = rw (lt-ltb (get_or s at 0) 0x80 l) (omega arith) in

@@ -2,28 +2,28 @@
 -- Assumes nothing.
 use Rattle.utf8.proofs.Names.{◌≡◌, refl, ap, sym, ◌∙◌, Bool, true, false, ◌&&◌, and-true, and-false, and_assoc, false≢true, ⊎_elim, List, [], ◌∷◌, ℕ}
 use Rattle.utf8.proofs.Names.{zero, suc, ◌+◌, ◌/◌, ◌<◌, ◌≤◌, suc-le-suc, add-one, not-suc-le-zero, add-zero, arith, leb, leb-zero, length, get_or, drop}
-use Rattle.utf8.proofs.Names.{drop_of_length-le, length-drop, le-leb, lt-leb, drop-cons, drop-drop, if◌then◌else◌, le_or_lt, and_right, Range, ◌to◌}
+use Rattle.utf8.proofs.Names.{drop_of_length-le, length-drop, le-leb, lt-leb, drop-cons, drop-drop, when◌then◌else◌, le_or_lt, and_right, Range, ◌to◌}
 use Rattle.utf8.proofs.Names.{within, continues, table, row_of, well_formed, characters, never, begins, size_of, AtMost}
 use borrow.Author.Count.{below_more}
 
 pub count_step : (s : List ℕ) (i : ℕ) → i < length s
-    → characters (drop i s) ≡ (if continues (get_or s i 0) then 0 else 1) + characters (drop (i + 1) s)
+    → characters (drop i s) ≡ (when continues (get_or s i 0) then 0 else 1) + characters (drop (i + 1) s)
 count_step s i h = rw (add-one, drop-cons s i 0)
 
 -- what a byte adds to the count
 abbrev pub adds : ℕ → ℕ
-adds b = if continues b then 0 else 1
+adds b = when continues b then 0 else 1
 
 pub adds-low : (b : ℕ) → b < 0x80 → adds b ≡ 1
-unfolding if◌then◌else◌
+unfolding when◌then◌else◌
 adds-low b h = rw (lt-leb 0x80 b h)
 
 pub adds-high : (b : ℕ) → 0xBF < b → adds b ≡ 1
-unfolding if◌then◌else◌
+unfolding when◌then◌else◌
 adds-high b h = let g : 0x80 ≤ b = omega arith in rw (le-leb 0x80 b g, lt-leb b 0xBF h)
 
 pub adds_none : (b : ℕ) → 0x80 ≤ b → b ≤ 0xBF → adds b ≡ 0
-unfolding if◌then◌else◌
+unfolding when◌then◌else◌
 adds_none b g h = rw (le-leb 0x80 b g, le-leb b 0xBF h)
 
 -- the bytes due, at a place of s
@@ -62,18 +62,18 @@ begins_room (r ∷ rs) [] e = absurd (false≢true e)
 begins_room (r ∷ rs) (b ∷ t) e = suc-le-suc (begins_room rs t (and_right (within b r) (begins rs t) e))
 
 pub size_at : (s : List ℕ) (i : ℕ) → i < length s
-    → size_of (drop i s) ≡ if begins (row_of (get_or s i 0)).after (drop (i + 1) s) then suc (length (row_of (get_or s i 0)).after) else 0
-unfolding if◌then◌else◌ size_of
+    → size_of (drop i s) ≡ when begins (row_of (get_or s i 0)).after (drop (i + 1) s) then suc (length (row_of (get_or s i 0)).after) else 0
+unfolding when◌then◌else◌ size_of
 size_at s i h = rw (add-one, drop-cons s i 0)
 
 -- by the test whether the bytes due stand after the first
 pub size-by : (s : List ℕ) (i : ℕ) (due : List Range) {x : Bool} → i < length s → (row_of (get_or s i 0)).after ≡ due
-    → x ≡ begins due (drop (i + 1) s) → if x then suc (length due) else 0 ≡ size_of (drop i s)
+    → x ≡ begins due (drop (i + 1) s) → when x then suc (length due) else 0 ≡ size_of (drop i s)
 size-by s i due h e p = rw (size_at s i h, e, ← p)
 
 pub size-yes : (s : List ℕ) (i : ℕ) (due : List Range) {x : Bool} → i < length s → (row_of (get_or s i 0)).after ≡ due
     → x ≡ begins due (drop (i + 1) s) → x ≡ true → suc (length due) ≡ size_of (drop i s)
-unfolding if◌then◌else◌
+unfolding when◌then◌else◌
 size-yes s i due h e p q = rw (size_at s i h, e, ← p, q)
 
 pub begins-never : (t : List ℕ) → false ≡ begins never.after t
@@ -81,7 +81,7 @@ begins-never [] = refl
 begins-never (b ∷ t) = ⊎_elim (λ (l : b ≤ 0x80). rw (lt-leb 0xFF b (omega arith))) (λ (l : 0x80 < b). simp (lt-leb b 0x80 l, and-false)) (le_or_lt b 0x80)
 
 pub size-never : (s : List ℕ) (i : ℕ) → i < length s → (row_of (get_or s i 0)).after ≡ never.after → 0 ≡ size_of (drop i s)
-unfolding if◌then◌else◌
+unfolding when◌then◌else◌
 size-never s i h e = rw (size_at s i h, e, ← begins-never (drop (i + 1) s))
 
 pub ranged : {l : List Range} {lo hi p q : ℕ} {rest : List Range} → l ≡ p to q ∷ rest → lo ≡ p → hi ≡ q → l ≡ lo to hi ∷ rest
@@ -93,21 +93,21 @@ pub record Next (t : List ℕ) (k : ℕ) : Type 0 where
   pub rest : well_formed [] t ≡ well_formed [] (drop k t)
 
 pub size-stop : (t : List ℕ) → 0 < length t → size_of t ≡ 0 → well_formed [] t ≡ false
-unfolding if◌then◌else◌ size_of
+unfolding when◌then◌else◌ size_of
 size-stop [] h e = absurd (not-suc-le-zero h)
 size-stop (b ∷ t) h e = fits_begins (row_of b).after t ∙ go (begins (row_of b).after t) e
   where
-    go : (x : Bool) → if x then suc (length (row_of b).after) else 0 ≡ 0 → (x && well_formed [] (drop (length (row_of b).after) t)) ≡ false
+    go : (x : Bool) → when x then suc (length (row_of b).after) else 0 ≡ 0 → (x && well_formed [] (drop (length (row_of b).after) t)) ≡ false
     go true q = let z : ⊥ = omega arith in absurd z
     go false q = refl
 
 pub size-next : (t : List ℕ) → (size_of t ≡ 0 → ⊥) → Next t (size_of t)
-unfolding if◌then◌else◌ size_of
+unfolding when◌then◌else◌ size_of
 size-next [] n = absurd (n refl)
 size-next (b ∷ t) n = go (begins (row_of b).after t) refl n
   where
-    go : (x : Bool) → begins (row_of b).after t ≡ x → (if x then suc (length (row_of b).after) else 0 ≡ 0 → ⊥)
-        → Next (b ∷ t) (if x then suc (length (row_of b).after) else 0)
+    go : (x : Bool) → begins (row_of b).after t ≡ x → (when x then suc (length (row_of b).after) else 0 ≡ 0 → ⊥)
+        → Next (b ∷ t) (when x then suc (length (row_of b).after) else 0)
     go true q n = record {
       room = suc-le-suc (begins_room (row_of b).after t q);
       rest = fits_begins (row_of b).after t ∙ rw q;
@@ -123,11 +123,11 @@ module _ (a : ℕ) where
   past k h = lt-leb a k h
 
   pub due_1 : a < 0x80 → (row_of a).after ≡ []
-  unfolding if◌then◌else◌ row_of table
+  unfolding when◌then◌else◌ row_of table
   due_1 h = let p : a ≤ 0x7F = omega arith in simp (leb-zero, le-leb a 0x7F p)
 
   pub due_none : 0x80 ≤ a → a < 0xC2 → (row_of a).after ≡ never.after
-  unfolding if◌then◌else◌ row_of table
+  unfolding when◌then◌else◌ row_of table
   due_none g h =
       let q : (k : ℕ) → 0xC2 ≤ k → leb k a ≡ false = λ k l. lt-leb k a (omega arith) in
       simp (
@@ -144,7 +144,7 @@ module _ (a : ℕ) where
       )
 
   pub due_over : 0xF5 ≤ a → (row_of a).after ≡ never.after
-  unfolding if◌then◌else◌ row_of table
+  unfolding when◌then◌else◌ row_of table
   due_over h =
       simp (
         and-false,
@@ -160,19 +160,19 @@ module _ (a : ℕ) where
       )
 
   pub due_2 : 0xC2 ≤ a → a < 0xE0 → (row_of a).after ≡ tail
-  unfolding if◌then◌else◌ row_of table
+  unfolding when◌then◌else◌ row_of table
   due_2 g h = simp (and-false, past 0x7F (omega arith), le-leb 0xC2 a g, le-leb a 0xDF (omega arith))
 
   pub due_E0 : a ≡ 0xE0 → (row_of a).after ≡ 0xA0 to 0xBF ∷ tail
-  unfolding if◌then◌else◌ row_of table
+  unfolding when◌then◌else◌ row_of table
   due_E0 e = rw e
 
   pub due_ED : a ≡ 0xED → (row_of a).after ≡ 0x80 to 0x9F ∷ tail
-  unfolding if◌then◌else◌ row_of table
+  unfolding when◌then◌else◌ row_of table
   due_ED e = rw e
 
   pub due_3 : 0xE0 ≤ a → a < 0xF0 → (a ≡ 0xE0 → ⊥) → (a ≡ 0xED → ⊥) → (row_of a).after ≡ 0x80 to 0xBF ∷ tail
-  unfolding if◌then◌else◌ row_of table
+  unfolding when◌then◌else◌ row_of table
   due_3 g h n m =
       ⊎_elim
       (λ (l : a ≤ 0xEC).
@@ -191,15 +191,15 @@ module _ (a : ℕ) where
       (le_or_lt a 0xEC)
 
   pub due_F0 : a ≡ 0xF0 → (row_of a).after ≡ 0x90 to 0xBF ∷ 0x80 to 0xBF ∷ tail
-  unfolding if◌then◌else◌ row_of table
+  unfolding when◌then◌else◌ row_of table
   due_F0 e = rw e
 
   pub due_F4 : a ≡ 0xF4 → (row_of a).after ≡ 0x80 to 0x8F ∷ 0x80 to 0xBF ∷ tail
-  unfolding if◌then◌else◌ row_of table
+  unfolding when◌then◌else◌ row_of table
   due_F4 e = rw e
 
   pub due_4 : 0xF0 ≤ a → a < 0xF5 → (a ≡ 0xF0 → ⊥) → (a ≡ 0xF4 → ⊥) → (row_of a).after ≡ 0x80 to 0xBF ∷ 0x80 to 0xBF ∷ tail
-  unfolding if◌then◌else◌ row_of table
+  unfolding when◌then◌else◌ row_of table
   due_4 g h n m =
       simp (
         and-false,

@@ -1,7 +1,7 @@
 -- Names of other crates and libraries that the proofs of this crate cite, by where they are from.
 pub use Prim.Native.Nat.{◌%◌, ◌*◌, ◌+◌, ◌-◌, ◌/◌, ◌<◌, ◌≤◌, suc, suc-le-suc, zero, ℕ}
 pub use Rattle.base.proofs.Choice.{and_both, and_left, and_right, eq_or_not, if_false, if_true, le_or_lt, not-passed, pick, same_test}
-unfoldable pub use Rattle.base.specs.Choice.{if◌then◌else◌}
+unfoldable pub use Rattle.base.specs.Choice.{when◌then◌else◌}
 unfoldable pub use Rattle.utf8.specs.InnerNeighbours.{high, low}
 pub use Rattle.utf8.specs.InnerParts.{Ascii, AtMost, Begun, Passed, Sure, sound_at}
 pub use Rattle.utf8.specs.Utf8.{Range, Row, ◌to◌, begins, characters, continues, decode, decode_from, emit, encode_all, find, first_of, never, utf8}

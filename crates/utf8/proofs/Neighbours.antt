@@ -3,7 +3,7 @@
 -- Assumes nothing.
 use Rattle.utf8.proofs.Names.{◌≡◌, refl, ap, sym, ◌∙◌, ⊎_elim, Bool, true, false, not, ◌&&◌, ◌||◌, or-true, false≢true, List, [], ◌∷◌, ℕ, zero, suc}
 use Rattle.utf8.proofs.Names.{◌+◌, ◌-◌, ◌/◌, ◌<◌, ◌≤◌, add-zero, add-one, arith, leb, length, get_or, drop, drop-cons, drop-length, le-leb, lt-leb}
-use Rattle.utf8.proofs.Names.{lt-ltb, le-ltb, ne_eqb, leb-true, leb-false, if◌then◌else◌, pick, le_or_lt, eq_or_not, and_left, and_right, and_both}
+use Rattle.utf8.proofs.Names.{lt-ltb, le-ltb, ne_eqb, leb-true, leb-false, when◌then◌else◌, pick, le_or_lt, eq_or_not, and_left, and_right, and_both}
 use Rattle.utf8.proofs.Names.{if_true, if_false, same_test, not-passed, Range, ◌to◌, within, row_of, never, well_formed, utf8, low, high, AtMost, Ascii}
 use Rattle.utf8.proofs.Names.{sound_at, Sure, Passed, Begun}
 use Rattle.base.specs.Choice.{among}
@@ -36,11 +36,11 @@ asks-not r q p e =
 
 -- the range of the second byte is narrowed by four first bytes alone
 low_any : (p : ℕ) → (p ≡ 0xE0 → ⊥) → (p ≡ 0xF0 → ⊥) → low p ≡ 0x80
-unfolding if◌then◌else◌ low
+unfolding when◌then◌else◌ low
 low_any p m n = rw (ne_eqb p 0xE0 m, ne_eqb p 0xF0 n)
 
 high-any : (p : ℕ) → (p ≡ 0xED → ⊥) → (p ≡ 0xF4 → ⊥) → high p ≡ 0xBF
-unfolding if◌then◌else◌ high
+unfolding when◌then◌else◌ high
 high-any p m n = rw (ne_eqb p 0xED m, ne_eqb p 0xF4 n)
 
 any-after : (p : ℕ) → (p ≡ 0xE0 → ⊥) → (p ≡ 0xED → ⊥) → (p ≡ 0xF0 → ⊥) → (p ≡ 0xF4 → ⊥) → 0x80 to 0xBF ≡ low p to high p
@@ -114,7 +114,7 @@ module _ (r q p b : ℕ) (s : List ℕ) (n : Due r q p []) (rest : (due : List R
       begins_with (x ∷ tail) e (starts_more b (omega arith) (omega arith)) (two_due q p b x (asks_p q p b (omega arith)) (λ c. asks_q p b c g) h f)
 
   starts-three : 0xE0 ≤ b → b < 0xF0 → well_formed (row_of b).after s ≡ (beside r q p b && sound q p b s)
-  unfolding if◌then◌else◌ low high
+  unfolding when◌then◌else◌ low high
   starts-three g h =
       ⊎_elim (λ (e : b ≡ 0xE0). pair _ (due_E0 b e) (after_is b 0xE0 e) g h)
       (λ (m : b ≡ 0xE0 → ⊥).
@@ -128,7 +128,7 @@ module _ (r q p b : ℕ) (s : List ℕ) (n : Due r q p []) (rest : (due : List R
   triple x e f g h = begins_with (x ∷ 0x80 to 0xBF ∷ tail) e (starts_more b (omega arith) h) (three_due q p b x g f)
 
   starts-four : 0xF0 ≤ b → b < 0xF5 → well_formed (row_of b).after s ≡ (beside r q p b && sound q p b s)
-  unfolding if◌then◌else◌ low high
+  unfolding when◌then◌else◌ low high
   starts-four g h =
       ⊎_elim (λ (e : b ≡ 0xF0). triple _ (due_F0 b e) (after_is b 0xF0 e) g h)
       (λ (m : b ≡ 0xF0 → ⊥).
@@ -223,30 +223,30 @@ first_three (a ∷ b ∷ []) h = absurd (let z : ⊥ = omega arith in z)
 first_three (a ∷ b ∷ c ∷ s) h = utf8-sound (a ∷ b ∷ c ∷ s)
 
 -- a test counted as a fault
-pub fault_none : (t : Bool) {f : ℕ} → f ≡ if t then 0 else 1 → f ≡ 0 → t ≡ true
-unfolding if◌then◌else◌
+pub fault_none : (t : Bool) {f : ℕ} → f ≡ when t then 0 else 1 → f ≡ 0 → t ≡ true
+unfolding when◌then◌else◌
 fault_none true e z = refl
 fault_none false e z = let o : ⊥ = omega arith in absurd o
 
-pub fault_some : (t : Bool) {f : ℕ} → f ≡ if t then 0 else 1 → (f ≡ 0 → ⊥) → t ≡ false
-unfolding if◌then◌else◌
+pub fault_some : (t : Bool) {f : ℕ} → f ≡ when t then 0 else 1 → (f ≡ 0 → ⊥) → t ≡ false
+unfolding when◌then◌else◌
 fault_some true e n = absurd (n e)
 fault_some false e n = refl
 
-pub fault_most : (t : Bool) {f : ℕ} → f ≡ if t then 0 else 1 → f ≤ 1
-unfolding if◌then◌else◌
+pub fault_most : (t : Bool) {f : ℕ} → f ≡ when t then 0 else 1 → f ≤ 1
+unfolding when◌then◌else◌
 fault_most true e = omega arith
 fault_most false e = omega arith
 
-pub fault_due : (r q p b : ℕ) {x : Bool} {lo hi f : ℕ} → x ≡ asks r q p → x ≡ true → lo ≡ low p → hi ≡ high p → f ≡ if among lo hi b then 0 else 1
-    → f ≡ if beside r q p b then 0 else 1
+pub fault_due : (r q p b : ℕ) {x : Bool} {lo hi f : ℕ} → x ≡ asks r q p → x ≡ true → lo ≡ low p → hi ≡ high p → f ≡ when among lo hi b then 0 else 1
+    → f ≡ when beside r q p b then 0 else 1
 fault_due r q p b e t l h d = rw (beside_due r q p b (sym e ∙ t), ← l, ← h) d
 
-pub fault_ascii : (r q p b : ℕ) {x : Bool} → x ≡ asks r q p → x ≡ false → b < 0x80 → ◌≡◌ {A = ℕ} 0 (if beside r q p b then 0 else 1)
+pub fault_ascii : (r q p b : ℕ) {x : Bool} → x ≡ asks r q p → x ≡ false → b < 0x80 → ◌≡◌ {A = ℕ} 0 (when beside r q p b then 0 else 1)
 fault_ascii r q p b e t h = sym (if_true 0 1 (beside-start r q p b (sym e ∙ t) ∙ starts_ascii b h))
 
-pub fault_start : (r q p b : ℕ) {x : Bool} {f : ℕ} → x ≡ asks r q p → x ≡ false → 0x80 ≤ b → f ≡ if among 0xC2 0xF4 b then 0 else 1
-    → f ≡ if beside r q p b then 0 else 1
+pub fault_start : (r q p b : ℕ) {x : Bool} {f : ℕ} → x ≡ asks r q p → x ≡ false → 0x80 ≤ b → f ≡ when among 0xC2 0xF4 b then 0 else 1
+    → f ≡ when beside r q p b then 0 else 1
 fault_start r q p b e t h d = rw (beside-start r q p b (sym e ∙ t), le-ltb b 0x80 h) d
 
 -- where p narrows no range and b may stand in a text, b stands after the three where it goes on with a character exactly if they ask for that
@@ -275,7 +275,7 @@ module _ (s : List ℕ) (a : ℕ) where
   pub passed_none : Passed s a 0 0
   passed_none = record { all = λ _. rw add-zero; some = λ n. absurd (n refl) }
 
-  pub passed-more : (i m : ℕ) {f : ℕ} → Passed s a i m → 3 ≤ a → a + i < length s → f ≡ if beside_at s (a + i) then 0 else 1 → Passed s a (i + 1) (m + f)
+  pub passed-more : (i m : ℕ) {f : ℕ} → Passed s a i m → 3 ≤ a → a + i < length s → f ≡ when beside_at s (a + i) then 0 else 1 → Passed s a (i + 1) (m + f)
   passed-more i m {f} t g h e =
       let q : a + i + 1 ≡ a + (i + 1) = omega arith in
       let step = sound-step s (a + i) (omega arith) h in

@@ -2,7 +2,7 @@
 -- Assumes nothing.
 use Rattle.utf8.proofs.Names.{◌≡◌, refl, ap, ap₂, sym, ◌∙◌, subst, subst₂, ◌⊎◌, inl, inr, ⊎_elim, Bool, true, false, ◌&&◌, ◌||◌, and-false}
 use Rattle.utf8.proofs.Names.{false≢true, List, [], ◌∷◌, ◌++◌, ℕ, zero, suc, ◌+◌, ◌-◌, ◌*◌, ◌/◌, ◌%◌, ◌<◌, ◌≤◌, not-suc-le-zero, arith, leb, ltb}
-use Rattle.utf8.proofs.Names.{length, le-leb, leb-true, lt-ltb, le-ltb, ltb-true, if◌then◌else◌, le_or_lt, eq_or_not, and_left, and_right, Range}
+use Rattle.utf8.proofs.Names.{length, le-leb, leb-true, lt-ltb, le-ltb, ltb-true, when◌then◌else◌, le_or_lt, eq_or_not, and_left, and_right, Range}
 use Rattle.utf8.proofs.Names.{◌to◌, within, Row, table, find, row_of, never, well_formed, emit, decode_from, begins, decode, encode, encode_all, scalar}
 use Rattle.utf8.proofs.Laws.{begins-never, fits_begins, due_1, due_2, due_E0, due_ED, due_3, due_F0, due_F4, due_4}
 use Rattle.utf8.proofs.Text.{Valid, decode-any, decode-append, valid_both}
@@ -21,18 +21,18 @@ abbrev of4 : ℕ → ℕ → ℕ → ℕ → ℕ
 of4 u v w z = of3 u v w * 64 + z
 
 encode_1 : (c : ℕ) → c < 0x80 → encode c ≡ c ∷ []
-unfolding if◌then◌else◌ encode
+unfolding when◌then◌else◌ encode
 encode_1 c h = rw (lt-ltb c 0x80 h)
 
 encode_2 : (u v : ℕ) → 2 ≤ u → u < 32 → v < 64 → encode (of2 u v) ≡ (0xC0 + u) ∷ (0x80 + v) ∷ []
-unfolding if◌then◌else◌ encode
+unfolding when◌then◌else◌ encode
 encode_2 u v a b c =
     let p : of2 u v / 64 ≡ u = omega arith in
     let q : of2 u v % 64 ≡ v = omega arith in
     simp (le-ltb (of2 u v) 0x80 (omega arith), lt-ltb (of2 u v) 0x800 (omega arith), p, q)
 
 encode_3 : (u v w : ℕ) → 0x800 ≤ of3 u v w → u < 16 → v < 64 → w < 64 → encode (of3 u v w) ≡ (0xE0 + u) ∷ (0x80 + v) ∷ (0x80 + w) ∷ []
-unfolding if◌then◌else◌ encode
+unfolding when◌then◌else◌ encode
 encode_3 u v w a b c d =
     let p : of3 u v w / 4096 ≡ u = omega arith in
     let q : of3 u v w / 64 % 64 ≡ v = omega arith in
@@ -41,7 +41,7 @@ encode_3 u v w a b c d =
 
 encode_4 : (u v w z : ℕ) → 0x10000 ≤ of4 u v w z → u < 8 → v < 64 → w < 64 → z < 64
     → encode (of4 u v w z) ≡ (0xF0 + u) ∷ (0x80 + v) ∷ (0x80 + w) ∷ (0x80 + z) ∷ []
-unfolding if◌then◌else◌ encode
+unfolding when◌then◌else◌ encode
 encode_4 u v w z a b c d e =
     let p : of4 u v w z / 262144 ≡ u = omega arith in
     let q : of4 u v w z / 4096 % 64 ≡ v = omega arith in
@@ -153,11 +153,11 @@ Each P [] b = P never
 Each P (r ∷ rows) b = (within b r.first ≡ true → P r) × Each P rows b
 
 by_row : (P : Row → Type 0) (rows : List Row) (b : ℕ) → Each P rows b → P (find rows b)
-unfolding if◌then◌else◌ Each
+unfolding when◌then◌else◌ Each
 by_row P [] b h = h
 by_row P (r ∷ rows) b h = go (by_row P rows b h.1) (within b r.first) refl
   where
-    go : P (find rows b) → (x : Bool) → within b r.first ≡ x → P (if x then r else find rows b)
+    go : P (find rows b) → (x : Bool) → within b r.first ≡ x → P (when x then r else find rows b)
     go i true e = h.0 e
     go i false e = i
 
@@ -212,7 +212,7 @@ line_4 b lo hi (x ∷ y ∷ z ∷ t) g k e =
     step_4 b x y z t g n.in_x m o (and_right (within z tail) (well_formed [] t) h) n.least n.most
 
 starts : (b : ℕ) (t : List ℕ) → Starts b t (row_of b)
-unfolding if◌then◌else◌ row_of table Each
+unfolding when◌then◌else◌ row_of table Each
 starts b t =
     by_row (Starts b t) table b (
       (λ w e. step_1 b t (between b 0x00 0x7F w).1 e),
@@ -278,7 +278,7 @@ encode-decode s e = chars_encode (text_chars s e)
 
 -- the lead of b's line of table 3-7, by tests of b
 unfoldable pub lead_of : ℕ → ℕ
-lead_of b = if ltb b 0x80 then 0x00 else if ltb b 0xE0 then 0xC0 else if ltb b 0xF0 then 0xE0 else 0xF0
+lead_of b = when ltb b 0x80 then 0x00 else when ltb b 0xE0 then 0xC0 else when ltb b 0xF0 then 0xE0 else 0xF0
 
 -- the other way: the encoding of a scalar value is valid, and decodes to it
 -- the row of a first byte, once a character stands there
@@ -288,15 +288,15 @@ pub record Led (b : ℕ) (r : Row) : Type 0 where
 
 module _ (b : ℕ) where
   pub lead_2 : 0x80 ≤ b → b < 0xE0 → lead_of b ≡ 0xC0
-  unfolding if◌then◌else◌ lead_of
+  unfolding when◌then◌else◌ lead_of
   lead_2 g h = rw (le-ltb b 0x80 g, lt-ltb b 0xE0 h)
 
   pub lead_3 : 0xE0 ≤ b → b < 0xF0 → lead_of b ≡ 0xE0
-  unfolding if◌then◌else◌ lead_of
+  unfolding when◌then◌else◌ lead_of
   lead_3 g h = rw (le-ltb b 0x80 (omega arith), le-ltb b 0xE0 g, lt-ltb b 0xF0 h)
 
   pub lead_4 : 0xF0 ≤ b → lead_of b ≡ 0xF0
-  unfolding if◌then◌else◌ lead_of
+  unfolding when◌then◌else◌ lead_of
   lead_4 g = rw (le-ltb b 0x80 (omega arith), le-ltb b 0xE0 (omega arith), le-ltb b 0xF0 g)
 
 led_2 : (b : ℕ) (r : Row) → 0xC2 ≤ b → b < 0xE0 → r.lead ≡ 0xC0 → Led b r
@@ -309,7 +309,7 @@ led_4 : (b : ℕ) (r : Row) → 0xF0 ≤ b → r.lead ≡ 0xF0 → Led b r
 led_4 b r g e = record { lead = e ∙ sym (lead_4 b g); below = omega arith }
 
 pub led : (b : ℕ) (t : List ℕ) → begins (row_of b).after t ≡ true → Led b (row_of b)
-unfolding if◌then◌else◌ row_of table lead_of Each
+unfolding when◌then◌else◌ row_of table lead_of Each
 led b t =
     by_row (λ r. begins r.after t ≡ true → Led b r) table b (
       (λ w e. let g = between b 0x00 0x7F w in record { lead = rw (lt-ltb b 0x80 (omega arith)); below = omega arith }),
@@ -357,7 +357,7 @@ first_chars b t due l d e q =
     ap₂ (λ (r : List Range) (m : ℕ). emit r (b - m) (decode_from r (b - m) t)) d ((led b t (rw d e)).lead ∙ q)
 
 one_1 : (c : ℕ) → c < 0x80 → One c (c ∷ [])
-unfolding if◌then◌else◌ lead_of
+unfolding when◌then◌else◌ lead_of
 one_1 c h = record {
   valid = first_fits c [] [] (due_1 c h);
   chars = first_chars c [] [] 0x00 (due_1 c h) refl (rw (lt-ltb c 0x80 h)) ∙ ap (λ (k : ℕ). k ∷ []) (let z : c - 0x00 ≡ c = omega arith in z);

@@ -1,7 +1,7 @@
 -- Valid text: it concatenates, is cut before any byte that starts a character, and its count is its number of code points.
 -- Assumes nothing.
 use Rattle.utf8.proofs.Names.{◌≡◌, refl, ap, sym, ◌∙◌, ⊎_elim, Bool, true, false, ◌&&◌, false≢true, List, [], ◌∷◌, ◌++◌, ℕ, suc, ◌+◌, ◌-◌, ◌*◌, ◌<◌}
-use Rattle.utf8.proofs.Names.{◌≤◌, arith, leb, length, get_or, drop, take, take-append-drop, drop-cons, leb-true, if◌then◌else◌, le_or_lt, and_left}
+use Rattle.utf8.proofs.Names.{◌≤◌, arith, leb, length, get_or, drop, take, take-append-drop, drop-cons, leb-true, when◌then◌else◌, le_or_lt, and_left}
 use Rattle.utf8.proofs.Names.{and_right, Range, ◌to◌, within, Row, table, find, row_of, never, well_formed, utf8, emit, decode_from, begins, decode}
 use Rattle.utf8.proofs.Names.{characters}
 use Rattle.utf8.proofs.Laws.{adds, adds-low, adds-high, adds_none, due_none, begins-never, fits_begins}
@@ -55,11 +55,11 @@ every_row P [] = true
 every_row P (r ∷ rows) = P r && every_row P rows
 
 find_every : (P : Row → Bool) (rows : List Row) (b : ℕ) → every_row P rows ≡ true → P never ≡ true → P (find rows b) ≡ true
-unfolding if◌then◌else◌
+unfolding when◌then◌else◌
 find_every P [] b e n = n
 find_every P (r ∷ rows) b e n = go (find_every P rows b (and_right (P r) (every_row P rows) e) n) (within b r.first)
   where
-    go : P (find rows b) ≡ true → (x : Bool) → P (if x then r else find rows b) ≡ true
+    go : P (find rows b) ≡ true → (x : Bool) → P (when x then r else find rows b) ≡ true
     go i true = and_left (P r) (every_row P rows) e
     go i false = i
 

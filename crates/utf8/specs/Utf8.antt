@@ -3,7 +3,7 @@ use Rattle.std.specs.Prelude.{Bool, true, false, ◌&&◌, ◌||◌, List, [], �
 use Prim.Native.Char.{code}
 use Prim.Native.String.{String}
 use Prim.Native.String as str
-use Rattle.base.specs.Choice.{if◌then◌else◌, among}
+use Rattle.base.specs.Choice.{when◌then◌else◌, among}
 use Rattle.utf8.specs.declared.Decoded.{Decoded}
 use Rattle.utf8.specs.declared.Decoded.TheVariants.{Char, Nothing}
 
@@ -44,7 +44,7 @@ never = row (0x00 to 0xFF) 0x00 (0xFF to 0x80 ∷ [])
 -- the line that has b for a first byte
 abbrev pub find : List Row → ℕ → Row
 find [] b = never
-find (r ∷ rs) b = if within b r.first then r else find rs b
+find (r ∷ rs) b = when within b r.first then r else find rs b
 
 unfoldable pub row_of : ℕ → Row
 row_of b = find table b
@@ -84,7 +84,7 @@ begins (r ∷ rs) (b ∷ s) = within b r && begins rs s
 -- how many bytes the character at the head of s has, by its line of table 3-7; 0 where none stands there
 unfoldable pub size_of : List ℕ → ℕ
 size_of [] = 0
-size_of (b ∷ s) = if begins (row_of b).after s then suc (length (row_of b).after) else 0
+size_of (b ∷ s) = when begins (row_of b).after s then suc (length (row_of b).after) else 0
 
 -- the first of some code points, and the place after it
 abbrev pub first_of : List ℕ → ℕ → Decoded
@@ -102,14 +102,14 @@ continues b = among 0x80 0xBF b
 -- 01: 'every byte outside 0x80 to 0xBF counts as a character'; of UTF-8 these are its code points (the law `count_is`)
 abbrev pub characters : List ℕ → ℕ
 characters [] = 0
-characters (b ∷ s) = (if continues b then 0 else 1) + characters s
+characters (b ∷ s) = (when continues b then 0 else 1) + characters s
 
 -- table 3-6: the bytes of a code point
 unfoldable pub encode : ℕ → List ℕ
 encode c =
-    if ltb c 0x80 then c ∷ [] else
-    if ltb c 0x800 then (0xC0 + c / 64) ∷ (0x80 + c % 64) ∷ [] else
-    if ltb c 0x10000 then (0xE0 + c / 4096) ∷ (0x80 + c / 64 % 64) ∷ (0x80 + c % 64) ∷ [] else
+    when ltb c 0x80 then c ∷ [] else
+    when ltb c 0x800 then (0xC0 + c / 64) ∷ (0x80 + c % 64) ∷ [] else
+    when ltb c 0x10000 then (0xE0 + c / 4096) ∷ (0x80 + c / 64 % 64) ∷ (0x80 + c % 64) ∷ [] else
     (0xF0 + c / 262144) ∷ (0x80 + c / 4096 % 64) ∷ (0x80 + c / 64 % 64) ∷ (0x80 + c % 64) ∷ []
 
 abbrev pub encode_all : List ℕ → List ℕ

@@ -3,7 +3,7 @@
 #![tactic(auto)]
 
 ghost use Rattle.std.specs.Prelude.{◌≡◌, [], ◌∷◌, ◌<◌, ◌≤◌, ◌+◌, ◌-◌, ◌*◌, ◌^◌, length, drop, get_or};
-ghost use Rattle.base.specs.Choice.{if◌then◌else◌, among};
+ghost use Rattle.base.specs.Choice.{when◌then◌else◌, among};
 ghost use Rattle.utf8.specs.Utf8.{◌to◌, utf8, characters, begins, size_of, character_at};
 ghost use Rattle.utf8.specs.InnerNeighbours.{asks, low, high, beside};
 ghost use Rattle.utf8.specs.InnerParts.{AtMost, Ascii, sound_at, Sure, Passed, Plain, Begun, Counted};
@@ -50,7 +50,7 @@ fn next3(s: &[u8], at: usize, lo: u8, hi: u8) -> bool
 // By a first byte below 0xE0: whether a character of two bytes stands at i.
 fn two_at(s: &[u8], i: usize) -> bool
     requires { (i < length s.now) × (0x80 ≤ get_or s.now i 0) × (get_or s.now i 0 < 0xE0) }
-    ensures { if result then 2 else 0 ≡ size_of (drop i s.now) }
+    ensures { when result then 2 else 0 ≡ size_of (drop i s.now) }
 {
     if s[i] < 0xC2 {
         return false;
@@ -61,7 +61,7 @@ fn two_at(s: &[u8], i: usize) -> bool
 // By one from there below 0xF0: one of three bytes.
 fn three_at(s: &[u8], i: usize) -> bool
     requires { (i < length s.now) × (0xE0 ≤ get_or s.now i 0) × (get_or s.now i 0 < 0xF0) }
-    ensures { if result then 3 else 0 ≡ size_of (drop i s.now) }
+    ensures { when result then 3 else 0 ≡ size_of (drop i s.now) }
 {
     let a = s[i];
     let mut lo: u8 = 0x80;
@@ -77,7 +77,7 @@ fn three_at(s: &[u8], i: usize) -> bool
 // By one from there on: one of four bytes.
 fn four_at(s: &[u8], i: usize) -> bool
     requires { (i < length s.now) × (0xF0 ≤ get_or s.now i 0) }
-    ensures { if result then 4 else 0 ≡ size_of (drop i s.now) }
+    ensures { when result then 4 else 0 ≡ size_of (drop i s.now) }
 {
     let a = s[i];
     if 0xF4 < a {
@@ -216,7 +216,7 @@ fn high(p: u8) -> u8
 
 // 0 where b lies from lo to hi, else 1.
 fn outside(b: u8, lo: u8, hi: u8) -> u8
-    ensures { result ≡ if among lo hi b then 0 else 1 }
+    ensures { result ≡ when among lo hi b then 0 else 1 }
 {
     if b < lo {
         return 1;
@@ -229,7 +229,7 @@ fn outside(b: u8, lo: u8, hi: u8) -> u8
 
 // 0 where b may stand after the three, else 1.
 fn fault(r: u8, q: u8, p: u8, b: u8) -> u8
-    ensures { result ≡ if beside r q p b then 0 else 1 }
+    ensures { result ≡ when beside r q p b then 0 else 1 }
 {
     if asks(r, q, p) {
         return outside(b, low(p), high(p));

@@ -1,7 +1,7 @@
 -- The end of the first e bytes of s, and the size of the White_Space character there.
 -- Assumes nothing.
 use Rattle.white.proofs.Names.{◌≡◌, ap, sym, ◌∙◌, Bool, true, false, List, [], ◌∷◌, ◌++◌, ℕ, suc, ◌+◌, ◌-◌, ◌<◌, ◌≤◌, arith, length, get_or, take, drop}
-use Rattle.white.proofs.Names.{take-add, drop_at, drop-cons, length-take-le, if◌then◌else◌, encode, whites, white_bytes, white_size, last}
+use Rattle.white.proofs.Names.{take-add, drop_at, drop-cons, length-take-le, when◌then◌else◌, encode, whites, white_bytes, white_size, last}
 
 module _ (s : List ℕ) (e : ℕ) (room : e ≤ length s) where
   -- the last k of the first e bytes
@@ -32,19 +32,19 @@ last-short k t h = let z : length t - k ≡ 0 = omega arith in rw z
 
 module _ (t : List ℕ) where
   pub size_1 : white_bytes (last 1 t) ≡ true → 1 ≡ white_size t
-  unfolding if◌then◌else◌ white_size
+  unfolding when◌then◌else◌ white_size
   size_1 a = rw a
 
   pub size_2 : white_bytes (last 1 t) ≡ false → white_bytes (last 2 t) ≡ true → 2 ≡ white_size t
-  unfolding if◌then◌else◌ white_size
+  unfolding when◌then◌else◌ white_size
   size_2 a b = rw (a, b)
 
   pub size_3 : white_bytes (last 1 t) ≡ false → white_bytes (last 2 t) ≡ false → white_bytes (last 3 t) ≡ true → 3 ≡ white_size t
-  unfolding if◌then◌else◌ white_size
+  unfolding when◌then◌else◌ white_size
   size_3 a b c = rw (a, b, c)
 
   pub none_3 : white_bytes (last 1 t) ≡ false → white_bytes (last 2 t) ≡ false → white_bytes (last 3 t) ≡ false → 0 ≡ white_size t
-  unfolding if◌then◌else◌ white_size
+  unfolding when◌then◌else◌ white_size
   none_3 a b c = rw (a, b, c)
 
   pub none_2 : length t ≤ 2 → white_bytes (last 1 t) ≡ false → white_bytes (last 2 t) ≡ false → 0 ≡ white_size t
@@ -54,5 +54,5 @@ module _ (t : List ℕ) where
   none_1 l a = none_2 (omega arith) a (ap white_bytes (last-short 2 t (omega arith) ∙ sym (last-short 1 t l)) ∙ a)
 
 pub none_0 : (s : List ℕ) (e : ℕ) → e < 1 → 0 ≡ white_size (take e s)
-unfolding if◌then◌else◌ white_size white_bytes whites encode
+unfolding when◌then◌else◌ white_size white_bytes whites encode
 none_0 s e h = let z : e ≡ 0 = omega arith in rw z

@@ -1,7 +1,7 @@
 -- Names of other crates and libraries that the proofs of this crate cite, by where they are from.
 pub use Prim.Native.Nat.{◌+◌, ◌-◌, ◌<◌, ◌^◌, ◌≤◌, suc, zero, ℕ}
 pub use Rattle.base.proofs.Choice.{and_both, and_left, and_right, le_or_lt, not-passed}
-unfoldable pub use Rattle.base.specs.Choice.{if◌then◌else◌}
+unfoldable pub use Rattle.base.specs.Choice.{when◌then◌else◌}
 pub use Rattle.utf8.proofs.Characters.{Read, no_character, read_character}
 pub use Rattle.utf8.specs.Utf8.{continues, decode, encode_all, utf8}
 unfoldable pub use Rattle.utf8.specs.Utf8.{bytes, encode, row_of, table}

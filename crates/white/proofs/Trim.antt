@@ -2,7 +2,7 @@
 use Rattle.white.proofs.Names.{◌≡◌, refl, ap, sym, ◌∙◌, ◌⊎◌, inl, inr, ⊎_elim, Bool, true, false, ◌&&◌, ◌||◌, false≢true, true≢false, or-true, List}
 use Rattle.white.proofs.Names.{[], ◌∷◌, ◌++◌, append_assoc, append-nil, ℕ, zero, suc, ◌-◌, ◌<◌, ◌≤◌, arith, eqb, leb, length, take, drop}
 use Rattle.white.proofs.Names.{length-append, take-append-drop, drop_at, drop-length, length-take-le, take-take, eqb-true, eq-eqb, leb-true}
-use Rattle.white.proofs.Names.{if◌then◌else◌, and_left, and_right, not-passed, le_or_lt, encode, encode_all, decode, row_of, table, whites, any, white}
+use Rattle.white.proofs.Names.{when◌then◌else◌, and_left, and_right, not-passed, le_or_lt, encode, encode_all, decode, row_of, table, whites, any, white}
 use Rattle.white.proofs.Names.{all_white, blank, trim, same, white_bytes, last, white_size}
 use Rattle.utf8.proofs.Scalars.{encode-decode}
 use Rattle.white.proofs.White.{blank_valid, blank-white, trim-blank}
@@ -19,17 +19,17 @@ same_eq (x ∷ xs) (y ∷ ys) e =
 -- what the 25 characters have in common, computed
 module _ (c : ℕ) (h : white c ≡ true) where
   white-blank : blank (encode c) ≡ true
-  unfolding blank white whites encode row_of table if◌then◌else◌
+  unfolding blank white whites encode row_of table when◌then◌else◌
   white-blank = every_at (λ c. blank (encode c)) whites refl c h
 
   white-size : (1 ≤ length (encode c)) × (length (encode c) ≤ 3)
-  unfolding white whites encode if◌then◌else◌
+  unfolding white whites encode when◌then◌else◌
   white-size =
       let e = every_at (λ c. leb 1 (length (encode c)) && leb (length (encode c)) 3) whites refl c h in
       (leb-true 1 _ (and_left (leb 1 (length (encode c))) _ e), leb-true _ 3 (and_right (leb 1 (length (encode c))) _ e))
 
   white-bytes : white_bytes (encode c) ≡ true
-  unfolding white whites white_bytes encode if◌then◌else◌
+  unfolding white whites white_bytes encode when◌then◌else◌
   white-bytes = every_at (λ c. white_bytes (encode c)) whites refl c h
 
 -- bytes that are one White_Space character encode one
@@ -61,7 +61,7 @@ pub record Found (t : List ℕ) (k : ℕ) : Type 0 where
   pub some : 1 ≤ k
 
 no_last : (t : List ℕ) → white_bytes (last 0 t) ≡ false
-unfolding white_bytes whites encode if◌then◌else◌
+unfolding white_bytes whites encode when◌then◌else◌
 no_last t = let z : length t - 0 ≡ length t = omega arith in rw (z, drop-length)
 
 -- where the last k bytes are no White_Space character and the last k + 1 are one, there are k + 1
@@ -72,14 +72,14 @@ longer t k p q =
     (le_or_lt (suc k) (length t))
 
 pub found : (t : List ℕ) {k : ℕ} → k ≡ white_size t → (k ≡ 0 → ⊥) → Found t k
-unfolding white_size if◌then◌else◌
+unfolding white_size when◌then◌else◌
 found t {k} e n = go (white_bytes (last 1 t)) (white_bytes (last 2 t)) (white_bytes (last 3 t)) refl refl refl e
   where
     is : (m : ℕ) → k ≡ suc m → white_bytes (last m t) ≡ false → white_bytes (last (suc m) t) ≡ true → Found t k
     is m q a b = record { bytes = rw q b; room = rw q (longer t m a b); some = omega arith }
 
     go : (x y z : Bool) → white_bytes (last 1 t) ≡ x → white_bytes (last 2 t) ≡ y → white_bytes (last 3 t) ≡ z
-        → k ≡ if x then 1 else if y then 2 else if z then 3 else 0 → Found t k
+        → k ≡ when x then 1 else when y then 2 else when z then 3 else 0 → Found t k
     go true y z p q r f = is 0 f (no_last t) p
     go false true z p q r f = is 1 f p q
     go false false true p q r f = is 2 f q r
@@ -106,11 +106,11 @@ encode-append (c ∷ a) b = ap (λ (l : List ℕ). encode c ++ l) (encode-append
 
 -- where none stands at the end, the last one, two or three bytes are none
 none_at : (t : List ℕ) (k : ℕ) → 1 ≤ k → k ≤ 3 → white_size t ≡ 0 → white_bytes (last k t) ≡ false
-unfolding white_size if◌then◌else◌
+unfolding white_size when◌then◌else◌
 none_at t k g h z = go k g h (white_bytes (last 1 t)) (white_bytes (last 2 t)) (white_bytes (last 3 t)) refl refl refl z
   where
     go : (k : ℕ) → 1 ≤ k → k ≤ 3 → (x y z : Bool) → white_bytes (last 1 t) ≡ x → white_bytes (last 2 t) ≡ y → white_bytes (last 3 t) ≡ z
-        → ◌≡◌ {A = ℕ} (if x then 1 else if y then 2 else if z then 3 else 0) 0 → white_bytes (last k t) ≡ false
+        → ◌≡◌ {A = ℕ} (when x then 1 else when y then 2 else when z then 3 else 0) 0 → white_bytes (last k t) ≡ false
     go k g h true y z p q r e = let w : ⊥ = omega arith in absurd w
     go k g h false true z p q r e = let w : ⊥ = omega arith in absurd w
     go k g h false false true p q r e = let w : ⊥ = omega arith in absurd w
@@ -156,7 +156,7 @@ not-blank x d r z b = ⊎_elim (λ e. empty e) (λ r. ends r.0 r.1 r.2) (snoc (d
 
 -- so where none stands at the end, nothing is trimmed
 keep_all : (s x : List ℕ) → white_size (x ++ s) ≡ 0 → trim s ≡ s
-unfolding trim if◌then◌else◌
+unfolding trim when◌then◌else◌
 keep_all [] x z = refl
 keep_all (d ∷ r) x z =
     let q : (x ++ d ∷ []) ++ r ≡ x ++ d ∷ r = append_assoc x (d ∷ []) r in

@@ -1,21 +1,21 @@
 -- Blank and printing text: what joins, what is cut, and what a trim leaves. Assumes nothing.
 use Rattle.white.proofs.Names.{◌≡◌, refl, sym, ap, ◌∙◌, Bool, true, false, ◌&&◌, and-true, and-false, and_assoc, false≢true, List, [], ◌∷◌, ◌++◌}
-use Rattle.white.proofs.Names.{append-nil, ℕ, ◌≤◌, arith, length, take, length-append, take-append_seam, if◌then◌else◌, and_left, and_right, and_both}
+use Rattle.white.proofs.Names.{append-nil, ℕ, ◌≤◌, arith, length, take, length-append, take-append_seam, when◌then◌else◌, and_left, and_right, and_both}
 use Rattle.white.proofs.Names.{not-passed, utf8, decode, continues, white, unblank, printing, all_white, blank, trim}
 use Rattle.utf8.proofs.Laws.{adds}
 use Rattle.utf8.proofs.Text.{Valid, valid_append, decode-append, start-adds, cut}
 
 -- a byte counts as a character where it goes on with none
 adds-begins : (b : ℕ) → adds b ≡ 1 → continues b ≡ false
-unfolding if◌then◌else◌
+unfolding when◌then◌else◌
 adds-begins b e = go (continues b) e
   where
-    go : (t : Bool) → ◌≡◌ {A = ℕ} (if t then 0 else 1) 1 → t ≡ false
+    go : (t : Bool) → ◌≡◌ {A = ℕ} (when t then 0 else 1) 1 → t ≡ false
     go true f = let z : ⊥ = omega arith in absurd z
     go false f = refl
 
 begins-adds : (b : ℕ) → continues b ≡ false → adds b ≡ 1
-unfolding if◌then◌else◌
+unfolding when◌then◌else◌
 begins-adds b e = rw e
 
 -- the first byte of UTF-8 goes on with no character
@@ -32,12 +32,12 @@ valid_right a s va v = sym (valid_append a s va) ∙ v
 -- Printing characters
 
 unblank-append : (a b : List ℕ) → unblank (a ++ b) ≡ unblank a ++ unblank b
-unfolding if◌then◌else◌
+unfolding when◌then◌else◌
 unblank-append [] b = refl
 unblank-append (c ∷ a) b = go (white c) (unblank-append a b)
   where
     go : (t : Bool) → unblank (a ++ b) ≡ unblank a ++ unblank b
-        → if t then unblank (a ++ b) else c ∷ unblank (a ++ b) ≡ (if t then unblank a else c ∷ unblank a) ++ unblank b
+        → when t then unblank (a ++ b) else c ∷ unblank (a ++ b) ≡ (when t then unblank a else c ∷ unblank a) ++ unblank b
     go true e = e
     go false e = ap (λ (l : List ℕ). c ∷ l) e
 
@@ -68,7 +68,7 @@ unfolding blank
 empty-blank = refl
 
 all_white-unblank : (cs : List ℕ) → all_white cs ≡ true → unblank cs ≡ []
-unfolding if◌then◌else◌
+unfolding when◌then◌else◌
 all_white-unblank [] e = refl
 all_white-unblank (c ∷ cs) e = rw (and_left (white c) (all_white cs) e) (all_white-unblank cs (and_right (white c) (all_white cs) e))
 
@@ -102,25 +102,25 @@ blank_join x (c ∷ y) v = go (utf8 x) refl
 
 -- a blank end is trimmed
 pub trim-blank : (t y : List ℕ) → blank y ≡ true → trim (t ++ y) ≡ trim t
-unfolding trim if◌then◌else◌
+unfolding trim when◌then◌else◌
 trim-blank [] [] h = refl
 trim-blank [] (c ∷ y) h = rw h
 trim-blank (b ∷ t) y h = rw (blank_join (b ∷ t) y (blank_valid y h), h, and-true, trim-blank t y h)
 
 -- and what stands before an end that is not is kept
 pub trim-kept : (t y : List ℕ) → Valid y → blank y ≡ false → trim (t ++ y) ≡ t ++ trim y
-unfolding trim if◌then◌else◌
+unfolding trim when◌then◌else◌
 trim-kept [] y v h = refl
 trim-kept (b ∷ t) y v h = rw (blank_join (b ∷ t) y v, h, and-false, trim-kept t y v h)
 
 -- a trim takes off what is blank
 pub trim-split : (s : List ℕ) → (w : List ℕ) × (trim s ++ w ≡ s) × (blank w ≡ true)
-unfolding if◌then◌else◌ trim
+unfolding when◌then◌else◌ trim
 trim-split [] = ([], refl, empty-blank)
 trim-split (b ∷ s) = go (blank (b ∷ s)) refl (trim-split s)
   where
     go : (t : Bool) → blank (b ∷ s) ≡ t → (w : List ℕ) × (trim s ++ w ≡ s) × (blank w ≡ true)
-        → (w : List ℕ) × ((if t then [] else b ∷ trim s) ++ w ≡ b ∷ s) × (blank w ≡ true)
+        → (w : List ℕ) × ((when t then [] else b ∷ trim s) ++ w ≡ b ∷ s) × (blank w ≡ true)
     go true e r = (b ∷ s, refl, e)
     go false e r = (r.0, ap (λ (l : List ℕ). b ∷ l) r.1, r.2)
 

@@ -1,6 +1,6 @@
 -- White_Space, what prints, and trimming the end of a text.
 use Rattle.std.specs.Prelude.{Bool, true, false, ◌&&◌, ◌||◌, List, [], ◌∷◌, ℕ, eqb, length}
-use Rattle.base.specs.Choice.{if◌then◌else◌}
+use Rattle.base.specs.Choice.{when◌then◌else◌}
 use Rattle.utf8.specs.Utf8.{utf8, decode}
 
 -- the code points with the property White_Space (PropList.txt of the Unicode Character Database)
@@ -20,7 +20,7 @@ white c = any (eqb c) whites
 -- 01: 'A printing character is one outside White_Space.'
 abbrev pub unblank : List ℕ → List ℕ
 unblank [] = []
-unblank (c ∷ cs) = if white c then unblank cs else c ∷ unblank cs
+unblank (c ∷ cs) = when white c then unblank cs else c ∷ unblank cs
 
 -- the printing characters of a text, in order
 unfoldable pub printing : List ℕ → List ℕ
@@ -28,7 +28,7 @@ printing s = unblank (decode s)
 
 -- how many they are; of what is not UTF-8 none are counted
 unfoldable pub printing_count : List ℕ → ℕ
-printing_count s = if utf8 s then length (printing s) else 0
+printing_count s = when utf8 s then length (printing s) else 0
 
 abbrev pub all_white : List ℕ → Bool
 all_white [] = true
@@ -41,4 +41,4 @@ blank s = utf8 s && all_white (decode s)
 -- the bytes before the White_Space at the end
 unfoldable pub trim : List ℕ → List ℕ
 trim [] = []
-trim (b ∷ s) = if blank (b ∷ s) then [] else b ∷ trim s
+trim (b ∷ s) = when blank (b ∷ s) then [] else b ∷ trim s

@@ -8,7 +8,7 @@ use lib.ListN.{length, take, drop, get_or, length-drop}
 use lib.Seq.{get_or-drop}
 use native.Mathlib.Omega.{arith}
 use Rattle.base.specs.Bytes.{part}
-use Rattle.base.specs.Choice.{if◌then◌else◌}
+use Rattle.base.specs.Choice.{when◌then◌else◌}
 use Rattle.base.proofs.Choice.{pick, le_or_lt, eq_or_not}
 use Rattle.utf8.specs.Utf8.{characters}
 use Rattle.splitter.specs.Split.{before, is_line_end_or_space, raw, word}
@@ -34,7 +34,7 @@ before-inside stop (b ∷ s) (suc k) h =
 
 -- a space is one character
 one_character : characters (0x20 ∷ []) ≡ 1
-unfolding if◌then◌else◌
+unfolding when◌then◌else◌
 one_character = refl
 
 -- a chunk that starts a run: the bytes up to a place of the run, as they stand

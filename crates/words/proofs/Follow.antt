@@ -6,7 +6,7 @@ use mathlib.Core.Logic.{⊎_elim}
 use mathlib.Core.List.{List, ◌∷◌, ◌++◌}
 use lib.ListN.{length, take}
 use native.Mathlib.Omega.{arith}
-use Rattle.base.specs.Choice.{if◌then◌else◌}
+use Rattle.base.specs.Choice.{when◌then◌else◌}
 use Rattle.base.specs.Result.{Result, gives, ◌>>=◌}
 use Rattle.base.proofs.Choice.{le_or_lt}
 use Rattle.splitter.specs.Split.{raw, Placed}
@@ -39,6 +39,6 @@ module _ {L : Type 0} where
       → chunk (record { place = at; chunk = raw text w }) (page kept lay (take len room)) ≡ gives (page kept lay' (take len room ++ text))
       → (shown room len' kept lay' >>= body full chunk (placed_from x (cursor to code.No)))
       ≡ (shown room len kept lay >>= body full chunk (placed_from x (cursor at code.No)))
-  unfolding body ◌>>=◌ if◌then◌else◌
+  unfolding body ◌>>=◌ when◌then◌else◌
   word_follows full chunk x room text len len' at to w kept lay lay' h k copied next e =
       rw (shown_in room len' kept lay' k, shown_in room len kept lay h, copied, next) (rw e refl)

@@ -4,7 +4,7 @@ use mathlib.Core.Path.{◌≡◌, refl, sym, ap, ap₂, ◌∙◌, subst}
 use mathlib.Core.Bool.{Bool, true, false}
 use mathlib.Core.List.{List, [], ◌++◌, append-nil}
 use lib.ListN.{length}
-use Rattle.base.specs.Choice.{if◌then◌else◌, among}
+use Rattle.base.specs.Choice.{when◌then◌else◌, among}
 use Rattle.base.specs.Result.{Result, gives, refused, measured, ◌>>=◌}
 use Rattle.base.proofs.Results.{if_gives}
 use Rattle.utf8.specs.Utf8.{utf8}
@@ -23,19 +23,19 @@ use Rattle.write_calls.proofs.Refusals.{accepted_0}
 
 -- 'writing one text and then another in the same style, both UTF-8 ..': accepted or refused as the two joined, whatever the number of the style is
 pub in_joined : (room : List ℕ) (n k : ℕ) (x y : List ℕ) → utf8 x ≡ true → utf8 y ≡ true → two_in room n k x y ≡ writes_in room n k (x ++ y)
-unfolding two_in if◌then◌else◌ ◌>>=◌
+unfolding two_in when◌then◌else◌ ◌>>=◌
 in_joined room n k x y v w = go (among 1 5 k) (style_at k)
   where
     go : (t : Bool) (s : Style)
-        → ((if t then writes room n s x else refused 3 0) >>= λ doc. if t then writes (kept room (gives doc)) (length doc) s y else refused 3 0)
-        ≡ (if t then writes room n s (x ++ y) else refused 3 0)
+        → ((when t then writes room n s x else refused 3 0) >>= λ doc. when t then writes (kept room (gives doc)) (length doc) s y else refused 3 0)
+        ≡ (when t then writes room n s (x ++ y) else refused 3 0)
     go true s = writes-joined room n s x y v w
     go false s = refl
 
 -- any list of texts
 pub in_all_joined : (room : List ℕ) (n k : ℕ) (x : List ℕ) (xs : List (List ℕ)) → utf8 x ≡ true → AllUtf8 xs
     → in_style k (λ s. writes_all room n s x xs) ≡ writes_in room n k (x ++ joined_texts xs)
-in_all_joined room n k x xs v t = ap (λ (r : Result (List ℕ)). if among 1 5 k then r else refused 3 0) (all_joined xs room n (style_at k) x v t)
+in_all_joined room n k x xs v t = ap (λ (r : Result (List ℕ)). when among 1 5 k then r else refused 3 0) (all_joined xs room n (style_at k) x v t)
 
 -- an accepted text was written in the style that its number stands for
 in_style_lem : (room : List ℕ) (n k : ℕ) (x d : List ℕ) → writes_in room n k x ≡ gives d → (among 1 5 k ≡ true) × (writes room n (style_at k) x ≡ gives d)
@@ -61,7 +61,7 @@ module _ {room : List ℕ} {n k : ℕ} {x : List ℕ} (y : List ℕ) {q m p : �
   second_in : writes_in after m k y ≡ writes_in room n k (x ++ y)
   second_in =
       let w = call-given (called_wrote z u).1 in
-      ap (λ (r : Result (List ℕ)). if among 1 5 k then r else refused 3 0)
+      ap (λ (r : Result (List ℕ)). when among 1 5 k then r else refused 3 0)
       (ap₂ (λ (l : List ℕ) (i : ℕ). writes l i (style_at k) y) w.3 w.2 ∙ next-write room n (style_at k) x y w.0 w.1)
 
   -- both are accepted: all that is returned and stored, and every byte of the room, are those of one call with the two joined

@@ -1,7 +1,7 @@
 -- An accepted empty write changes nothing where the last record is text of that style, and else adds one empty record. Assumes nothing.
 use Rattle.write_laws.proofs.Names.{ℕ, zero, suc, ◌+◌, ◌-◌, ◌*◌, ◌/◌, ◌%◌, ◌≤◌, ◌<◌, ◌≡◌, refl, sym, ap, ap₂, ◌∙◌, subst, Bool, true, false}
 use Rattle.write_laws.proofs.Names.{false≢true, List, [], ◌∷◌, ◌++◌, append-nil, leb, eqb, length, take, drop, get_or, take-append-drop, length-append}
-use Rattle.write_laws.proofs.Names.{take_all, length-take-le, arith, eqb-true, leb-true, eq-eqb, if◌then◌else◌, gives, if_true, if_false, and_left}
+use Rattle.write_laws.proofs.Names.{take_all, length-take-le, arith, eqb-true, leb-true, eq-eqb, when◌then◌else◌, gives, if_true, if_false, and_left}
 use Rattle.write_laws.proofs.Names.{and_right, eq_or_not, le_or_lt, bind_gives, first, reads, open_blocks, little_bytes, stored, text, Style, fits_room}
 use Rattle.write_laws.proofs.Names.{first_gives, is_text, one_text, written, writes, kept, Built, length-text, last_text, Bytes, Wrote, EmptyCall}
 use mathlib.Core.Logic.{⊎_elim}
@@ -52,9 +52,9 @@ numbers (suc (suc (suc (suc (suc (suc k)))))) h g = let z : ⊥ = omega arith in
 
 module _ (st : Style) where
   only-text : (x y z : Bool) (s : Style) (a b : Block)
-      → is_text st (if x then kind.Text s else if y then kind.Start a else if z then kind.End b else kind.Unknown) ≡ true
+      → is_text st (when x then kind.Text s else when y then kind.Start a else when z then kind.End b else kind.Unknown) ≡ true
       → (x ≡ true) × (number s ≡ number st)
-  unfolding if◌then◌else◌
+  unfolding when◌then◌else◌
   only-text true y z s a b e = (refl, eqb-true (number s) (number st) e)
   only-text false true z s a b e = absurd (false≢true e)
   only-text false false true s a b e = absurd (false≢true e)
@@ -147,13 +147,13 @@ module _ (st : Style) where
 
   -- An empty text
 
-  cons_either : (t : Bool) (b : ℕ) (s : List ℕ) → b ∷ (if t then s else s ++ text st []) ≡ (if t then b ∷ s else b ∷ s ++ text st [])
-  unfolding if◌then◌else◌
+  cons_either : (t : Bool) (b : ℕ) (s : List ℕ) → b ∷ (when t then s else s ++ text st []) ≡ (when t then b ∷ s else b ∷ s ++ text st [])
+  unfolding when◌then◌else◌
   cons_either true b s = refl
   cons_either false b s = refl
 
   empty-is : (s : List ℕ) (p pass : ℕ) (stack left : List ℕ) → Low s → pass ≤ length s → reads p pass stack s ≡ gives left
-      → written st [] pass s ≡ (if last_text st (tokens p pass s) then s else s ++ text st [])
+      → written st [] pass s ≡ (when last_text st (tokens p pass s) then s else s ++ text st [])
   unfolding written reads tokens
   empty-is [] p pass stack left l h e = sym (if_false _ _ (last_none [] p pass (omega arith)))
   empty-is (b ∷ s) p (suc pass) stack left (some c l) h e =
@@ -165,27 +165,27 @@ module _ (st : Style) where
 
       go : (t : Bool) → one_text st (b ∷ s) ≡ t
           → ((after : List ℕ) → n ≤ length s → reads (p + 1) n after s ≡ gives left
-          → written st [] n s ≡ (if last_text st (tokens (p + 1) n s) then s else s ++ text st []))
-          → (if one_text st (b ∷ s) then text st ((token_at 0 (b ∷ s)).body ++ []) else b ∷ written st [] n s)
-          ≡ (if last_text st (token_at p (b ∷ s) ∷ tokens (p + 1) n s) then b ∷ s else b ∷ s ++ text st [])
+          → written st [] n s ≡ (when last_text st (tokens (p + 1) n s) then s else s ++ text st []))
+          → (when one_text st (b ∷ s) then text st ((token_at 0 (b ∷ s)).body ++ []) else b ∷ written st [] n s)
+          ≡ (when last_text st (token_at p (b ∷ s) ∷ tokens (p + 1) n s) then b ∷ s else b ∷ s ++ text st [])
       go t o rest =
           let f = bind_gives (first p stack (b ∷ s)) _ left e in
           let g = (first_gives p stack (b ∷ s) f.0 f.1).0 in
           let r : n ≤ length s = omega (arith, fits_room (b ∷ s) g) in
           by t o r (rest f.0 r f.2)
         where
-          by : (t : Bool) → one_text st (b ∷ s) ≡ t → n ≤ length s → written st [] n s ≡ (if last_text st (tokens (p + 1) n s) then s else s ++ text st [])
-              → (if one_text st (b ∷ s) then text st ((token_at 0 (b ∷ s)).body ++ []) else b ∷ written st [] n s)
-              ≡ (if last_text st (token_at p (b ∷ s) ∷ tokens (p + 1) n s) then b ∷ s else b ∷ s ++ text st [])
+          by : (t : Bool) → one_text st (b ∷ s) ≡ t → n ≤ length s → written st [] n s ≡ (when last_text st (tokens (p + 1) n s) then s else s ++ text st [])
+              → (when one_text st (b ∷ s) then text st ((token_at 0 (b ∷ s)).body ++ []) else b ∷ written st [] n s)
+              ≡ (when last_text st (token_at p (b ∷ s) ∷ tokens (p + 1) n s) then b ∷ s else b ∷ s ++ text st [])
           by true o r i =
               if_true _ _ o ∙ again (b ∷ s) (some c l) (one-whole b s p r o) (one-text b s p r o) ∙ sym (if_true _ _ (last_one b s p r o))
           by false o r i =
               if_false _ _ o ∙ ap (λ (m : List ℕ). b ∷ m) i ∙ cons_either (last_text st (tokens (p + 1) n s)) b s
-              ∙ ap (λ (u : Bool). if u then b ∷ s else b ∷ s ++ text st []) (sym (last-other b s p r o))
+              ∙ ap (λ (u : Bool). when u then b ∷ s else b ∷ s ++ text st []) (sym (last-other b s p r o))
 
 -- 'an accepted empty write changes nothing when the last record is text of that style, and otherwise adds one empty record'
 module _ (room : List ℕ) (n : ℕ) (st : Style) (d : List ℕ) (h : Bytes room) (e : writes room n st [] ≡ gives d) where
-  pub empty-write : d ≡ (if last_text st (tokens 0 0 (take n room)) then take n room else take n room ++ text st [])
+  pub empty-write : d ≡ (when last_text st (tokens 0 0 (take n room)) then take n room else take n room ++ text st [])
   unfolding open_blocks
   empty-write =
       let w = went room n st [] d e in

@@ -1,7 +1,7 @@
 -- Writing a text and then another is writing them joined (02, point 9). Assumes nothing.
 use Rattle.write_laws.proofs.Names.{ℕ, ◌+◌, ◌-◌, ◌≤◌, ◌≡◌, refl, sym, ap, ap₂, ◌∙◌, subst, Bool, true, false, ◌&&◌, List, [], ◌∷◌, ◌++◌, append-nil}
 use Rattle.write_laws.proofs.Names.{leb, length, take, drop, length-append, length-drop, take-append_seam, drop-append-add, drop-drop, arith, le-leb}
-use Rattle.write_laws.proofs.Names.{leb-true, le-ltb, if◌then◌else◌, Result, gives, refused, measured, ◌>>=◌, if_true, if_false, and_left, and_right}
+use Rattle.write_laws.proofs.Names.{leb-true, le-ltb, when◌then◌else◌, Result, gives, refused, measured, ◌>>=◌, if_true, if_false, and_left, and_right}
 use Rattle.write_laws.proofs.Names.{and_both, not-passed, bind_same, bind_gives, gives_same, refused-gives, if_gives, open_blocks, short, Style}
 use Rattle.write_laws.proofs.Names.{Refusal, written, writes, so_far, fit, built_as, kept, Built, writes_all, joined_texts, AllUtf8, none, some, Wrote}
 use Rattle.write_laws.proofs.Names.{Calls, one, more}
@@ -28,13 +28,13 @@ fit-given room x d e =
 -- it goes by lengths
 fit_room : (room other x : List ℕ) → length room ≡ length other → fit room x ≡ fit other x
 unfolding fit
-fit_room room other x e = ap (λ (n : ℕ). if leb (length x) n && leb (length x) 32_768 then gives x else refused 13 0) e
+fit_room room other x e = ap (λ (n : ℕ). when leb (length x) n && leb (length x) 32_768 then gives x else refused 13 0) e
 
 fit-longer : (room x y : List ℕ) (m q : ℕ) → length x ≤ length y → fit room x ≡ refused m q → fit room y ≡ refused m q
 unfolding fit
 fit-longer room x y m q h e = go (fitting room y) refl
   where
-    go : (t : Bool) → fitting room y ≡ t → (if fitting room y then gives y else refused 13 0) ≡ refused m q
+    go : (t : Bool) → fitting room y ≡ t → (when fitting room y then gives y else refused 13 0) ≡ refused m q
     go true f =
         let a = leb-true (length y) (length room) (and_left (leb (length y) (length room)) (leb (length y) 32_768) f) in
         let b = leb-true (length y) 32_768 (and_right (leb (length y) (length room)) (leb (length y) 32_768) f) in
@@ -56,7 +56,7 @@ pub record Went (room : List ℕ) (n : ℕ) (st : Style) (x d : List ℕ) : Type
 
 -- the rule on the document so far
 abbrev rule : List ℕ → Style → List ℕ → List ℕ → List ℕ → Result (List ℕ)
-rule room st x doc _ = if utf8 x then fit room (written st x 0 doc) else refused 5 0
+rule room st x doc _ = when utf8 x then fit room (written st x 0 doc) else refused 5 0
 
 module _ (room : List ℕ) (n : ℕ) (st : Style) where
   -- it goes by the document so far
@@ -117,7 +117,7 @@ module _ (room : List ℕ) (n : ℕ) (st : Style) where
       ap (written st y 0) (after_front room n st d w.inside ∙ w.is)
       ∙ twice st x y (take n room) 0 0 [] w.stack (omega arith) w.so_far_holds.opened (omega (arith, ap length w.is, w.small)) in
       writes-is after (length d) st (after_so_far room n st d w.inside w.stack w.small w.opened) y
-      ∙ ap₂ (λ (u : Bool) (r : Result (List ℕ)). if u then r else refused 5 0) (sym (valid_append x y w.valid))
+      ∙ ap₂ (λ (u : Bool) (r : Result (List ℕ)). when u then r else refused 5 0) (sym (valid_append x y w.valid))
       (ap (fit after) t ∙ fit_room after room both (after-length room n st d w.inside))
       ∙ sym (writes-is room n st w.so_far_holds (x ++ y))
 

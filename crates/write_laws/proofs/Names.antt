@@ -2,7 +2,7 @@
 pub use Prim.Native.Nat.{◌%◌, ◌*◌, ◌+◌, ◌-◌, ◌/◌, ◌<◌, ◌≤◌, suc, zero, ℕ}
 pub use Rattle.base.proofs.Choice.{and_both, and_left, and_right, eq_or_not, if_false, if_true, le_or_lt, not-passed, pick}
 pub use Rattle.base.proofs.Results.{bind_gives, bind_same, gives_same, if_gives, refused-gives}
-unfoldable pub use Rattle.base.specs.Choice.{if◌then◌else◌}
+unfoldable pub use Rattle.base.specs.Choice.{when◌then◌else◌}
 pub use Rattle.base.specs.Result.{Result, gives, measured, refused}
 unfoldable pub use Rattle.base.specs.Result.{◌>>=◌}
 pub use Rattle.buffer.specs.Answers.{built_as, kept}

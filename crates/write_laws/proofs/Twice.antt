@@ -1,6 +1,6 @@
 -- Two texts written into a document that is read with nothing refused are the two joined. Assumes nothing.
 use Rattle.write_laws.proofs.Names.{ℕ, zero, suc, ◌+◌, ◌≤◌, ◌≡◌, refl, sym, ap, ◌∙◌, Bool, true, false, List, [], ◌∷◌, ◌++◌, append_assoc, append-nil}
-use Rattle.write_laws.proofs.Names.{length, take, drop, length-append, length-take-le, arith, eq-eqb, ne_eqb, if◌then◌else◌, gives, if_true, if_false}
+use Rattle.write_laws.proofs.Names.{length, take, drop, length-append, length-take-le, arith, eq-eqb, ne_eqb, when◌then◌else◌, gives, if_true, if_false}
 use Rattle.write_laws.proofs.Names.{and_both, pick, bind_gives, first, reads, little_bytes, stored, text, Style, fits_room, first_gives, is_text}
 use Rattle.write_laws.proofs.Names.{one_text, written, length-text}
 use Rattle.records.specs.Records.{little, styles, number, kind_of, size, token_at, record_fits}
@@ -11,7 +11,7 @@ use Rattle.buffer.proofs.Records.{Holds_kind, Holds-size, number_small, stored-s
 -- A text record as it is stored
 
 text_kind : (st : Style) (x : List ℕ) → is_text st (token_at 0 (text st x)).kind ≡ true
-unfolding token_at text stored little_bytes little kind_of styles if◌then◌else◌
+unfolding token_at text stored little_bytes little kind_of styles when◌then◌else◌
 text_kind style.Text x = refl
 text_kind style.Emphasis x = refl
 text_kind style.Literal x = refl
@@ -49,7 +49,7 @@ module _ (st : Style) where
   -- Lengths
 
   pub written-longer : (x y s : List ℕ) (pass : ℕ) → length (written st (x ++ y) pass s) ≡ length (written st x pass s) + length y
-  unfolding written if◌then◌else◌
+  unfolding written when◌then◌else◌
   written-longer x y [] pass = omega (arith, length-text st (x ++ y), length-text st x, length-append x y)
   written-longer x y (b ∷ s) (suc pass) = omega (arith, written-longer x y s pass)
   written-longer x y (b ∷ s) zero = go (one_text st (b ∷ s)) (written-longer x y s (5 + size (b ∷ s)))
@@ -58,8 +58,8 @@ module _ (st : Style) where
       body = (token_at 0 (b ∷ s)).body
 
       go : (t : Bool) → length (written st (x ++ y) (5 + size (b ∷ s)) s) ≡ length (written st x (5 + size (b ∷ s)) s) + length y
-          → length (if t then text st (body ++ (x ++ y)) else b ∷ written st (x ++ y) (5 + size (b ∷ s)) s)
-          ≡ length (if t then text st (body ++ x) else b ∷ written st x (5 + size (b ∷ s)) s) + length y
+          → length (when t then text st (body ++ (x ++ y)) else b ∷ written st (x ++ y) (5 + size (b ∷ s)) s)
+          ≡ length (when t then text st (body ++ x) else b ∷ written st x (5 + size (b ∷ s)) s) + length y
       go true e =
           omega (arith, length-text st (body ++ (x ++ y)), length-text st (body ++ x), length-append body (x ++ y), length-append body x, length-append x y)
       go false e = omega arith
@@ -102,11 +102,11 @@ module _ (st : Style) where
         body : List ℕ
         body = (token_at 0 (b ∷ s)).body
 
-        go : (t : Bool) → one_text st (b ∷ s) ≡ t → length (if one_text st (b ∷ s) then text st (body ++ x) else b ∷ written st x n s) ≤ 32768
+        go : (t : Bool) → one_text st (b ∷ s) ≡ t → length (when one_text st (b ∷ s) then text st (body ++ x) else b ∷ written st x n s) ≤ 32768
             → ((after : List ℕ) → n ≤ length s → reads (p + 1) n after s ≡ gives left → length (written st x n s) ≤ 32768
             → written st y n (written st x n s) ≡ written st (x ++ y) n s)
-            → written st y 0 (if one_text st (b ∷ s) then text st (body ++ x) else b ∷ written st x n s)
-            ≡ (if one_text st (b ∷ s) then text st (body ++ (x ++ y)) else b ∷ written st (x ++ y) n s)
+            → written st y 0 (when one_text st (b ∷ s) then text st (body ++ x) else b ∷ written st x n s)
+            ≡ (when one_text st (b ∷ s) then text st (body ++ (x ++ y)) else b ∷ written st (x ++ y) n s)
         go true o k rest =
             let m : length (text st (body ++ x)) ≤ 32768 = rw (if_true (text st (body ++ x)) (b ∷ written st x n s) o) at k in
             ap (written st y 0) (if_true _ _ o)

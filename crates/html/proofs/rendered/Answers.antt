@@ -1,18 +1,18 @@
-use Rattle.html.proofs.Names.{refl, sym, [], if◌then◌else◌, if_true, if_false, css, tags}
+use Rattle.html.proofs.Names.{refl, sym, [], when◌then◌else◌, if_true, if_false, css, tags}
 use Rattle.utf8.specs.Utf8.{bytes, encode}
 use Rattle.document.proofs.Walks.{verdict_gives, verdict_refused}
 use Rattle.html.proofs.Whole.{html-refused, html_accepted}
 use Rattle.html.proofs.rendered.Goals as goal
 
 pub walk-requires : goal.walk-requires
-unfolding tags bytes encode if◌then◌else◌
+unfolding tags bytes encode when◌then◌else◌
 walk-requires c = record {
   tags_value = refl;
   document_value = verdict_gives [] c.check-verdict.ensures c.in-Accepted.is;
 }
 
 pub returns-then-css : goal.returns-then-css
-unfolding css bytes encode if◌then◌else◌
+unfolding css bytes encode when◌then◌else◌
 returns-then-css c = record {
   text = html_accepted _ _ _ _ _ _ _ (verdict_gives [] c.check-verdict.ensures
       c.in-Accepted.is)
@@ -21,7 +21,7 @@ returns-then-css c = record {
 }
 
 pub walk-requires-in-Accepted : goal.walk-requires-in-Accepted
-unfolding tags bytes encode if◌then◌else◌
+unfolding tags bytes encode when◌then◌else◌
 walk-requires-in-Accepted c = record {
   tags_value = refl;
   document_value = verdict_gives [] c.check-verdict.ensures c.in-Accepted.is;

@@ -1,54 +1,54 @@
-use Rattle.html_tags.proofs.Names.{if◌then◌else◌, bytes, encode, tags}
+use Rattle.html_tags.proofs.Names.{when◌then◌else◌, bytes, encode, tags}
 use Rattle.html_tags.proofs.start_span.Goals as goal
 
 pub returns-in-Header : goal.returns-in-Header
-unfolding tags bytes encode if◌then◌else◌
+unfolding tags bytes encode when◌then◌else◌
 returns-in-Header c = rw c.in-Header.is
 
 pub returns-in-Section2 : goal.returns-in-Section2
-unfolding tags bytes encode if◌then◌else◌
+unfolding tags bytes encode when◌then◌else◌
 returns-in-Section2 c = rw c.in-Section2.is
 
 pub returns-in-Section3 : goal.returns-in-Section3
-unfolding tags bytes encode if◌then◌else◌
+unfolding tags bytes encode when◌then◌else◌
 returns-in-Section3 c = rw c.in-Section3.is
 
 pub returns-in-Section4 : goal.returns-in-Section4
-unfolding tags bytes encode if◌then◌else◌
+unfolding tags bytes encode when◌then◌else◌
 returns-in-Section4 c = rw c.in-Section4.is
 
 pub returns-in-ItemTerm : goal.returns-in-ItemTerm
-unfolding tags bytes encode if◌then◌else◌
+unfolding tags bytes encode when◌then◌else◌
 returns-in-ItemTerm c = rw c.in-ItemTerm.is
 
 pub returns-then-listed : goal.returns-then-listed
-unfolding tags bytes encode if◌then◌else◌
+unfolding tags bytes encode when◌then◌else◌
 returns-then-listed c = rw (c.in-ItemBody.is, c.if-listed.true)
 
 pub returns-else-listed : goal.returns-else-listed
-unfolding tags bytes encode if◌then◌else◌
+unfolding tags bytes encode when◌then◌else◌
 returns-else-listed c = rw (c.in-ItemBody.is, c.if-listed.false)
 
 pub returns-in-DefinitionList : goal.returns-in-DefinitionList
-unfolding tags bytes encode if◌then◌else◌
+unfolding tags bytes encode when◌then◌else◌
 returns-in-DefinitionList c = rw c.in-DefinitionList.is
 
 pub returns-in-Block : goal.returns-in-Block
-unfolding tags bytes encode if◌then◌else◌
+unfolding tags bytes encode when◌then◌else◌
 returns-in-Block c = rw c.in-Block.is
 
 pub returns-in-InlineBlock : goal.returns-in-InlineBlock
-unfolding tags bytes encode if◌then◌else◌
+unfolding tags bytes encode when◌then◌else◌
 returns-in-InlineBlock c = rw c.in-InlineBlock.is
 
 pub returns-in-TermRef : goal.returns-in-TermRef
-unfolding tags bytes encode if◌then◌else◌
+unfolding tags bytes encode when◌then◌else◌
 returns-in-TermRef c = rw c.in-TermRef.is
 
 pub returns-in-Meta : goal.returns-in-Meta
-unfolding tags bytes encode if◌then◌else◌
+unfolding tags bytes encode when◌then◌else◌
 returns-in-Meta c = rw c.in-Meta.is
 
 pub returns-in-Mono : goal.returns-in-Mono
-unfolding tags bytes encode if◌then◌else◌
+unfolding tags bytes encode when◌then◌else◌
 returns-in-Mono c = rw c.in-Mono.is

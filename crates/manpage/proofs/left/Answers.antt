@@ -1,4 +1,4 @@
-use Rattle.manpage.proofs.Names.{sym, subst, if◌then◌else◌, Block, encode, bytes, ended, locals, Follows}
+use Rattle.manpage.proofs.Names.{sym, subst, when◌then◌else◌, Block, encode, bytes, ended, locals, Follows}
 use Rattle.manpage.proofs.Blocks.{stripped, ended-nothing}
 use Rattle.manpage.proofs.left.Goals as goal
 
@@ -12,7 +12,7 @@ returns-in-ItemTerm c = λ p kept on.
     (sym c.in-ItemTerm.is) (stripped r.ensures g.ensures)
 
 pub returns-in-ItemBody : goal.returns-in-ItemBody
-unfolding ended bytes encode if◌then◌else◌
+unfolding ended bytes encode when◌then◌else◌
 returns-in-ItemBody c = λ p kept on.
     let g = c.control0 in
     let r = c.strip_newlines-in-ItemBody in
@@ -21,7 +21,7 @@ returns-in-ItemBody c = λ p kept on.
     (sym c.in-ItemBody.is) (stripped r.ensures g.ensures)
 
 pub returns-in-Meta : goal.returns-in-Meta
-unfolding ended bytes encode if◌then◌else◌
+unfolding ended bytes encode when◌then◌else◌
 returns-in-Meta c = λ p kept on.
     let g = c.control0-in-Meta in
     let a = c.args in

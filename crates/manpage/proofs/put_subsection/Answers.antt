@@ -1,9 +1,9 @@
-use Rattle.manpage.proofs.Names.{ap, if◌then◌else◌, encode, bytes, pushed_none, pushed-same, subsection}
+use Rattle.manpage.proofs.Names.{ap, when◌then◌else◌, encode, bytes, pushed_none, pushed-same, subsection}
 use Rattle.manpage.proofs.Blocks.{subsection-nothing}
 use Rattle.manpage.proofs.put_subsection.Goals as goal
 
 pub returns-in-Emphasis : goal.returns-in-Emphasis
-unfolding subsection bytes encode if◌then◌else◌
+unfolding subsection bytes encode when◌then◌else◌
 returns-in-Emphasis c = pushed-same (ap subsection c.in-Emphasis.is) c.control0.ensures
 
 pub returns-in_default : goal.returns-in_default

@@ -1,9 +1,9 @@
-use Rattle.manpage.proofs.Names.{sym, subst, if◌then◌else◌, Block, encode, bytes, started, locals, Follows}
+use Rattle.manpage.proofs.Names.{sym, subst, when◌then◌else◌, Block, encode, bytes, started, locals, Follows}
 use Rattle.manpage.proofs.Blocks.{stripped, started-nothing}
 use Rattle.manpage.proofs.started.Goals as goal
 
 pub returns-in-ItemTerm : goal.returns-in-ItemTerm
-unfolding started bytes encode if◌then◌else◌
+unfolding started bytes encode when◌then◌else◌
 returns-in-ItemTerm c = λ p kept on.
     let g = c.control0 in
     let r = c.strip_newlines in
@@ -12,7 +12,7 @@ returns-in-ItemTerm c = λ p kept on.
     (sym c.in-ItemTerm.is) (stripped r.ensures g.ensures)
 
 pub returns-in-Block : goal.returns-in-Block
-unfolding started bytes encode if◌then◌else◌
+unfolding started bytes encode when◌then◌else◌
 returns-in-Block c = λ p kept on.
     let g = c.control0-in-Block in
     let a = c.args in
@@ -20,7 +20,7 @@ returns-in-Block c = λ p kept on.
     (sym c.in-Block.is) g.ensures
 
 pub returns-in-Meta : goal.returns-in-Meta
-unfolding started bytes encode if◌then◌else◌
+unfolding started bytes encode when◌then◌else◌
 returns-in-Meta c = λ p kept on.
     let g = c.control0-in-Meta in
     let a = c.args in

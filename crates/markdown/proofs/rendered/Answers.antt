@@ -1,9 +1,9 @@
-use Rattle.markdown.proofs.Names.{refl, [], if◌then◌else◌, bytes, encode, verdict_gives, verdict_refused, tags}
+use Rattle.markdown.proofs.Names.{refl, [], when◌then◌else◌, bytes, encode, verdict_gives, verdict_refused, tags}
 use Rattle.markdown.proofs.Whole.{markdown-refused, markdown_accepted}
 use Rattle.markdown.proofs.rendered.Goals as goal
 
 pub walk-requires : goal.walk-requires
-unfolding tags bytes encode if◌then◌else◌
+unfolding tags bytes encode when◌then◌else◌
 walk-requires c = record {
   tags_value = refl;
   document_value = verdict_gives [] c.check-verdict.ensures c.in-Accepted.is;

@@ -1,5 +1,5 @@
 use Rattle.runs.proofs.Names.{◌≡◌, sym, ap, ◌∙◌, Bool, List, ℕ, ◌+◌, ◌≤◌, min, arith, length, take, drop, length-drop}
-use Rattle.runs.proofs.Names.{length-take-le, if◌then◌else◌, among}
+use Rattle.runs.proofs.Names.{length-take-le, when◌then◌else◌, among}
 use Rattle.runs.proofs.Runs.{least_more, least_all, block_byte}
 use Rattle.runs.proofs.least_place.Goals as goal
 
@@ -21,7 +21,7 @@ loop-j-preserved c =
     let byte = block_byte (a.s.now) a.at 32 l.j _ usize-from.ensures.0 loop-test.true in (
       omega arith,
       least_more p (take 32 (drop a.at (a.s.now))) 32 (long (a.s.now) a.at start.requires) l.j l.k _ loop-test.true l.invariant.1
-          (c.lesser-k.ensures ∙ ap (min l.k) (place-if.ensures ∙ ap (λ (t : Bool). if t then l.j else 32) (is_among.ensures ∙ sym (ap p byte)))),
+          (c.lesser-k.ensures ∙ ap (min l.k) (place-if.ensures ∙ ap (λ (t : Bool). when t then l.j else 32) (is_among.ensures ∙ sym (ap p byte)))),
     )
 
 pub returns : goal.returns

@@ -1,4 +1,4 @@
-use Rattle.runs.proofs.Names.{◌≡◌, subst, ℕ, arith, take, drop, if◌then◌else◌, among, any}
+use Rattle.runs.proofs.Names.{◌≡◌, subst, ℕ, arith, take, drop, when◌then◌else◌, among, any}
 use Rattle.runs.proofs.Runs.{mark_tells, marked_start, marked_more}
 use Rattle.runs.proofs.marked.Goals as goal
 
@@ -19,4 +19,4 @@ returns c =
     let l = c.loop-i in
     let a = c.args in
     let e : l.i ≡ 16 = omega (arith, l.invariant.0, c.loop-i-test.false) in
-    mark_tells _ l.m (subst (λ (n : ℕ). l.m ≡ if any (among a.a a.b a.c a.d) (take n (drop a.at (a.s.now))) then 1 else 0) e l.invariant.1)
+    mark_tells _ l.m (subst (λ (n : ℕ). l.m ≡ when any (among a.a a.b a.c a.d) (take n (drop a.at (a.s.now))) then 1 else 0) e l.invariant.1)

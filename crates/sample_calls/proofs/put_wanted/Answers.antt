@@ -1,4 +1,4 @@
-use Rattle.sample_calls.proofs.Names.{rules, length, if◌then◌else◌}
+use Rattle.sample_calls.proofs.Names.{rules, length, when◌then◌else◌}
 use Rattle.utf8.specs.Utf8.{encode, bytes}
 use Rattle.roff_escape.specs.Escape.{preamble}
 use Rattle.sample_lines.specs.InnerLines.{text_from}
@@ -6,7 +6,7 @@ use Rattle.sample_calls.proofs.Calls.{wrote_two}
 use Rattle.sample_calls.proofs.put_wanted.Goals as goal
 
 pub returns : goal.returns
-unfolding preamble bytes encode if◌then◌else◌
+unfolding preamble bytes encode when◌then◌else◌
 returns c =
     let after-put-all = c in
     let put_all_lem = after-put-all.put_all-n in

@@ -1,4 +1,4 @@
-use Rattle.utf8.proofs.Names.{◌≡◌, ◌∷◌, arith, get_or, if◌then◌else◌, ◌to◌, row_of}
+use Rattle.utf8.proofs.Names.{◌≡◌, ◌∷◌, arith, get_or, when◌then◌else◌, ◌to◌, row_of}
 use Rattle.utf8.proofs.Laws.{tail, size-by, size-never, ranged, due_over, due_F0, due_F4, due_4}
 use Rattle.utf8.proofs.four_at.Goals.{Joined-a, then-a, else-a+then-a-2, else-a+else-a-2}
 use Rattle.utf8.proofs.four_at.Goals as goal
@@ -15,7 +15,7 @@ second c =
     ]
 
 pub returns-then-a-gt244 : goal.returns-then-a-gt244
-unfolding if◌then◌else◌
+unfolding when◌then◌else◌
 returns-then-a-gt244 c =
     let a = c.args in
     size-never (a.s.now) a.i c.requires.0 (due_over _ c.if-a-gt244.true)

@@ -1,9 +1,9 @@
-use Rattle.utf8.proofs.Names.{if◌then◌else◌}
+use Rattle.utf8.proofs.Names.{when◌then◌else◌}
 use Rattle.utf8.proofs.Laws.{tail, size-by, size-never, due_none, due_2}
 use Rattle.utf8.proofs.two_at.Goals as goal
 
 pub returns-then-s-i-lt194 : goal.returns-then-s-i-lt194
-unfolding if◌then◌else◌
+unfolding when◌then◌else◌
 returns-then-s-i-lt194 c =
     let a = c.args in
     size-never (a.s.now) a.i c.requires.0 (due_none _ c.requires.1 c.if-s-i-lt194.true)

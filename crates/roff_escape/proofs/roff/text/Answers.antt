@@ -1,9 +1,9 @@
-use Rattle.roff_escape.proofs.Names.{sym, ap, ◌∙◌, [], ◌∷◌, Bool, part, if◌then◌else◌, encode, bytes, plaintext, text}
+use Rattle.roff_escape.proofs.Names.{sym, ap, ◌∙◌, [], ◌∷◌, Bool, part, when◌then◌else◌, encode, bytes, plaintext, text}
 use Rattle.roff_escape.proofs.Composing.{pushed_then, pushed-same}
 use Rattle.roff_escape.proofs.roff.text.Goals as goal
 
 pub returns : goal.returns
-unfolding text bytes encode if◌then◌else◌
+unfolding text bytes encode when◌then◌else◌
 returns c =
     let after-plaintext = c in
     let p = after-plaintext.plaintext-b in
