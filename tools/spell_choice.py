@@ -2,7 +2,7 @@
 """Renames this repository's own choice by a test, `if◌then◌else◌` of base/specs/Choice.antt, to `when◌then◌else◌`: `rt ci` keeps the older name for
 the library's. Only the name changes. Run after tools/spell_names.py; a second run changes nothing.
 
-In .antt files the word `if` outside comments is this operator and nothing else; in .rt files and must-fail edits it is on lines with `then`.
+In .antt files the word `if` outside comments is this operator and nothing else; in .rt files and must-fail edits it is on lines with `then`, in edits of .antt files on all.
 """
 import glob
 import os
@@ -19,11 +19,12 @@ def code_of(line, mark):
 
 
 def turned(text, mark, every):
+    antt = re.search(r"(?m)^file: \S+\.antt$", text)
     lines = []
     for line in text.split("\n"):
         code, comment = code_of(line, mark)
         code = code.replace("if◌then◌else◌", "when◌then◌else◌")
-        if every or re.search(r"\bthen\b", code):
+        if every or re.search(r"\bthen\b", code) or mark == "#" and not re.search(r"[{}]", code) and antt:
             code = WORD.sub("when", code)
         lines.append(code + comment.replace("if◌then◌else◌", "when◌then◌else◌"))
     return "\n".join(lines)
