@@ -1,6 +1,6 @@
 /* Sefgrunn: help text of a stored document. docs/FORMAT.md says what a stored document is and what each renderer writes.
  *
- * Link libsefgrunn.a, which `rt staticlib sefgrunn` writes to target/staticlib.
+ * Link libsefgrunn.a, which `tools/library` writes to target/staticlib.
  *
  * Every function returns 0 (SEFGRUNN_ACCEPTED) where it accepts, else the number of the refusal, and stores where it was met: enum
  * sefgrunn_refusal.
