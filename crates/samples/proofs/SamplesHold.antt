@@ -27,7 +27,7 @@ use Rattle.samples.specs.Samples.{plain, literal, nested, by_rules, samples, Hol
 pub samples_hold : Hold samples
 unfolding plain literal nested by_rules samples when◌then◌else◌ starts_with ends_with ◌>>=◌ top pushed popped table row_of encode bytes whites white
     blank trim little styles blocks kind_of size token_at tokens record_fits opens closes bodiless accept first reads open_blocks short closed check
-        little_bytes
+    little_bytes
     stored text start end around before after_line_end ticked step placed split is_space extended write empty skip_start skip_end walk body con.term_start
     con.term_end con.term con.terms con.tabstop con.empty_block con.gap_ahead con.line_end con.due_line con.due_blank con.pad_gutter con.place con.reach con.pad
     con.put con.fold con.tick con.started con.ended con.raw_chunk con.chunk con.turn con.finish con.narrow con.console_by con.console separated

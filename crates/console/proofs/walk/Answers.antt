@@ -55,7 +55,7 @@ records-smaller-in-Unknown c =
     let w = c in
     let s = w.records in
     absurd (stand_known _ _ _ _ s.room s.margins s.count s.m s.at s.invariant.0 w.whole_at-h.result (read
-        (goal.at.records-smaller-in-Unknown c).After-whole_at-h)
+    (goal.at.records-smaller-in-Unknown c).After-whole_at-h)
     w.records-test.true c.in-Unknown.is)
 
 pub records-preserved-in-Unknown : goal.records-preserved-in-Unknown
@@ -63,7 +63,7 @@ records-preserved-in-Unknown c =
     let w = c in
     let s = w.records in
     absurd (stand_known _ _ _ _ s.room s.margins s.count s.m s.at s.invariant.0 w.whole_at-h.result (read
-        (goal.at.records-preserved-in-Unknown c).After-whole_at-h)
+    (goal.at.records-preserved-in-Unknown c).After-whole_at-h)
     w.records-test.true c.in-Unknown.is)
 
 pub records-smaller-in-Start : goal.records-smaller-in-Start
@@ -87,7 +87,7 @@ records-preserved-in-Start c =
     let p = after-records.requires in
     let look = after-look-ahead.look_ahead-ahead.ensures (known (goal.at.records-preserved-in-Start c).After-whole_at-h) in
     let fit = stand_startable _ _ _ _ s.room s.margins s.count s.m s.at s.invariant.0 w.whole_at-h.result (read
-        (goal.at.records-preserved-in-Start c).After-whole_at-h) l _ e p.0 p.1 in (
+    (goal.at.records-preserved-in-Start c).After-whole_at-h) l _ e p.0 p.1 in (
       stand_started _ _ _ _ s.room s.margins s.count s.m s.at s.invariant.0 w.whole_at-h.result (read
           (goal.at.records-preserved-in-Start c).After-whole_at-h) l _ _ look g.new.room
           g.new.margins g.result.count g.result.mark e g.auto.room g.auto.margins (g.ensures.mark_after fit) g.ensures.counts g.ensures.moved
@@ -222,7 +222,7 @@ put_piece-placed-requires c =
     let t = took _ (cursor u.result.at v.code) step-at.result _ _ c.in-Take.is (step-at.ensures.chunk, step-at.ensures.within) in
     let low =
     margin_low _ _ _ _ s.room s.margins s.count s.m s.at s.invariant.0 w.whole_at-h.result (read
-        (goal.at.put_piece-placed-requires c).After-whole_at-h) records-test.true
+    (goal.at.put_piece-placed-requires c).After-whole_at-h) records-test.true
     pre.0 _ after-enum-told2.in-Text.is top-margin.result.0 top-margin.ensures in (
       column_low _ _ _ _ s.room s.margins s.count s.m s.at s.invariant.0 w.whole_at-h.result (read
           (goal.at.put_piece-placed-requires c).After-whole_at-h) records-test.true
@@ -297,8 +297,10 @@ records-preserved-then-ends_body c =
       body-stop _ _ _ _ s.room s.margins s.count s.m s.at s.invariant.0 w.whole_at-h.result (read
           (goal.at.records-preserved-then-ends_body c).After-whole_at-h) records-test.true
           pre.0 _ after-enum-told2.in-Text.is top-margin.result.0 top-margin.ensures u.new.room u.result.mark (cursor u.result.at v.code)
-          i _ _ (took _ (cursor u.result.at v.code) step-at.result _ _ after-put-piece.in-Take.is (step-at.ensures.chunk,
-              step-at.ensures.within)) g.new.room _ g.auto.room
+          i _ _ (took _ (cursor u.result.at v.code) step-at.result _ _ after-put-piece.in-Take.is (
+            step-at.ensures.chunk,
+            step-at.ensures.within,
+          )) g.new.room _ g.auto.room
           (placed_at g.new.room (take s.count s.margins) g.result _ _ after-placed2.in-At.is (g.ensures.by_index (take s.count s.margins)))
           (nearby_at _ u.result.mark.lay g.result _ after-placed2.in-At.is g.ensures.near) (sym (c.ends_body.ensures _) ∙ c.if-ends_body.true),
       known (goal.at.records-preserved-then-ends_body c).After-whole_at-h,
@@ -326,7 +328,7 @@ chunks-preserved c =
     write_words _ _ _ _ _ _ _ _ _ v.room v.m (cursor v.from v.code) v.invariant u.new.room u.result.mark u.result.at u.auto.room
     u.ensures in
     body-on _ _ _ _ s.room s.margins s.count s.m s.at s.invariant.0 w.whole_at-h.result (read
-        (goal.at.chunks-preserved c).After-whole_at-h) records-test.true pre.0
+    (goal.at.chunks-preserved c).After-whole_at-h) records-test.true pre.0
     _ after-enum-told2.in-Text.is top-margin.result.0 top-margin.ensures u.new.room u.result.mark (cursor u.result.at v.code) i _ _
     (took _ (cursor u.result.at v.code) step-at.result _ _ after-put-piece.in-Take.is (step-at.ensures.chunk, step-at.ensures.within)) g.new.room _ g.auto.room
     (placed_at g.new.room (take s.count s.margins) g.result _ _ after-placed2.in-At.is (g.ensures.by_index (take s.count s.margins)))

@@ -28,7 +28,7 @@ returns-then-not-has_text c =
     let if2 = c.if-not-has_text in
     let textless = sym has-text.ensures ∙ if2.true in
     let told = refused_both _ refuse2.new.room refuse2.ensures.answer refuse2.ensures.room (joined-textless _ (a.joined.now) if1.false a.asked textless) in
-        record {
+    record {
       answer = told.0;
       room = told.1;
     }
@@ -45,7 +45,7 @@ returns-then-too_wide c =
     let text = sym has-text.ensures ∙ if2.false in
     let wide = sym too_wide.ensures ∙ if3.true in
     let told = refused_both _ refuse3.new.room refuse3.ensures.answer refuse3.ensures.room (joined-wide _ (a.joined.now) if1.false text a.asked wide) in
-        record {
+    record {
       answer = told.0;
       room = told.1;
     }

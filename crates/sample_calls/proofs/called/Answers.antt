@@ -48,8 +48,10 @@ returns-then-letter-eq104 c =
     let if2 = after-if2.if-letter-eq99 in
     let if1 = after-if2.if-letter-eq107 in
     let a = after-if2.args in
-    let told = by-same r.result _ _ _ _ (by_h a.letter a.width _ (a.document.now) if1.false if2.false if3.false if4.true) (r.ensures.answer,
-        r.ensures.room) in record {
+    let told = by-same r.result _ _ _ _ (by_h a.letter a.width _ (a.document.now) if1.false if2.false if3.false if4.true) (
+      r.ensures.answer,
+      r.ensures.room,
+    ) in record {
       answer = told.0;
       room = told.1;
     }

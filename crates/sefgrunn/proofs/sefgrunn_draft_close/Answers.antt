@@ -11,8 +11,10 @@ returns-in-Text c =
     let room = a.room.now in
     let words = a.draft.now in
     let rule = closes_block room (draft_in words).length in
-    let told = draft_out _ room words _ _ (block-text a.block kind-of.result kind-of.ensures rule _ c.in-Text.is) (out_of_range.ensures.number,
-        out_of_range.ensures.place) in record {
+    let told = draft_out _ room words _ _ (block-text a.block kind-of.result kind-of.ensures rule _ c.in-Text.is) (
+      out_of_range.ensures.number,
+      out_of_range.ensures.place,
+    ) in record {
       numbers = told.0;
       does = told.1;
     }
@@ -42,8 +44,10 @@ returns-in-End c =
     let room = a.room.now in
     let words = a.draft.now in
     let rule = closes_block room (draft_in words).length in
-    let told = draft_out _ room words _ _ (block-end a.block kind-of.result kind-of.ensures rule _ c.in-End.is) (out-of-range2.ensures.number,
-        out-of-range2.ensures.place) in record {
+    let told = draft_out _ room words _ _ (block-end a.block kind-of.result kind-of.ensures rule _ c.in-End.is) (
+      out-of-range2.ensures.number,
+      out-of-range2.ensures.place,
+    ) in record {
       numbers = told.0;
       does = told.1;
     }
@@ -56,8 +60,10 @@ returns-in-Unknown c =
     let room = a.room.now in
     let words = a.draft.now in
     let rule = closes_block room (draft_in words).length in
-    let told = draft_out _ room words _ _ (block_unknown a.block kind-of.result kind-of.ensures rule c.in-Unknown.is) (out-of-range3.ensures.number,
-        out-of-range3.ensures.place) in record {
+    let told = draft_out _ room words _ _ (block_unknown a.block kind-of.result kind-of.ensures rule c.in-Unknown.is) (
+      out-of-range3.ensures.number,
+      out-of-range3.ensures.place,
+    ) in record {
       numbers = told.0;
       does = told.1;
     }

@@ -29,8 +29,10 @@ returns-in-Start c =
     let room = a.room.now in
     let words = a.draft.now in
     let rule : Style → Result (List ℕ) = λ s. writes room (draft_in words).length s (a.text.now) in
-    let told = draft_out _ room words _ _ (style_start a.style kind-of.result kind-of.ensures rule _ c.in-Start.is) (out_of_range.ensures.number,
-        out_of_range.ensures.place) in record {
+    let told = draft_out _ room words _ _ (style_start a.style kind-of.result kind-of.ensures rule _ c.in-Start.is) (
+      out_of_range.ensures.number,
+      out_of_range.ensures.place,
+    ) in record {
       numbers = told.0;
       does = told.1;
     }
@@ -43,8 +45,10 @@ returns-in-End c =
     let room = a.room.now in
     let words = a.draft.now in
     let rule : Style → Result (List ℕ) = λ s. writes room (draft_in words).length s (a.text.now) in
-    let told = draft_out _ room words _ _ (style_end a.style kind-of.result kind-of.ensures rule _ c.in-End.is) (out-of-range2.ensures.number,
-        out-of-range2.ensures.place) in record {
+    let told = draft_out _ room words _ _ (style_end a.style kind-of.result kind-of.ensures rule _ c.in-End.is) (
+      out-of-range2.ensures.number,
+      out-of-range2.ensures.place,
+    ) in record {
       numbers = told.0;
       does = told.1;
     }
@@ -57,8 +61,10 @@ returns-in-Unknown c =
     let room = a.room.now in
     let words = a.draft.now in
     let rule : Style → Result (List ℕ) = λ s. writes room (draft_in words).length s (a.text.now) in
-    let told = draft_out _ room words _ _ (style_unknown a.style kind-of.result kind-of.ensures rule c.in-Unknown.is) (out-of-range3.ensures.number,
-        out-of-range3.ensures.place) in record {
+    let told = draft_out _ room words _ _ (style_unknown a.style kind-of.result kind-of.ensures rule c.in-Unknown.is) (
+      out-of-range3.ensures.number,
+      out-of-range3.ensures.place,
+    ) in record {
       numbers = told.0;
       does = told.1;
     }

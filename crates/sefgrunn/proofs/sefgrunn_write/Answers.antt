@@ -14,7 +14,7 @@ returns-in-Text c =
     let told = says_same _ y _ (a.len.now) _ _ (a.room.now) write-str.new.room
     (style_in a.style kind-of.result kind-of.ensures (λ (s : Style). writes (a.room.now) (a.len.now) s (a.text.now)) _
     after-write-str.in-Text.is) (c.stored.ensures.number ∙ n.0, (c.stored.ensures.length ∙ n.1, (c.stored.ensures.place ∙ n.2, write-str.ensures.room))) in
-        record {
+    record {
       number = told.0;
       length = told.1.0;
       place = told.1.1.0;

@@ -8,7 +8,7 @@ returns-then-number-ne0 c =
     let args = c.args in
     let one = c.sefgrunn_write-number.ensures in
     let told = stops args.second.now (record { number_is = one.number; length-is = one.length; place_is = one.place; room_is = one.room })
-        c.if-number-ne0.true in record {
+    c.if-number-ne0.true in record {
       number = told.0;
       length = told.1.0;
       place = told.1.1.0;

@@ -26,7 +26,7 @@ returns g c =
           let size : number_size short ≡ 5 = sym c.number_size.ensures.0 ∙ w.if-number_size-eq5.true in
           let has_four : length four ≡ 4 = search rules in
           let second : Consumes (left c.read_full.new.reader) (left w.read_full-then-number_size-eq5.new.reader) four = whole_read _ _ four _
-              w.in_ok-read_full-2.ensures (search rules) in
+          w.in_ok-read_full-2.ensures (search rules) in
           let is : number_in (short ++ four) ≡ c.if-number_size-eq5.n =
           long_number short four one has_four size ∙ sym (ap little (take_all 4 four (search rules))) ∙ sym (w.n-is ∙ w.four-n.ensures.0) in
           case_read _ (left c.if-number_size-eq5.reader) _ (short ++ four) part _ c.if-number_size-eq5.n is

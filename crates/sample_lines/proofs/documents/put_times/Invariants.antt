@@ -7,7 +7,7 @@ use Rattle.sample_lines.proofs.documents.put_times.Given as goal
 abbrev pub invariant-loop-i : goal.invariant-loop-i
 invariant-loop-i l = (length l.d ≡ length l.initial.d) × (l.i ≤ l.times) ×
     ((seen l.d l.n >>= extended (length l.initial.d) (repeated (l.times - l.i) l.bytes)) ≡ (seen l.initial.d l.len >>= extended (length l.initial.d)
-        (repeated l.times l.bytes)))
+    (repeated l.times l.bytes)))
 
 abbrev pub decreases-loop-i : goal.decreases-loop-i
 decreases-loop-i l = l.times - l.i
