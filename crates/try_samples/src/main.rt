@@ -3,11 +3,12 @@
 #![tactic(auto)]
 
 use compared::byte_or;
+use program::Input;
 use sample_calls::Wanted;
 use sample_lines::Tally;
 use splitter::{Code, Cursor, Step};
 use std::io;
-use std::io::{Read, Write};
+use std::io::Write;
 
 mod output;
 
@@ -228,15 +229,26 @@ fn run<W: Write>(
 }
 
 // The list has at most so many bytes; what follows them is not read.
-const LIST: u64 = 65536;
+const LIST: usize = 65536;
 
-// Reads the list from standard input, and runs it. A read or a write that fails ends the program with its error.
+// Reads the list from standard input, and runs it. A write that fails ends the program with its error.
 fn main(rt: HostRuntime) -> io::Result<()> {
-    let mut list = Vec::new(rt.alloc());
-    rt.stdin().take(LIST).read_to_end(&mut list)?;
+    let mut list = [0u8; LIST];
+    let n = match program::read_input(&mut rt.stdin(), &mut list) {
+        Input::Bytes(n) => n,
+        Input::Failed => return program::complain(
+            &mut rt.stderr(),
+            b"try_samples: reading standard input failed\n",
+        ),
+    };
     let mut document = [0u8; 33000];
     let mut text = [0u8; 512];
     let mut writer = rt.stdout();
-    let s = run(&mut writer, &list, &mut document, &mut text)?;
+    let s = run(
+        &mut writer,
+        base::get(&list, 0, n),
+        &mut document,
+        &mut text,
+    )?;
     output::print_tally(&mut writer, s.tally)
 }
