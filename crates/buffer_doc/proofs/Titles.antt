@@ -152,8 +152,7 @@ line_stops [] h = let z : ⊥ = omega arith in absurd z
 line_stops (b ∷ s) h = go (λ k. line_stops s k) (is_line_end b) refl h
   where
     go : (length (line s) < length s → get_or s (length (line s)) 0 ≡ 0x0A) → (t : Bool) → is_line_end b ≡ t
-        → length (when t then [] else b ∷ before is_line_end s) < length (b ∷ s)
-        → get_or (b ∷ s) (length (when t then [] else b ∷ before is_line_end s)) 0 ≡ 0x0A
+        → length (when t then [] else b ∷ before is_line_end s) < length (b ∷ s) → get_or (b ∷ s) (length (when t then [] else b ∷ before is_line_end s)) 0 ≡ 0x0A
     go rest true e h = eqb-true b 0x0A e
     go rest false e h = rest (omega arith)
 

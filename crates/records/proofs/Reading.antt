@@ -124,8 +124,7 @@ module _ (s : List ℕ) (at : ℕ) where
   module _ (k : Kind) (h : at < length s) (ek : k ≡ kind_of (little (take 2 (drop (at + 4) s)))) where
     listed_here : (start next : ℕ) → start ≡ at + length (take 6 (drop at s)) → part s start next ≡ take (size (drop at s)) (drop (at + 6) s)
         → tokens_from s next ≡ tokens_from s (next_at s at)
-        → tokens_from s at ≡ when ltb at (length s) then token_of s at
-        (record { kind = k; start = start; stop = next; next = next }) ∷ tokens_from s next else []
+        → tokens_from s at ≡ when ltb at (length s) then token_of s at (record { kind = k; start = start; stop = next; next = next }) ∷ tokens_from s next else []
     unfolding token_at
     listed_here start next d b t =
         tokens_at s at h

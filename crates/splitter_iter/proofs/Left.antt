@@ -1,6 +1,5 @@
 -- The chunks that are left: a step takes the first of them, and there are at most as many as bytes. Assumes nothing.
-use Rattle.splitter_iter.proofs.Names.{arith, Code, Step, placed-take, placed-done, body_of, cursor_of, left, has_chunk, Splitter, splitter, after_step}
-use Rattle.splitter_iter.proofs.Names.{first_chunk}
+use Rattle.splitter_iter.proofs.Names.{arith, Code, Step, placed-take, placed-done, body_of, cursor_of, left, has_chunk, Splitter, splitter, after_step, first_chunk}
 use Prim.Native.Nat.{ℕ, zero, suc, ◌+◌, ◌-◌, ◌≤◌}
 use mathlib.Core.Path.{◌≡◌, ap, sym}
 use mathlib.Core.Bool.{true, false, false≢true}

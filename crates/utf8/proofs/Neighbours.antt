@@ -102,16 +102,14 @@ starts_over b h = rw (le-ltb b 0x80 (omega arith), le-leb 0xC2 b (omega arith), 
 
 -- the first byte of a character, and what is due after it
 module _ (r q p b : ℕ) (s : List ℕ) (n : Due r q p []) (rest : (due : List Range) → Due q p b due → well_formed due s ≡ sound q p b s) where
-  begins_with : (due : List Range) → (row_of b).after ≡ due → starts b ≡ true → Due q p b due
-      → well_formed (row_of b).after s ≡ (beside r q p b && sound q p b s)
+  begins_with : (due : List Range) → (row_of b).after ≡ due → starts b ≡ true → Due q p b due → well_formed (row_of b).after s ≡ (beside r q p b && sound q p b s)
   begins_with due e f d = rw (e, beside-start r q p b (asks_none r q p n.0 n.1 n.2), f) (rest due d)
 
   begins-not : (row_of b).after ≡ never.after → starts b ≡ false → well_formed (row_of b).after s ≡ (beside r q p b && sound q p b s)
   begins-not e f = rw (e, beside-start r q p b (asks_none r q p n.0 n.1 n.2), f) (never_fits s)
 
   -- a first byte of three: after 0xE0 and 0xED the range is narrowed
-  pair : (x : Range) → (row_of b).after ≡ x ∷ tail → x ≡ low b to high b → 0xE0 ≤ b → b < 0xF0
-      → well_formed (row_of b).after s ≡ (beside r q p b && sound q p b s)
+  pair : (x : Range) → (row_of b).after ≡ x ∷ tail → x ≡ low b to high b → 0xE0 ≤ b → b < 0xF0 → well_formed (row_of b).after s ≡ (beside r q p b && sound q p b s)
   pair x e f g h =
       begins_with (x ∷ tail) e (starts_more b (omega arith) (omega arith)) (two_due q p b x (asks_p q p b (omega arith)) (λ c. asks_q p b c g) h f)
 

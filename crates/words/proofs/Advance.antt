@@ -64,8 +64,7 @@ module _ {I L : Type 0} (full : I → Bool) (chunk : I → ℕ → Placed → Pa
           run_follows n f.next (omega (arith, f.more)) (omega (arith, f.more)) f.near ∙ chunk_follows p a l f)
           (le_or_lt to p)
 
-      pub run_there : at ≤ to → (shown room (len + (to - at)) kept (after (characters (part x at to)) lay) >>= walk_from full chunk i
-          (length room) x to code.No)
+      pub run_there : at ≤ to → (shown room (len + (to - at)) kept (after (characters (part x at to)) lay) >>= walk_from full chunk i (length room) x to code.No)
           ≡ (shown room len kept (after 0 lay) >>= walk_from full chunk i (length room) x at code.No)
       run_there h =
           let z : at - at ≡ 0 = omega arith in

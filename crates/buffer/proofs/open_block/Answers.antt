@@ -10,8 +10,7 @@ returns-then-depth-ge-MAX_OPEN c =
     let so_far_holds = c.so_far-o in
     let o = so_far_holds.result in
     let told = says-refused (a.room.now) (refusal.TooDeep a.len) (opens_too_deep o.stack o.depth
-    (so_far_accepted (a.room.now) a.len o so_far_holds.ensures.«open» c.in-Accepted.is) so_far_holds.ensures.shallow a.b c.if-depth-ge-MAX_OPEN.true) in
-    record {
+    (so_far_accepted (a.room.now) a.len o so_far_holds.ensures.«open» c.in-Accepted.is) so_far_holds.ensures.shallow a.b c.if-depth-ge-MAX_OPEN.true) in record {
       answer = told.0;
       room = told.1;
     }

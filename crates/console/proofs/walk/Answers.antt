@@ -54,16 +54,16 @@ pub records-smaller-in-Unknown : goal.records-smaller-in-Unknown
 records-smaller-in-Unknown c =
     let w = c in
     let s = w.records in
-    absurd (stand_known _ _ _ _ s.room s.margins s.count s.m s.at s.invariant.0 w.whole_at-h.result
-    (read (goal.at.records-smaller-in-Unknown c).After-whole_at-h)
+    absurd (stand_known _ _ _ _ s.room s.margins s.count s.m s.at s.invariant.0 w.whole_at-h.result (read
+    (goal.at.records-smaller-in-Unknown c).After-whole_at-h)
     w.records-test.true c.in-Unknown.is)
 
 pub records-preserved-in-Unknown : goal.records-preserved-in-Unknown
 records-preserved-in-Unknown c =
     let w = c in
     let s = w.records in
-    absurd (stand_known _ _ _ _ s.room s.margins s.count s.m s.at s.invariant.0 w.whole_at-h.result
-    (read (goal.at.records-preserved-in-Unknown c).After-whole_at-h)
+    absurd (stand_known _ _ _ _ s.room s.margins s.count s.m s.at s.invariant.0 w.whole_at-h.result (read
+    (goal.at.records-preserved-in-Unknown c).After-whole_at-h)
     w.records-test.true c.in-Unknown.is)
 
 pub records-smaller-in-Start : goal.records-smaller-in-Start
@@ -86,10 +86,10 @@ records-preserved-in-Start c =
     let s = after-records.records in
     let p = after-records.requires in
     let look = after-look-ahead.look_ahead-ahead.ensures (known (goal.at.records-preserved-in-Start c).After-whole_at-h) in
-    let fit = stand_startable _ _ _ _ s.room s.margins s.count s.m s.at s.invariant.0 w.whole_at-h.result
-    (read (goal.at.records-preserved-in-Start c).After-whole_at-h) l _ e p.0 p.1 in (
-      stand_started _ _ _ _ s.room s.margins s.count s.m s.at s.invariant.0 w.whole_at-h.result
-          (read (goal.at.records-preserved-in-Start c).After-whole_at-h) l _ _ look g.new.room
+    let fit = stand_startable _ _ _ _ s.room s.margins s.count s.m s.at s.invariant.0 w.whole_at-h.result (read
+    (goal.at.records-preserved-in-Start c).After-whole_at-h) l _ e p.0 p.1 in (
+      stand_started _ _ _ _ s.room s.margins s.count s.m s.at s.invariant.0 w.whole_at-h.result (read
+          (goal.at.records-preserved-in-Start c).After-whole_at-h) l _ _ look g.new.room
           g.new.margins g.result.count g.result.mark e g.auto.room g.auto.margins (g.ensures.mark_after fit) g.ensures.counts g.ensures.moved
           g.ensures.deeper p.1,
       look.known,
@@ -113,8 +113,8 @@ records-preserved-in-End c =
     let pre = after-records.requires in
     let fits = stand_column _ _ _ _ s.room s.margins s.count s.m s.at s.invariant.0 pre.0 in
     let few = stand_count _ _ _ _ s.room s.margins s.count s.m s.at s.invariant.0 in (
-      stand_ended _ _ _ _ s.room s.margins s.count s.m s.at s.invariant.0 w.whole_at-h.result
-          (read (goal.at.records-preserved-in-End c).After-whole_at-h) records-test.true _ g.new.room
+      stand_ended _ _ _ _ s.room s.margins s.count s.m s.at s.invariant.0 w.whole_at-h.result (read
+          (goal.at.records-preserved-in-End c).After-whole_at-h) records-test.true _ g.new.room
           g.result.count g.result.mark after-k2.in-End.is g.auto.room (g.ensures.mark_after fits s.margins few) g.ensures.counts g.ensures.moved,
       known (goal.at.records-preserved-in-End c).After-whole_at-h,
     )
@@ -131,8 +131,8 @@ records-preserved-then-enabled c =
     let w = c in
     let records-test = w.records-test in
     let s = w.records in (
-      stand_hidden _ _ _ _ s.room s.margins s.count s.m s.at s.invariant.0 w.whole_at-h.result
-          (read (goal.at.records-preserved-then-enabled c).After-whole_at-h) records-test.true _
+      stand_hidden _ _ _ _ s.room s.margins s.count s.m s.at s.invariant.0 w.whole_at-h.result (read
+          (goal.at.records-preserved-then-enabled c).After-whole_at-h) records-test.true _
           c.in-Text.is (ltb-true 0 s.m.lay.skip (sym c.enabled.ensures ∙ c.if-enabled.true)),
       known (goal.at.records-preserved-then-enabled c).After-whole_at-h,
     )
@@ -193,8 +193,8 @@ records-preserved-then-body-from c =
     let i =
     write_words _ _ _ _ _ _ _ _ _ v.room v.m (cursor v.from v.code) v.invariant u.new.room u.result.mark u.result.at u.auto.room
     u.ensures in (
-      body-done _ _ _ _ s.room s.margins s.count s.m s.at s.invariant.0 w.whole_at-h.result
-          (read (goal.at.records-preserved-then-body-from c).After-whole_at-h) records-test.true
+      body-done _ _ _ _ s.room s.margins s.count s.m s.at s.invariant.0 w.whole_at-h.result (read
+          (goal.at.records-preserved-then-body-from c).After-whole_at-h) records-test.true
           pre.0 _ after-enum-told2.in-Text.is top-margin.result.0 top-margin.ensures u.new.room u.result.mark (cursor u.result.at v.code)
           i
           (placed-done _ (cursor u.result.at v.code) (sym (first-none _ (cursor u.result.at v.code) c.if-body-from.true))),
@@ -221,16 +221,16 @@ put_piece-placed-requires c =
     u.ensures in
     let t = took _ (cursor u.result.at v.code) step-at.result _ _ c.in-Take.is (step-at.ensures.chunk, step-at.ensures.within) in
     let low =
-    margin_low _ _ _ _ s.room s.margins s.count s.m s.at s.invariant.0 w.whole_at-h.result
-    (read (goal.at.put_piece-placed-requires c).After-whole_at-h) records-test.true
+    margin_low _ _ _ _ s.room s.margins s.count s.m s.at s.invariant.0 w.whole_at-h.result (read
+    (goal.at.put_piece-placed-requires c).After-whole_at-h) records-test.true
     pre.0 _ after-enum-told2.in-Text.is top-margin.result.0 top-margin.ensures in (
-      column_low _ _ _ _ s.room s.margins s.count s.m s.at s.invariant.0 w.whole_at-h.result
-          (read (goal.at.put_piece-placed-requires c).After-whole_at-h) records-test.true
+      column_low _ _ _ _ s.room s.margins s.count s.m s.at s.invariant.0 w.whole_at-h.result (read
+          (goal.at.put_piece-placed-requires c).After-whole_at-h) records-test.true
           pre.0 _ after-enum-told2.in-Text.is top-margin.result.0 top-margin.ensures u.new.room u.result.mark (cursor u.result.at v.code)
           i,
       omega (arith, low),
-      body_few _ _ _ _ s.room s.margins s.count s.m s.at s.invariant.0 w.whole_at-h.result
-          (read (goal.at.put_piece-placed-requires c).After-whole_at-h) records-test.true
+      body_few _ _ _ _ s.room s.margins s.count s.m s.at s.invariant.0 w.whole_at-h.result (read
+          (goal.at.put_piece-placed-requires c).After-whole_at-h) records-test.true
           pre.0 _ after-enum-told2.in-Text.is top-margin.result.0 top-margin.ensures,
       (let r = read (goal.at.put_piece-placed-requires c).After-whole_at-h in omega (arith, r.order, r.high, pre.0)),
       t.piece,
@@ -294,8 +294,8 @@ records-preserved-then-ends_body c =
     let i =
     write_words _ _ _ _ _ _ _ _ _ v.room v.m (cursor v.from v.code) v.invariant u.new.room u.result.mark u.result.at u.auto.room
     u.ensures in (
-      body-stop _ _ _ _ s.room s.margins s.count s.m s.at s.invariant.0 w.whole_at-h.result
-          (read (goal.at.records-preserved-then-ends_body c).After-whole_at-h) records-test.true
+      body-stop _ _ _ _ s.room s.margins s.count s.m s.at s.invariant.0 w.whole_at-h.result (read
+          (goal.at.records-preserved-then-ends_body c).After-whole_at-h) records-test.true
           pre.0 _ after-enum-told2.in-Text.is top-margin.result.0 top-margin.ensures u.new.room u.result.mark (cursor u.result.at v.code)
           i _ _ (took _ (cursor u.result.at v.code) step-at.result _ _ after-put-piece.in-Take.is (
             step-at.ensures.chunk,
@@ -327,8 +327,8 @@ chunks-preserved c =
     let i =
     write_words _ _ _ _ _ _ _ _ _ v.room v.m (cursor v.from v.code) v.invariant u.new.room u.result.mark u.result.at u.auto.room
     u.ensures in
-    body-on _ _ _ _ s.room s.margins s.count s.m s.at s.invariant.0 w.whole_at-h.result
-    (read (goal.at.chunks-preserved c).After-whole_at-h) records-test.true pre.0
+    body-on _ _ _ _ s.room s.margins s.count s.m s.at s.invariant.0 w.whole_at-h.result (read
+    (goal.at.chunks-preserved c).After-whole_at-h) records-test.true pre.0
     _ after-enum-told2.in-Text.is top-margin.result.0 top-margin.ensures u.new.room u.result.mark (cursor u.result.at v.code) i _ _
     (took _ (cursor u.result.at v.code) step-at.result _ _ after-put-piece.in-Take.is (step-at.ensures.chunk, step-at.ensures.within)) g.new.room _ g.auto.room
     (placed_at g.new.room (take s.count s.margins) g.result _ _ after-placed2.in-At.is (g.ensures.by_index (take s.count s.margins)))

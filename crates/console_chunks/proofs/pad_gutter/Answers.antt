@@ -36,8 +36,7 @@ pub returns-else-column-ge-MAX_TABSTOP : goal.returns-else-column-ge-MAX_TABSTOP
 returns-else-column-ge-MAX_TABSTOP c =
     let a = c.args in
     let n = length a.room.now in record {
-      result_after = (λ fits kept. idle a.room.now a.m.len.0 kept a.m.lay (pad_gutter n a.padded.0)
-          (λ h. gap_near n _ a.padded.0 c.if-column-ge-MAX_TABSTOP.false));
+      result_after = (λ fits kept. idle a.room.now a.m.len.0 kept a.m.lay (pad_gutter n a.padded.0) (λ h. gap_near n _ a.padded.0 c.if-column-ge-MAX_TABSTOP.false));
       near = near_same 2 a.m.lay;
     }
 

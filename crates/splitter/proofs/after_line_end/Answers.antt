@@ -42,8 +42,7 @@ returns-then-starts_with c =
     let l = t in
     let s = l in
     c.found-then-starts_with.ensures
-    ∙ after-ticks (s.args.body.now) (s.args.tail.now) s.args.start s.requires (no_code (goal.at.returns-then-starts_with c).Else-code-tail)
-    (sym t.starts_with.ensures ∙ t.if-starts_with.true)
+    ∙ after-ticks (s.args.body.now) (s.args.tail.now) s.args.start s.requires (no_code (goal.at.returns-then-starts_with c).Else-code-tail) (sym t.starts_with.ensures ∙ t.if-starts_with.true)
 
 pub returns-then-starts_with-2 : goal.returns-then-starts_with-2
 returns-then-starts_with-2 c =
@@ -51,8 +50,7 @@ returns-then-starts_with-2 c =
     let l = t in
     let s = l in
     c.found-then-starts_with-2.ensures
-    ∙ after-four (s.args.body.now) (s.args.tail.now) s.args.start s.requires (no_code (goal.at.returns-then-starts_with-2 c).Else-code-tail)
-    (no-ticks (goal.at.returns-then-starts_with-2 c).Else-starts_with)
+    ∙ after-four (s.args.body.now) (s.args.tail.now) s.args.start s.requires (no_code (goal.at.returns-then-starts_with-2 c).Else-code-tail) (no-ticks (goal.at.returns-then-starts_with-2 c).Else-starts_with)
     (sym t.starts_with-2.ensures ∙ t.if-starts_with-2.true)
 
 pub returns-then-second-tail : goal.returns-then-second-tail
@@ -63,8 +61,7 @@ returns-then-second-tail c =
     let s = l in
     let p = t.strip_prefix-second in
     c.found-then-second-tail.ensures
-    ∙ after_para (s.args.body.now) (s.args.tail.now) s.args.start s.requires (no_code (goal.at.returns-then-second-tail c).Else-code-tail)
-    (no-ticks (goal.at.returns-then-second-tail c).Else-starts_with) (no-four (goal.at.returns-then-second-tail c).Else-starts_with-2)
+    ∙ after_para (s.args.body.now) (s.args.tail.now) s.args.start s.requires (no_code (goal.at.returns-then-second-tail c).Else-code-tail) (no-ticks (goal.at.returns-then-second-tail c).Else-starts_with) (no-four (goal.at.returns-then-second-tail c).Else-starts_with-2)
     (p.result.now) p.ensures t.if-second-tail.true
 
 pub returns-then-spaced-tail : goal.returns-then-spaced-tail
@@ -76,8 +73,7 @@ returns-then-spaced-tail c =
     let s = l in
     let p = t.strip_prefix-spaced in
     c.found-then-spaced-tail.ensures
-    ∙ after_break (s.args.body.now) (s.args.tail.now) s.args.start s.requires (no_code (goal.at.returns-then-spaced-tail c).Else-code-tail)
-    (no-ticks (goal.at.returns-then-spaced-tail c).Else-starts_with) (no-four (goal.at.returns-then-spaced-tail c).Else-starts_with-2)
+    ∙ after_break (s.args.body.now) (s.args.tail.now) s.args.start s.requires (no_code (goal.at.returns-then-spaced-tail c).Else-code-tail) (no-ticks (goal.at.returns-then-spaced-tail c).Else-starts_with) (no-four (goal.at.returns-then-spaced-tail c).Else-starts_with-2)
     (no_second (goal.at.returns-then-spaced-tail c).Else-second-tail) (p.result.now) p.ensures t.if-spaced-tail.true
 
 pub returns : goal.returns
@@ -88,6 +84,5 @@ returns c =
     let i = j in
     let s = l in
     c.found-2.ensures
-    ∙ after_space (s.args.body.now) (s.args.tail.now) s.args.start s.requires (no_code (goal.at.returns c).Else-code-tail)
-    (no-ticks (goal.at.returns c).Else-starts_with) (no-four (goal.at.returns c).Else-starts_with-2)
+    ∙ after_space (s.args.body.now) (s.args.tail.now) s.args.start s.requires (no_code (goal.at.returns c).Else-code-tail) (no-ticks (goal.at.returns c).Else-starts_with) (no-four (goal.at.returns c).Else-starts_with-2)
     (no_second (goal.at.returns c).Else-second-tail) (no_space (goal.at.returns c).Else-spaced-tail)

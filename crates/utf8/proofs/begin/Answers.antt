@@ -33,8 +33,7 @@ returns-then-fault-ne0-3 c =
     let e = f in
     let b = e in
     let s = b.args.s.now in
-    begun_third s b.requires.0 (first_in (goal.at.returns-then-fault-ne0-3 c).Else-fault-ne0) (second_in (goal.at.returns-then-fault-ne0-3 c).Else-fault-ne0-2)
-    (fault_some (third s) c.fault-3.ensures c.if-fault-ne0-3.true)
+    begun_third s b.requires.0 (first_in (goal.at.returns-then-fault-ne0-3 c).Else-fault-ne0) (second_in (goal.at.returns-then-fault-ne0-3 c).Else-fault-ne0-2) (fault_some (third s) c.fault-3.ensures c.if-fault-ne0-3.true)
 
 pub returns : goal.returns
 returns c =
@@ -42,5 +41,4 @@ returns c =
     let e = f in
     let b = e in
     let s = b.args.s.now in
-    begun-on s b.requires.0 (first_in (goal.at.returns c).Else-fault-ne0) (second_in (goal.at.returns c).Else-fault-ne0-2)
-    (fault_none (third s) c.fault-3.ensures c.if-fault-ne0-3.false)
+    begun-on s b.requires.0 (first_in (goal.at.returns c).Else-fault-ne0) (second_in (goal.at.returns c).Else-fault-ne0-2) (fault_none (third s) c.fault-3.ensures c.if-fault-ne0-3.false)

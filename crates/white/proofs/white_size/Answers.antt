@@ -36,8 +36,7 @@ returns-then-white2 c =
     let after-if2 = c in
     let if2 = after-if2.if-white1 in
     let args = after-if2.args in
-    size_2 (take args.e args.s.now) (known1 (goal.at.returns-then-white2 c).After-white1 ∙ if2.false)
-    (known2 (goal.at.returns-then-white2 c).After-white2 ∙ c.if-white2.true)
+    size_2 (take args.e args.s.now) (known1 (goal.at.returns-then-white2 c).After-white1 ∙ if2.false) (known2 (goal.at.returns-then-white2 c).After-white2 ∙ c.if-white2.true)
 
 pub returns-then-e-lt3 : goal.returns-then-e-lt3
 returns-then-e-lt3 c =
