@@ -4,32 +4,33 @@
 
 ghost use Rattle.std.specs.Prelude.{◌≡◌, length};
 ghost use Rattle.base.specs.Result.{measured};
-ghost use Rattle.renderer.specs.Rendered.{answered, filled};
+ghost use Rattle.refusal.specs.Answers.{answered};
+ghost use Rattle.renderer.specs.Rendered.{filled};
 ghost use Rattle.any_renderer.specs.InnerRenders.{renders, too_wide};
 
 use console_rules::{MAX_WIDTH, Settings};
-use renderer::Rendered;
+use refusal::Refusal;
 
-// What is asked for: the console, HTML and strict HTML (`full`, then the style sheet), Markdown (`full`), roff.
+// What is asked for: the console, HTML, strict HTML, Markdown, roff; `css` is the style sheet.
 #[derive(Clone, Copy)]
 pub enum Asked {
     Console(Settings),
-    Html(bool, bool),
-    StrictHtml(bool, bool),
-    Markdown(bool),
+    Html { full: bool, css: bool },
+    StrictHtml { full: bool, css: bool },
+    Markdown { full: bool },
     Roff,
 }
 
 // What is asked for, of a document.
-pub fn render_any(document: &[u8], asked: Asked, room: &mut [u8]) -> Rendered
+pub fn render_any(document: &[u8], asked: Asked, room: &mut [u8]) -> Result<usize, Refusal>
     ensures answer { answered result ≡ measured (renders asked (length room.old) document.now) }
     ensures room { room.new ≡ filled (length room.old) (renders asked (length room.old) document.now) }
 {
     match asked {
         Asked::Console(set) => console::render_console(document, set, room),
-        Asked::Html(full, css) => html::render_html(document, full, css, room),
-        Asked::StrictHtml(full, css) => html::render_html_strict(document, full, css, room),
-        Asked::Markdown(full) => markdown::render_markdown(document, full, room),
+        Asked::Html { full, css } => html::render_html(document, full, css, room),
+        Asked::StrictHtml { full, css } => html::render_html_strict(document, full, css, room),
+        Asked::Markdown { full } => markdown::render_markdown(document, full, room),
         Asked::Roff => manpage::render_roff(document, room),
     }
 }
@@ -40,9 +41,6 @@ pub fn too_wide(asked: Asked) -> bool
 {
     match asked {
         Asked::Console(set) => MAX_WIDTH < set.width,
-        Asked::Html(_, _) => false,
-        Asked::StrictHtml(_, _) => false,
-        Asked::Markdown(_) => false,
-        Asked::Roff => false,
+        _ => false,
     }
 }

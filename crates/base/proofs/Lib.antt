@@ -6,3 +6,4 @@ pub mod Stack
 pub mod Parts
 pub mod Results
 pub mod Pasting
+pub mod Counting

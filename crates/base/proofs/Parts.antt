@@ -1,5 +1,5 @@
 -- Parts of lists. Assumes nothing.
-use Rattle.base.proofs.Names.{ℕ, zero, suc, ◌-◌, ◌≤◌, ◌≡◌, sym, List, [], ◌∷◌, length, take, drop, length-drop, drop_of_length-le, take_all, take-nil}
+use Rattle.base.proofs.Names.{ℕ, zero, suc, ◌-◌, ◌≤◌, ◌≡◌, sym, List, [], ◌∷◌, length, take, drop, length-drop, take_all, take-nil}
 use Rattle.base.proofs.Names.{drop-nil, suc-sub-suc, sub-zero, sub-one, arith}
 
 module _ {A : Type 0} where
@@ -12,10 +12,6 @@ module _ {A : Type 0} where
     -- a part that ends no later than it starts
     pub part_none : to ≤ from → take (to - from) (drop from l) ≡ []
     part_none h = let z : to - from ≡ 0 = omega arith in rw z
-
-    -- a part that starts at the end or past it
-    pub part-past : length l ≤ from → take (to - from) (drop from l) ≡ []
-    part-past h = rw (drop_of_length-le l h) (take-nil (to - from))
 
     -- a part that ends at the end or past it
     pub part_over : length l ≤ to → take (to - from) (drop from l) ≡ drop from l

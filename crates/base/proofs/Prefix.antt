@@ -1,23 +1,10 @@
--- A prefix compared one byte at a time, and what has it. Assumes nothing.
-use Rattle.base.proofs.Names.{ℕ, suc, ◌+◌, ◌≤◌, ◌<◌, ◌≡◌, refl, sym, ◌∙◌, Bool, true, false, ◌&&◌, false≢true, List, [], ◌∷◌, ◌++◌, eqb, length, drop}
-use Rattle.base.proofs.Names.{get_or, length-drop, drop_of_length-le, drop-cons, add-one, arith, eqb-true, starts_with}
-use Rattle.base.proofs.Choice.{and_left, and_right}
-
-module _ (p s : List ℕ) (at i : ℕ) where
-  pub starts-next : i < length p → at + i < length s
-      → starts_with (drop i p) (drop (at + i) s) ≡ (eqb (get_or s (at + i) 0) (get_or p i 0) && starts_with (drop (i + 1) p) (drop (at + (i + 1)) s))
-  unfolding starts_with
-  starts-next h k =
-      let e : at + (i + 1) ≡ suc (at + i) = omega arith in
-      rw (e, drop-cons p i 0 h, drop-cons s (at + i) 0 k, add-one i)
-
-  pub starts-short : i < length p → length s ≤ at + i → starts_with (drop i p) (drop (at + i) s) ≡ false
-  unfolding starts_with
-  starts-short h k = rw (drop-cons p i 0 h, drop_of_length-le s k)
-
-  pub starts-end : length p ≤ i → starts_with (drop i p) (drop (at + i) s) ≡ true
-  unfolding starts_with
-  starts-end h = rw (drop_of_length-le p h)
+-- A prefix, and what has it. Assumes nothing.
+use Rattle.base.proofs.Names.{ℕ, ◌+◌, ◌≤◌, ◌<◌, ◌≡◌, refl, sym, ◌∙◌, Bool, true, false, ◌&&◌, false≢true, List, [], ◌∷◌, ◌++◌, eqb, length, drop, get_or, ◌-◌, ⊎_elim}
+use Rattle.base.proofs.Names.{length-drop, drop-length, drop-cons, add-one, arith, le-leb, lt-leb, eq-eqb, ne_eqb, eqb-true, starts_with}
+use Rattle.base.proofs.Choice.{and_left, and_right, not-passed, same_test, le_or_lt}
+use Rattle.std.specs.List.{ends_with as library}
+use Rattle.base.specs.Bytes.{ends_with}
+use lib.Pointwise.{pointwise}
 
 -- what has a prefix is that and the rest
 pub starts-split : (p s : List ℕ) → starts_with p s ≡ true → s ≡ p ++ drop (length p) s
@@ -36,3 +23,43 @@ starts-length (x ∷ p) (b ∷ s) e = let h = starts-length p s (and_right (eqb 
 
 pub starts_fits : (p s : List ℕ) (at : ℕ) (r : Bool) → at ≤ length s → r ≡ starts_with p (drop at s) → r ≡ true → at + length p ≤ length s
 starts_fits p s at r h e f = let k = starts-length p (drop at s) (sym e ∙ f) in omega (arith, length-drop at s)
+
+-- what is shorter does not have it
+pub starts-short : (p s : List ℕ) → length s < length p → starts_with p s ≡ false
+starts-short p s h = not-passed (starts_with p s) (λ e. let l = starts-length p s e in omega arith)
+
+-- compared from a place on, one byte more
+module _ (p s : List ℕ) (i : ℕ) (h : i < length p) (k : length p ≤ length s) where
+  starts-next : starts_with (drop i p) (drop i s) ≡ (eqb (get_or s i 0) (get_or p i 0) && starts_with (drop (i + 1) p) (drop (i + 1) s))
+  unfolding starts_with
+  starts-next = let l : i < length s = omega arith in rw (drop-cons p i 0 h, drop-cons s i 0 l, add-one i)
+
+  pub starts-on : get_or s i 0 ≡ get_or p i 0 → starts_with (drop i p) (drop i s) ≡ starts_with (drop (i + 1) p) (drop (i + 1) s)
+  starts-on e = starts-next ∙ simp (eq-eqb _ _ e)
+
+  pub starts-not : (get_or s i 0 ≡ get_or p i 0 → ⊥) → starts_with (drop i p) (drop i s) ≡ false
+  starts-not n = starts-next ∙ simp (ne_eqb _ _ n)
+
+pub starts-end : (p s : List ℕ) (i : ℕ) → i ≡ length p → starts_with (drop i p) s ≡ true
+unfolding starts_with
+starts-end p s i e = rw (e, drop-length p)
+
+-- the library's test of an end says the same
+eqb_turned : (a b : ℕ) → eqb a b ≡ eqb b a
+eqb_turned a b = same_test (eqb a b) (eqb b a) (λ e. eq-eqb b a (sym (eqb-true a b e))) (λ e. eq-eqb a b (sym (eqb-true b a e)))
+
+each_equal : (x t : List ℕ) → length t ≤ length x → pointwise eqb x t ≡ starts_with x t
+unfolding starts_with
+each_equal [] [] h = refl
+each_equal [] (b ∷ t) h = absurd (omega arith)
+each_equal (a ∷ x) [] h = refl
+each_equal (a ∷ x) (b ∷ t) h = rw (eqb_turned a b, each_equal x t (omega arith))
+
+pub ends_with-library : (x s : List ℕ) → library eqb s x ≡ ends_with x s
+unfolding ends_with
+ends_with-library x s =
+    let t = drop (length s - length x) s in
+    each_equal x t (omega (arith, length-drop (length s - length x) s))
+    ∙ ⊎_elim (λ (h : length x ≤ length s). rw (le-leb (length x) (length s) h))
+    (λ (h : length s < length x). rw (lt-leb (length x) (length s) h) (starts-short x t (omega (arith, length-drop (length s - length x) s))))
+    (le_or_lt (length x) (length s))

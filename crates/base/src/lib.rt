@@ -1,115 +1,97 @@
-// What all rules, proofs and crates share: numbers and bytes, under the names that Rust has for them.
+// What all rules, proofs and crates share: parts of bytes, cut where the bytes end.
 
 #![tactic(auto)]
 
-ghost use Rattle.std.specs.Prelude.{◌≡◌, ◌-◌, ◌+◌, ◌<◌, ◌≤◌, min as min_of, max as max_of, length, drop};
+ghost use Rattle.std.specs.Prelude.{◌≡◌, ◌<◌, ◌≤◌, ℕ, Bool, length, drop};
+ghost use Rattle.std.specs.List.{list_any, count_by};
+ghost use Rattle.base.specs.Tests.{AnswersAs};
 ghost use Rattle.base.specs.Bytes.{part, starts_with, overwritten};
 
-// `usize::min`
-pub fn min(a: usize, b: usize) -> usize
-    ensures { result ≡ min_of a b }
+// The bytes from a place on, as far as there are any: `get` of a range without an end.
+pub fn get_from<'a>(s: &'a [u8], from: usize) -> &'a [u8]
+    ensures { result.now ≡ drop from s.now }
 {
-    if b < a {
-        return b;
-    }
-    a
+    if from <= s.len() { &s[from..] } else { &s[..0] }
 }
 
-// `usize::max`
-pub fn max(a: usize, b: usize) -> usize
-    ensures { result ≡ max_of a b }
-{
-    if a < b {
-        return b;
-    }
-    a
-}
-
-// `usize::saturating_sub`: a difference, down to 0.
-pub fn saturating_sub(a: usize, b: usize) -> usize
-    ensures { result ≡ a - b }
-{
-    if a < b {
-        return 0;
-    }
-    a - b
-}
-
-// `usize::from`: a byte as a number that can be added up.
-pub fn usize_from(b: u8) -> usize
-    ensures { (result ≡ b) × (result < 256) }
-{
-    b as usize
-}
-
-// `get` of a range: the bytes from a place up to another, as far as there are any.
+// The bytes from a place up to another, as far as there are any: `get` of a range.
 pub fn get<'a>(s: &'a [u8], from: usize, to: usize) -> &'a [u8]
     ensures { result.now ≡ part s.now from to }
 {
     if to <= from {
-        return &s[0..0];
-    }
-    if s.len() <= from {
-        return &s[0..0];
-    }
-    if s.len() <= to {
-        return &s[from..];
-    }
-    &s[from..to]
-}
-
-// `get` of a range without an end: the bytes from a place on.
-pub fn get_from<'a>(s: &'a [u8], from: usize) -> &'a [u8]
-    ensures { result.now ≡ drop from s.now }
-{
-    if from <= s.len() {
-        return &s[from..];
-    }
-    let n = s.len();
-    &s[n..]
-}
-
-// Some bytes into a room that holds them from `at` on.
-fn copy_in(room: &mut [u8], at: usize, bytes: &[u8])
-    requires { at + length bytes.now ≤ length room.old }
-    ensures { room.new ≡ overwritten room.old at bytes.now }
-{
-    let mut i: usize = 0;
-    while i < bytes.len() {
-        room[at + i] = bytes[i];
-        i += 1;
+        &s[..0]
+    } else if s.len() <= to {
+        get_from(s, from)
+    } else {
+        &s[from..to]
     }
 }
 
-// `copy_from_slice` into a room from `at` on; a room that does not hold the bytes there stays as it was.
+// `copy_from_slice` into a room from `at` on; a room that does not hold the bytes there stays as it was. Most are a few bytes, for which the library's
+// `copy_from_slice` costs more than this loop.
 pub fn copy_from_slice(room: &mut [u8], at: usize, bytes: &[u8])
     ensures { room.new ≡ overwritten room.old at bytes.now }
 {
-    if room.len() < at {
-        return;
+    if at <= room.len() && bytes.len() <= room.len() - at {
+        for i in 0..bytes.len() {
+            room[at + i] = bytes[i];
+        }
     }
-    if room.len() - at < bytes.len() {
-        return;
-    }
-    copy_in(room, at, bytes);
 }
 
-// Whether the bytes from `at` on start with some others.
+// Whether the bytes from `at` on start with some others. Most are a few bytes, for which the library's `starts_with` costs more than this loop.
 pub fn starts_with(s: &[u8], at: usize, prefix: &[u8]) -> bool
     ensures { result ≡ starts_with prefix.now (drop at s.now) }
 {
-    let mut i: usize = 0;
-    while i < prefix.len() {
-        if s.len() <= at {
+    let rest = get_from(s, at);
+    if rest.len() < prefix.len() {
+        return false;
+    }
+    for (i, b) in prefix.iter().enumerate() {
+        if rest[i] != *b {
             return false;
         }
-        if s.len() - at <= i {
-            return false;
-        }
-        if s[at + i] != prefix[i] {
-            return false;
-        }
-        i += 1;
     }
     true
+}
+
+// Whether one of some bytes passes a test. Each is tested, so that the compiler makes it a test of 16 at a time.
+pub fn any<F: Fn(u8) -> bool>(s: &[u8], test: F) -> bool
+    requires { F.IsAlwaysCallable test }
+    ensures { (p : ℕ → Bool) → AnswersAs F.post test p → result ≡ list_any p s.now }
+{
+    let mut found = false;
+    for b in s {
+        found |= test(*b);
+    }
+    found
+}
+
+// How many of some bytes pass a test, where a byte holds that number.
+pub fn few<F: Fn(u8) -> bool>(s: &[u8], test: &F) -> u8
+    requires size { length s.now < 256 }
+    requires callable { F.IsAlwaysCallable test.now }
+    ensures most { result ≤ length s.now }
+    ensures number { (p : ℕ → Bool) → AnswersAs F.post test.now p → result ≡ count_by p s.now }
+{
+    let mut n: u8 = 0;
+    for b in s {
+        if test(*b) {
+            n += 1;
+        }
+    }
+    n
+}
+
+// How many bytes pass a test: by blocks of 128, whose number a byte holds, so that the compiler counts 16 at a time.
+pub fn count<F: Fn(u8) -> bool>(s: &[u8], test: F) -> usize
+    requires { F.IsAlwaysCallable test }
+    ensures { (p : ℕ → Bool) → AnswersAs F.post test p → result ≡ count_by p s.now }
+{
+    let (blocks, rest) = s.as_chunks::<128>();
+    let mut n = usize::from(few(rest, &test));
+    for block in blocks {
+        n += usize::from(few(block, &test));
+    }
+    n
 }

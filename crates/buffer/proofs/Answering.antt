@@ -2,34 +2,40 @@
 use Rattle.buffer.proofs.Names.{ℕ, ◌+◌, ◌-◌, ◌≤◌, ◌<◌, ◌≡◌, sym, ap, ◌∙◌, Bool, true, false, ◌&&◌, List, ◌++◌, leb, ltb, length, take, length-take-le}
 use Rattle.buffer.proofs.Names.{arith, le-leb, lt-leb, leb-true, ltb-false, le-ltb, lt-ltb, when◌then◌else◌, Result, gives, refused, ◌>>=◌, measured}
 use Rattle.buffer.proofs.Names.{if_true, if_false, and_left, and_right, same_test, number, open_blocks, short, utf8, Style, written, so_far, fit}
-use Rattle.buffer.proofs.Names.{writes, built_as, kept, pasted, longer, Accepted, Goes}
+use Rattle.buffer.proofs.Names.{writes, Follows, kept, pasted, longer, Accepted, Goes}
+use Rattle.std.specs.Prelude.{Result as Answer, Ok, Err, IsErrAnd}
+use Rattle.std.proofs.lemmas.Result.{err_from_is_err_and}
 use Rattle.base.proofs.Results.{bind_gives, if_gives, else_gives, gives_same}
+use Rattle.refusal.specs.Answers.{answered}
 use Rattle.refusal.specs.Numbers.{refusal_number, refusal_place}
-use Rattle.document.specs.Answers.{opened_as}
 use Rattle.refusal.specs.declared.Refusal.{Refusal}
-use Rattle.document.specs.declared.Opened.{Opened}
-use Rattle.document.specs.declared.Checked.TheVariants as checked
-use Rattle.document.proofs.Walks.{verdict_gives, verdict_refused}
-use Rattle.buffer.specs.declared.Built.TheVariants as built
+use Rattle.refusal.proofs.Exits.{answered-gives, answered-refused}
 use Rattle.buffer.proofs.Pasting.{kept-pasted, front}
 
--- The two promises of a call
+-- What a call does
 
 -- it was refused, and the room is as it was
-pub says-refused : (room : List ℕ) (a : Refusal) {rule : Result (List ℕ)} → rule ≡ refused (refusal_number a) (refusal_place a)
-    → (built_as (built.Refused a) ≡ measured rule) × (room ≡ kept room rule)
-says-refused room a e = (sym (ap measured e), sym (ap (kept room) e))
+pub follows-refused : (room : List ℕ) (a : Refusal) {rule : Result (List ℕ)} → rule ≡ refused (refusal_number a) (refusal_place a)
+    → Follows rule room room (Err a)
+follows-refused room a e = record { answer = sym (ap measured e); room = sym (ap (kept room) e) }
+
+-- a `?` ended it
+pub follows-exit : (room : List ℕ) {rule : Result (List ℕ)} (r : Answer ℕ Refusal) (d : Refusal) → IsErrAnd r (λ e. e ≡ d)
+    → rule ≡ refused (refusal_number d) (refusal_place d) → Follows rule room room r
+follows-exit room r d h e = let p = err_from_is_err_and r h in rw (p.1, p.2) (follows-refused room d e)
 
 -- x stands from a place on
-pub says-length : (room new x : List ℕ) (at len : ℕ) {rule : Result (List ℕ)} → at ≤ length room → rule ≡ gives (take at room ++ x) → len ≡ at + length x
-    → new ≡ pasted room at x → (built_as (built.Length len) ≡ measured rule) × (new ≡ kept room rule)
-says-length room new x at len h e l p =
-    (ap gives (l ∙ sym (front room at x h)) ∙ sym (ap measured e), p ∙ sym (kept-pasted room at x h) ∙ sym (ap (kept room) e))
+pub follows-length : (room new x : List ℕ) (at len : ℕ) {rule : Result (List ℕ)} → at ≤ length room → rule ≡ gives (take at room ++ x)
+    → len ≡ at + length x → new ≡ pasted room at x → Follows rule room new (Ok len)
+follows-length room new x at len h e l p = record {
+  answer = ap gives (l ∙ sym (front room at x h)) ∙ sym (ap measured e);
+  room = p ∙ sym (kept-pasted room at x h) ∙ sym (ap (kept room) e);
+}
 
--- what holds by one rule holds by one that is the same
-pub says_same : {answer : Result ℕ} (room new : List ℕ) {rule other : Result (List ℕ)} → rule ≡ other → (answer ≡ measured rule) × (new ≡ kept room rule)
-    → (answer ≡ measured other) × (new ≡ kept room other)
-says_same room new e (f, g) = (f ∙ ap measured e, g ∙ ap (kept room) e)
+-- what follows one rule follows one that is the same
+pub follows_same : {answer : Answer ℕ Refusal} {room new : List ℕ} {rule other : Result (List ℕ)} → rule ≡ other → Follows rule room new answer
+    → Follows other room new answer
+follows_same {room} e f = record { answer = f.answer ∙ ap measured e; room = f.room ∙ ap (kept room) e }
 
 -- The document so far
 
@@ -77,13 +83,14 @@ unfolding ◌>>=◌
 stops rule (gives doc) f = rw f
 stops rule (refused m p) f = f
 
-module _ (room : List ℕ) (n : ℕ) (o : Opened) (e : opened_as o ≡ (so_far room n >>= open_blocks)) where
-  pub so_far_accepted : o.verdict ≡ checked.Accepted → SoFar room n (take o.depth o.stack)
-  so_far_accepted v = so_far-given room n _ (verdict_gives _ e v)
+module _ {o : Answer (List ℕ) Refusal} where
+  pub so_far_accepted : {room : List ℕ} {n : ℕ} {stack : List ℕ} → answered o ≡ (so_far room n >>= open_blocks) → o ≡ Ok stack → SoFar room n stack
+  so_far_accepted {room} {n} e f = so_far-given room n _ (answered-gives e f)
 
-  pub so_far-refused : {a : Refusal} (rule : List ℕ → List ℕ → Result (List ℕ)) → o.verdict ≡ checked.Refused a
+  pub so_far-refused : (room : List ℕ) (n : ℕ) {a : Refusal} (rule : List ℕ → List ℕ → Result (List ℕ))
+      → answered o ≡ (so_far room n >>= open_blocks) → o ≡ Err a
       → (so_far room n >>= λ doc. open_blocks doc >>= rule doc) ≡ refused (refusal_number a) (refusal_place a)
-  so_far-refused rule v = stops rule (so_far room n) (verdict_refused _ e v)
+  so_far-refused room n rule e f = stops rule (so_far room n) (answered-refused e f)
 
 pub so_far-on : {room : List ℕ} {n : ℕ} {stack : List ℕ} (s : SoFar room n stack) (rule : List ℕ → List ℕ → Result (List ℕ))
     → (so_far room n >>= λ doc. open_blocks doc >>= rule doc) ≡ rule (take n room) stack

@@ -1,7 +1,6 @@
--- A block's start and end, and a document in a block, added to the document so far. Assumes nothing.
-use Rattle.buffer.proofs.Names.{ℕ, ◌+◌, ◌-◌, ◌≤◌, ◌<◌, ◌≡◌, sym, ap, ◌∙◌, List, [], ◌++◌, length, take, get_or, length-take-le, arith, gives, refused}
-use Rattle.buffer.proofs.Names.{◌>>=◌, index, reads, stored, start, end, Block, fit, add, opens_block, closes_block}
-use Rattle.document.proofs.Opening.{opens-deep, opens-more, closes-none, closes-other, closes-same}
+-- Records added to the document so far: a block's start, its end, or a document in a block. Assumes nothing.
+use Rattle.buffer.proofs.Names.{ℕ, ◌+◌, ◌≡◌, sym, ap, ◌∙◌, List, [], ◌++◌, length, take, length-take-le, gives, refused}
+use Rattle.buffer.proofs.Names.{◌>>=◌, index, opens, closes, open_blocks, reads, stored, start, end, Block, so_far, fit, add, opens_block, closes_block}
 use Rattle.buffer.proofs.Records.{reads-start, reads-finish}
 use Rattle.buffer.proofs.Answering.{SoFar, so_far-on}
 
@@ -14,51 +13,38 @@ pub add-given : (room doc stack x after : List ℕ) → reads (length doc) 0 sta
 unfolding add ◌>>=◌
 add-given room doc stack x after e = rw e
 
-module _ {room : List ℕ} {n : ℕ} (array : List ℕ) (depth : ℕ) (s : SoFar room n (take depth array)) (shallow : (depth ≤ 32) × (length array ≡ 32))
-    (b : Block) where
-  at_end : length (take n room) ≡ n
-  at_end = length-take-le n room s.inside
+module _ {room : List ℕ} {n : ℕ} {stack : List ℕ} (s : SoFar room n stack) (x : List ℕ) where
+  -- from the document's end
+  from-end : reads n 0 stack x ≡ reads (length (take n room)) 0 stack x
+  from-end = ap (λ (p : ℕ). reads p 0 stack x) (sym (length-take-le n room s.inside))
 
-  opens-on : opens_block room n b ≡ add room (take n room) (take depth array) (start b)
+  adding : (so_far room n >>= λ doc. open_blocks doc >>= λ stack. add room doc stack x) ≡ add room (take n room) stack x
+  adding = so_far-on s (λ doc stack. add room doc stack x)
+
+  adding-refused : {k p : ℕ} → reads n 0 stack x ≡ refused k p
+      → (so_far room n >>= λ doc. open_blocks doc >>= λ stack. add room doc stack x) ≡ refused k p
+  adding-refused e = adding ∙ add-refused room (take n room) stack x _ _ (sym from-end ∙ e)
+
+  adding-given : {after : List ℕ} → reads n 0 stack x ≡ gives after
+      → fit room (take n room ++ x) ≡ (so_far room n >>= λ doc. open_blocks doc >>= λ stack. add room doc stack x)
+  adding-given e = sym (adding ∙ add-given room (take n room) stack x _ (sym from-end ∙ e))
+
+-- a block's start and its end
+module _ {room : List ℕ} {n : ℕ} {stack : List ℕ} (s : SoFar room n stack) (b : Block) where
+  pub opens_refused : {k p : ℕ} → opens n (index b) stack ≡ refused k p → opens_block room n b ≡ refused k p
   unfolding opens_block
-  opens-on = so_far-on s (λ doc stack. add room doc stack (start b))
+  opens_refused e = adding-refused s (start b) (reads-start n b stack ∙ e)
 
-  closes-on : closes_block room n b ≡ add room (take n room) (take depth array) (end b)
+  pub opens_in : {after : List ℕ} {k : ℕ} → opens n (index b) stack ≡ gives after → k ≡ 0x0100 + index b
+      → fit room (take n room ++ stored k []) ≡ opens_block room n b
+  unfolding opens_block start
+  opens_in e f = ap (λ (k : ℕ). fit room (take n room ++ stored k [])) f ∙ adding-given s (start b) (reads-start n b stack ∙ e)
+
+  pub closes_refused : {k p : ℕ} → closes n (index b) stack ≡ refused k p → closes_block room n b ≡ refused k p
   unfolding closes_block
-  closes-on = so_far-on s (λ doc stack. add room doc stack (end b))
+  closes_refused e = adding-refused s (end b) (reads-finish n b stack ∙ e)
 
-  pub opens_too_deep : 32 ≤ depth → opens_block room n b ≡ refused 7 n
-  opens_too_deep h =
-      opens-on
-      ∙ add-refused room (take n room) (take depth array) (start b) 7 n
-      (ap (λ (p : ℕ). reads p 0 (take depth array) (start b)) at_end ∙ reads-start n b (take depth array)
-      ∙ sym (opens-deep array depth (index b) n (omega arith) h))
-
-  pub opens_in : depth < 32 → (k : ℕ) → k ≡ 0x0100 + index b → fit room (take n room ++ stored k []) ≡ opens_block room n b
-  unfolding start
-  opens_in h k e =
-      ap (λ (k : ℕ). fit room (take n room ++ stored k [])) e
-      ∙ sym (opens-on ∙ add-given room (take n room) (take depth array) (start b) _ (reads-start (length (take n room)) b (take depth array)
-      ∙ sym (opens-more array depth (index b) (length (take n room)) (omega arith) h (omega arith))))
-
-  pub closes-not_open : depth < 1 → closes_block room n b ≡ refused 6 n
-  closes-not_open h =
-      closes-on
-      ∙ add-refused room (take n room) (take depth array) (end b) 6 n
-      (ap (λ (p : ℕ). reads p 0 (take depth array) (end b)) at_end ∙ reads-finish n b (take depth array)
-      ∙ sym (closes-none array depth (index b) n (omega arith) h))
-
-  pub closes_another : 1 ≤ depth → (get_or array (depth - 1) 0 ≡ index b → ⊥) → closes_block room n b ≡ refused 6 n
-  closes_another h d =
-      closes-on
-      ∙ add-refused room (take n room) (take depth array) (end b) 6 n
-      (ap (λ (p : ℕ). reads p 0 (take depth array) (end b)) at_end ∙ reads-finish n b (take depth array)
-      ∙ sym (closes-other array depth (index b) n (omega arith) h d))
-
-  pub closes_in : 1 ≤ depth → get_or array (depth - 1) 0 ≡ index b → (k : ℕ) → k ≡ 0x0200 + index b
+  pub closes_in : {after : List ℕ} {k : ℕ} → closes n (index b) stack ≡ gives after → k ≡ 0x0200 + index b
       → fit room (take n room ++ stored k []) ≡ closes_block room n b
-  unfolding end
-  closes_in h d k e =
-      ap (λ (k : ℕ). fit room (take n room ++ stored k [])) e
-      ∙ sym (closes-on ∙ add-given room (take n room) (take depth array) (end b) _ (reads-finish (length (take n room)) b (take depth array)
-      ∙ sym (closes-same array depth (index b) (length (take n room)) (omega arith) h d)))
+  unfolding closes_block end
+  closes_in e f = ap (λ (k : ℕ). fit room (take n room ++ stored k [])) f ∙ adding-given s (end b) (reads-finish n b stack ∙ e)

@@ -5,3 +5,4 @@ pub mod Answering
 pub mod Records
 pub mod Blocks
 pub mod Numbers
+pub mod Positions

@@ -5,7 +5,7 @@ pub use Rattle.base.specs.Bytes.{overwritten, pasted}
 unfoldable pub use Rattle.base.specs.Choice.{when◌then◌else◌}
 pub use Rattle.base.specs.Result.{Result, gives, measured, refused}
 unfoldable pub use Rattle.base.specs.Result.{◌>>=◌}
-pub use Rattle.buffer.specs.Answers.{Of01, built_as, kept}
+pub use Rattle.buffer.specs.Answers.{Follows, Of01, kept}
 unfoldable pub use Rattle.buffer.specs.Builder.{add, closes_block, fit, opens_block, so_far, writes, written}
 pub use Rattle.buffer.specs.InnerParts.{Accepted, Goes, longer}
 unfoldable pub use Rattle.document.specs.Document.{accept, bodiless, check, closed, closes, first, open_blocks, opens, reads, short}

@@ -1,5 +1,5 @@
 -- Bytes put into a room from a place on. Assumes nothing.
-use Rattle.buffer.proofs.Names.{ℕ, ◌+◌, ◌-◌, ◌≤◌, max, ◌≡◌, refl, sym, ap, ap₂, ◌∙◌, List, [], ◌++◌, append_assoc, append-nil, length, take, drop}
+use Rattle.buffer.proofs.Names.{ℕ, ◌+◌, ◌-◌, ◌≤◌, max, ◌≡◌, refl, sym, ap, ap₂, ◌∙◌, List, ◌++◌, append_assoc, length, take, drop}
 use Rattle.buffer.proofs.Names.{length-append, length-drop, take-append-drop, length-take-le, take-take, take-add, take_at, drop_at, drop-drop}
 use Rattle.buffer.proofs.Names.{add_assoc, arith, gives, kept, stored, little_bytes, head, pasted, overwritten, longer}
 use Rattle.base.proofs.Parts.{part_end}
@@ -66,11 +66,6 @@ set_fits room at size k e h = e ∙ overwritten_fits room at (head size k) (omeg
 pub length-stored : (k : ℕ) (body : List ℕ) → length (stored k body) ≡ 6 + length body
 unfolding stored little_bytes
 length-stored k body = omega arith
-
--- and a record without a body is its head
-pub stored-none : (k : ℕ) → stored k [] ≡ head 0 k
-unfolding stored head
-stored-none k = append-nil (head 0 k)
 
 -- a record's head and the text after what stands of its body already
 module _ (room : List ℕ) (last len k : ℕ) (t : List ℕ) (h : last ≤ len) (j : len ≤ length room) where

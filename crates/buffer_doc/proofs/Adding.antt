@@ -1,25 +1,22 @@
 -- Records in a block added to the document so far: what is read of them, what is written, and what comes before. Assumes nothing.
 use Rattle.buffer_doc.proofs.Names.{ℕ, ◌+◌, ◌≤◌, ◌<◌, ◌≡◌, sym, ap, ap₂, ◌∙◌, subst, Bool, true, false, ◌&&◌, List, [], ◌∷◌, ◌++◌, append_assoc}
 use Rattle.buffer_doc.proofs.Names.{append-nil, leb, length, take, drop, replicate, length-append, length-replicate, length-take-le, arith, le-leb}
-use Rattle.buffer_doc.proofs.Names.{lt-leb, lt-ltb, le-ltb, eq-eqb, Result, gives, refused, ◌>>=◌, measured, top, pushed, popped, if_true, if_false}
-use Rattle.buffer_doc.proofs.Names.{and_both, length-pushed, index, opens, closes, reads, open_blocks, check, stored, start, end, around, head, Block}
-use Rattle.buffer_doc.proofs.Names.{verdict_refused, so_far, fit, add, adds_as, pasted, overwritten, Nests, Ready, Adds, Joins, made_of, length-stored}
-use Rattle.buffer_doc.proofs.Names.{stored-none, pasted-next, length-pasted, set_fits}
-use Rattle.document.specs.Answers.{verdict_of, opened_as}
+use Rattle.buffer_doc.proofs.Names.{lt-leb, lt-ltb, le-ltb, eq-eqb, Result, gives, refused, ◌>>=◌, top, pushed, popped, if_true, if_false}
+use Rattle.buffer_doc.proofs.Names.{and_both, length-pushed, index, opens, closes, reads, check, start, end, around, Block}
+use Rattle.buffer_doc.proofs.Names.{verdict_refused, fit, add, adds_as, pasted, overwritten, Nests, Ready, Adds, Joins, made_of, length-stored}
+use Rattle.buffer_doc.proofs.Names.{pasted-next, length-pasted}
+use Rattle.document.specs.Answers.{verdict_of}
 use Rattle.records.specs.declared.Block.TheVariants as block
 use Rattle.refusal.specs.declared.Refusal.{Refusal}
 use Rattle.refusal.specs.declared.Refusal.TheVariants as refusal
-use Rattle.document.specs.declared.Opened.{Opened}
-use Rattle.document.specs.declared.Checked.{Checked}
-use Rattle.document.specs.declared.Checked.TheVariants as checked
-use Rattle.buffer.specs.declared.Built.{Built}
-use Rattle.buffer.specs.declared.Built.TheVariants as built
+use Rattle.refusal.specs.Answers.{answered}
+use Rattle.std.specs.Prelude.{Result as Answer, Ok, Err}
 use Rattle.base.proofs.Pasting.{overwritten_fits}
 use Rattle.buffer.proofs.Records.{reads-opening, reads-finish, reads-append, reads_before}
 use Rattle.buffer_doc.proofs.Nesting.{top_over, popped_over}
-use Rattle.buffer.proofs.Answering.{so_far_accepted, so_far-refused, so_far-on, says-refused, says_same, says-length, fit_in, fit-out}
+use Rattle.buffer.proofs.Answering.{SoFar, so_far-on, follows-refused, follows_same, follows-length, fit_in, fit-out}
 use Rattle.buffer.proofs.Numbers.{low_bind, low-check, low-add, of_01}
-use Rattle.buffer.specs.Answers.{built_as, kept, Of01}
+use Rattle.buffer.specs.Answers.{Follows, Of01}
 use Rattle.buffer.proofs.Blocks.{add-refused, add-given}
 
 -- What is read
@@ -86,13 +83,6 @@ module _ (room mid new : List ℕ) (at p : ℕ) (x y : List ℕ) where
       let l : length mid ≡ length room = ap length e ∙ length-pasted room at x (omega arith) (omega arith) in
       pasted_then (omega arith) e f (g ∙ overwritten_fits mid p y (omega arith))
 
--- a block's record
-pub set-block : (room new : List ℕ) (at k : ℕ) → new ≡ overwritten room at (head 0 k) → new ≡ overwritten room at (stored k [])
-set-block room new at k e = e ∙ ap (overwritten room at) (sym (stored-none k))
-
-pub set-block_fits : (room new : List ℕ) (at k : ℕ) → at + 6 ≤ length room → new ≡ overwritten room at (head 0 k) → new ≡ pasted room at (stored k [])
-set-block_fits room new at k h e = set_fits room at 0 k e h ∙ ap (pasted room at) (sym (stored-none k))
-
 pub length-start : (b : Block) → length (start b) ≡ 6
 unfolding start
 length-start b = length-stored (0x0100 + index b) []
@@ -111,18 +101,18 @@ module _ {room : List ℕ} {len depth : ℕ} (ready : Ready room len depth) (x :
   place : length (take len room) ≡ len
   place = length-take-le len room ready.inside
 
-  pub adds_shut : 32 ≤ depth → Adds x len depth room room (built.Refused (refusal.TooDeep len))
+  pub adds_shut : 32 ≤ depth → Adds x len depth room room (Err (refusal.TooDeep len))
   adds_shut h = record {
-    does = λ stack e. says-refused room (refusal.TooDeep len)
+    does = λ stack e. follows-refused room (refusal.TooDeep len)
         (add-refused room (take len room) stack (around block.InlineBlock x) 7 len
         (ap (λ (p : ℕ). reads p 0 stack (around block.InlineBlock x)) place ∙ around_shut len block.InlineBlock x stack (omega arith)));
   }
 
   module _ (h : depth < 32) where
     pub adds-deep : (q : ℕ) → ((stack : List ℕ) → length stack ≡ depth + 1 → reads (len + 6) 0 stack x ≡ refused 7 q)
-        → Adds x len depth room room (built.Refused (refusal.TooDeep q))
+        → Adds x len depth room room (Err (refusal.TooDeep q))
     adds-deep q f = record {
-      does = λ stack e. says-refused room (refusal.TooDeep q)
+      does = λ stack e. follows-refused room (refusal.TooDeep q)
           (add-refused room (take len room) stack (around block.InlineBlock x) 7 q
           (ap (λ (p : ℕ). reads p 0 stack (around block.InlineBlock x)) place
           ∙ around-deep len block.InlineBlock x stack (omega arith) q (f (pushed 8 stack) (length-pushed 8 stack ∙ ap (λ (k : ℕ). k + 1) e))));
@@ -137,66 +127,56 @@ module _ {room : List ℕ} {len depth : ℕ} (ready : Ready room len depth) (x :
           (ap (λ (p : ℕ). reads p 0 stack (around block.InlineBlock x)) place
           ∙ around-given len block.InlineBlock x stack (omega arith) (f (pushed 8 stack) (length-pushed 8 stack ∙ ap (λ (k : ℕ). k + 1) e)))
 
-      pub adds_full : (leb n (length room) && leb n 32768) ≡ false → Adds x len depth room room (built.Refused refusal.NoRoom)
+      pub adds_full : (leb n (length room) && leb n 32768) ≡ false → Adds x len depth room room (Err refusal.NoRoom)
       adds_full t = record {
-        does = λ stack e. says-refused room refusal.NoRoom (added stack e ∙ fit-out room (around block.InlineBlock x) len n ready.inside c t);
+        does = λ stack e. follows-refused room refusal.NoRoom (added stack e ∙ fit-out room (around block.InlineBlock x) len n ready.inside c t);
       }
 
       pub adds-written : (new : List ℕ) → (leb n (length room) && leb n 32768) ≡ true → new ≡ pasted room len (around block.InlineBlock x)
-          → Adds x len depth room new (built.Length n)
+          → Adds x len depth room new (Ok n)
       adds-written new t w = record {
-        does = λ stack e. says-length room new (around block.InlineBlock x) len n ready.inside
+        does = λ stack e. follows-length room new (around block.InlineBlock x) len n ready.inside
             (added stack e ∙ fit_in room (around block.InlineBlock x) len n ready.inside c t) c w;
       }
 
-pub adds_same : {x y : List ℕ} {len depth : ℕ} {room new : List ℕ} {r : Built} → x ≡ y → Adds x len depth room new r → Adds y len depth room new r
+pub adds_same : {x y : List ℕ} {len depth : ℕ} {room new : List ℕ} {r : Answer ℕ Refusal} → x ≡ y → Adds x len depth room new r → Adds y len depth room new r
 adds_same {len} {depth} {room} {new} {r} e a = subst (λ (x : List ℕ). Adds x len depth room new r) e a
 
 -- What comes before
 
 -- the added document is refused, or its records are added
-pub joins-refused : (x records room : List ℕ) (len depth : ℕ) {a : Refusal} (k : Checked) → verdict_of k [] ≡ check x → k ≡ checked.Refused a
-    → Joins x records len depth room room (built.Refused a)
+pub joins-refused : (x records room : List ℕ) (len depth : ℕ) (a : Refusal) {k : Answer Unit Refusal} → verdict_of k [] ≡ check x → k ≡ Err a
+    → Joins x records len depth room room (Err a)
 unfolding ◌>>=◌
-joins-refused x records room len depth {a} k e f = record {
-  does = λ stack _. says-refused room a
+joins-refused x records room len depth a e f = record {
+  does = λ stack _. follows-refused room a
       (ap (λ (r : Result (List ℕ)). r >>= λ _. add room (take len room) stack (around block.InlineBlock records)) (verdict_refused [] e f));
 }
 
-pub joins_added : {x records old new : List ℕ} {len depth : ℕ} {r : Built} → check x ≡ gives [] → Adds records len depth old new r
+pub joins_added : {x records old new : List ℕ} {len depth : ℕ} {r : Answer ℕ Refusal} → check x ≡ gives [] → Adds records len depth old new r
     → Joins x records len depth old new r
 unfolding ◌>>=◌
 joins_added {records} {old} {new} {len} c a = record {
-  does = λ stack e. says_same old new
+  does = λ stack e. follows_same
       (sym (ap (λ (r : Result (List ℕ)). r >>= λ _. add old (take len old) stack (around block.InlineBlock records)) c)) (a.does stack e);
 }
 
 -- what is made of it
-pub joins_made : {x old new : List ℕ} {len depth : ℕ} {r : Built} {em is : Bool} → em ≡ is → Joins x (made_of is x) len depth old new r
+pub joins_made : {x old new : List ℕ} {len depth : ℕ} {r : Answer ℕ Refusal} {em is : Bool} → em ≡ is → Joins x (made_of is x) len depth old new r
     → Joins x (made_of em x) len depth old new r
 joins_made {x} {old} {new} {len} {depth} {r} e j = subst (λ (is : Bool). Joins x (made_of is x) len depth old new r) (sym e) j
 
 -- its refusal is of 01
-pub joins_numbers : {x records old new : List ℕ} {len depth : ℕ} {r : Built} → Joins x records len depth old new r → Of01 (built_as r)
+pub joins_numbers : {x records old new : List ℕ} {len depth : ℕ} {r : Answer ℕ Refusal} → Joins x records len depth old new r → Of01 (answered r)
 joins_numbers {x} {records} {old} {len} {depth} j =
     let stack : List ℕ = replicate depth 0 in
-    of_01 _ (j.does stack (length-replicate depth 0)).0
+    of_01 _ (j.does stack (length-replicate depth 0)).answer
     (low_bind (check x) _ (low-check x) (λ _. low-add old (take len old) stack (around block.InlineBlock records)))
 
--- the document so far is refused, or it is added to
-module _ (room : List ℕ) (n : ℕ) (o : Opened) (e : opened_as o ≡ (so_far room n >>= open_blocks)) (x records : List ℕ) where
-  pub adds-refused : {a : Refusal} → o.verdict ≡ checked.Refused a
-      → (built_as (built.Refused a) ≡ measured (adds_as room n x records)) × (room ≡ kept room (adds_as room n x records))
-  unfolding adds_as
-  adds-refused {a} v =
-      says-refused room a (so_far-refused room n o e (λ doc stack. check x >>= λ _. add room doc stack (around block.InlineBlock records)) v)
-
-  pub adds-joined : {new : List ℕ} {r : Built} → o.verdict ≡ checked.Accepted → (o.depth ≤ 32) × (length o.stack ≡ 32)
-      → (Ready room n o.depth → Joins x records n o.depth room new r)
-      → (built_as r ≡ measured (adds_as room n x records)) × (new ≡ kept room (adds_as room n x records))
-  unfolding adds_as
-  adds-joined {new} v h j =
-      let s = so_far_accepted room n o e v in
-      let ready : Ready room n o.depth = record { inside = s.inside; small = s.small; shallow = h.0 } in
-      says_same room new (sym (so_far-on s (λ doc stack. check x >>= λ _. add room doc stack (around block.InlineBlock records))))
-      ((j ready).does (take o.depth o.stack) (length-take-le o.depth o.stack (omega (arith, h))))
+-- the document so far is accepted, and added to
+pub adds-joined : {room new : List ℕ} {n : ℕ} {stack : List ℕ} {r : Answer ℕ Refusal} (s : SoFar room n stack) (x records : List ℕ) {depth : ℕ}
+    → (depth ≡ length stack) × (depth ≤ 32) → (Ready room n depth → Joins x records n depth room new r) → Follows (adds_as room n x records) room new r
+unfolding adds_as
+adds-joined {room} {n} {stack} s x records h j =
+    follows_same (sym (so_far-on s (λ doc stack. check x >>= λ _. add room doc stack (around block.InlineBlock records))))
+    ((j (record { inside = s.inside; small = s.small; shallow = h.1 })).does stack (sym h.0))

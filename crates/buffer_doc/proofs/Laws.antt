@@ -1,5 +1,5 @@
 -- What an accepted call gives is a document again: its open blocks, and its text, which is the old text and the new. Assumes nothing.
-use Rattle.buffer_doc.proofs.Names.{ℕ, zero, suc, ◌+◌, ◌-◌, ◌≤◌, ◌<◌, ◌≡◌, refl, sym, ap, ap₂, ◌∙◌, subst, Bool, true, false, List, [], ◌∷◌, ◌++◌}
+use Rattle.buffer_doc.proofs.Names.{ℕ, zero, suc, ◌+◌, ◌≤◌, ◌<◌, ◌≡◌, refl, sym, ap, ap₂, ◌∙◌, subst, Bool, true, false, List, [], ◌∷◌, ◌++◌}
 use Rattle.buffer_doc.proofs.Names.{append_assoc, append-nil, leb, length, take, drop, length-append, arith, eqb-true, lt-leb, part, Result, gives}
 use Rattle.buffer_doc.proofs.Names.{refused, ◌>>=◌, pushed, popped, if_true, if_false, length-pushed, Token, index, size, token_at, opens, bodiless}
 use Rattle.buffer_doc.proofs.Names.{accept, first, reads, open_blocks, check, stored, text, start, end, around, Read, Head, utf8, line, when◌then◌else◌}
@@ -280,11 +280,12 @@ nested_em x h r c = go (is_text style.Text h.kind) refl
     go false e = subst Nested (sym (em_not x r e)) (nested_doc x 0 (check-gives x [] c).1)
     go true e =
         let n = length (line (part x 6 h.next)) in
+        let all = length (part x 6 h.next) in
         ⊎_elim
-        (λ (f : n ≡ h.next - 6). subst Nested (em_line x c r e n refl f)
+        (λ (f : n ≡ all). subst Nested (em_line x c r e n refl f)
         (λ q stack k. inl (text_alone q style.Emphasis (part x 6 h.next) stack (em_valid x c r e) (em_short x c r e))))
-        (λ (f : n ≡ h.next - 6 → ⊥). subst Nested (em_lines x c r e n refl f) (nested-titled (em_parts x c r e n refl f)))
-        (eq_or_not n (h.next - 6))
+        (λ (f : n ≡ all → ⊥). subst Nested (em_lines x c r e n refl f) (nested-titled (em_parts x c r e n refl f)))
+        (eq_or_not n all)
 
 -- its first record
 first_head : (x : List ℕ) → check x ≡ gives [] → (h : Head) × Read x 0 h

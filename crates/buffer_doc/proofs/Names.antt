@@ -8,7 +8,7 @@ pub use Rattle.base.specs.Result.{Result, gives, measured, refused}
 unfoldable pub use Rattle.base.specs.Result.{◌>>=◌}
 unfoldable pub use Rattle.base.specs.Stack.{popped, pushed, top}
 pub use Rattle.buffer.proofs.Answering.{room_there}
-pub use Rattle.buffer.proofs.Pasting.{length-head, length-pasted, length-stored, pasted-next, set_fits, stored-none}
+pub use Rattle.buffer.proofs.Pasting.{length-head, length-pasted, length-stored, pasted-next, set_fits}
 pub use Rattle.buffer.proofs.Written.{text-after, text_sane, written_pass}
 pub use Rattle.buffer.specs.Builder.{is_text, so_far}
 unfoldable pub use Rattle.buffer.specs.Builder.{add, adds_as, adds_doc, adds_em_doc, emphasised, fit}

@@ -7,6 +7,7 @@ use Rattle.buffer_doc.proofs.Names.{text, start, end, around, head, Head, read-t
 use Rattle.buffer_doc.proofs.Names.{open_sane_here, open_next, is_text, emphasised, section, Nests, Lines, titled, length-head, length-stored}
 use Rattle.buffer_doc.proofs.Names.{text_sane, text-after}
 use Rattle.base.proofs.Parts.{part_over, part_end}
+use Rattle.base.proofs.Pasting.{overwritten_fits}
 use Rattle.utf8.proofs.Text.{Valid, Cut, cut_at}
 use Rattle.utf8.proofs.Laws.{adds-low, one_at}
 use Rattle.splitter.specs.Split.{before}
@@ -15,7 +16,7 @@ use Rattle.records.specs.declared.Style.TheVariants as style
 use Rattle.records.specs.declared.Block.TheVariants as block
 use Rattle.buffer.specs.Builder.{first_line}
 use Rattle.buffer.proofs.Records.{reads-text}
-use Rattle.buffer_doc.proofs.Adding.{around_shut, around-deep, around-given, nests_deep, nests_given, copied_then, set-block, set-block_fits}
+use Rattle.buffer_doc.proofs.Adding.{around_shut, around-deep, around-given, nests_deep, nests_given, copied_then}
 use Rattle.buffer_doc.proofs.Adding.{length-start, length-end, length-around}
 
 pub length-text : (st : style.the_data) (x : List ℕ) → length (text st x) ≡ 6 + length x
@@ -29,7 +30,7 @@ text_alone p st x stack v h = ap (λ (l : List ℕ). reads p 0 stack l) (sym (ap
 
 -- What is written
 
-pub title_pasted : (room r₁ r₂ r₃ : List ℕ) (at : ℕ) (t : List ℕ) → at + 12 + length t ≤ length room → r₁ ≡ overwritten room at (head 0 0x0108)
+pub title_pasted : (room r₁ r₂ r₃ : List ℕ) (at : ℕ) (t : List ℕ) → at + 12 + length t ≤ length room → r₁ ≡ overwritten room at (start block.InlineBlock)
     → r₂ ≡ overwritten r₁ (at + 6) (head (length t) 0x0002) → r₃ ≡ overwritten r₂ (at + 12) t
     → r₃ ≡ pasted room at (start block.InlineBlock ++ text style.Emphasis t)
 unfolding start text stored head
@@ -40,12 +41,12 @@ title_pasted room r₁ r₂ r₃ at t h e f g =
     let m : length i ≡ 6 = length-head (length t) 0x0002 in
     let l : length (b ++ i) ≡ 12 = omega (arith, length-append b i) in
     copied_then room r₂ r₃ at (at + 12) (b ++ i) t (omega arith)
-    (copied_then room r₁ r₂ at (at + 6) b i (omega arith) (set-block_fits room r₁ at 0x0108 (omega arith) e) (omega arith) f) (omega arith) g
+    (copied_then room r₁ r₂ at (at + 6) b i (omega arith) (e ∙ overwritten_fits room at b (omega arith)) (omega arith) f) (omega arith) g
     ∙ ap (pasted room at) (append_assoc b i t)
 
-pub section-pasted : (room r₁ r₂ r₃ r₄ r₅ : List ℕ) (at n : ℕ) (t : List ℕ) → at + 24 + length t ≤ length room → r₁ ≡ overwritten room at (head 0 0x0102)
-    → r₂ ≡ overwritten r₁ (at + 6) (head n 0x0001) → r₃ ≡ overwritten r₂ (at + 12) t → r₄ ≡ overwritten r₃ (at + 12 + length t) (head 0 0x0202)
-    → r₅ ≡ overwritten r₄ (at + 18 + length t) (head 0 0x0208) → r₅ ≡ pasted room at (section n t)
+pub section-pasted : (room r₁ r₂ r₃ r₄ r₅ : List ℕ) (at n : ℕ) (t : List ℕ) → at + 24 + length t ≤ length room → r₁ ≡ overwritten room at (start block.Section3)
+    → r₂ ≡ overwritten r₁ (at + 6) (head n 0x0001) → r₃ ≡ overwritten r₂ (at + 12) t → r₄ ≡ overwritten r₃ (at + 12 + length t) (end block.Section3)
+    → r₅ ≡ overwritten r₄ (at + 18 + length t) (end block.InlineBlock) → r₅ ≡ pasted room at (section n t)
 unfolding start end section
 section-pasted room r₁ r₂ r₃ r₄ r₅ at n t h e₁ e₂ e₃ e₄ e₅ =
     let b = start block.Section3 in
@@ -61,9 +62,9 @@ section-pasted room r₁ r₂ r₃ r₄ r₅ at n t h e₁ e₂ e₃ e₄ e₅ =
     copied_then room r₄ r₅ at (at + 18 + length t) (b ++ i ++ t ++ c) (end block.InlineBlock) (omega arith)
     (copied_then room r₃ r₄ at (at + 12 + length t) (b ++ i ++ t) c (omega arith)
     (copied_then room r₂ r₃ at (at + 12) (b ++ i) t (omega arith)
-    (copied_then room r₁ r₂ at (at + 6) b i (omega arith) (set-block_fits room r₁ at 0x0102 (omega arith) e₁) (omega arith) e₂) (omega arith) e₃)
-    (omega arith) (set-block r₃ r₄ (at + 12 + length t) 0x0202 e₄))
-    (omega arith) (set-block r₄ r₅ (at + 18 + length t) 0x0208 e₅)
+    (copied_then room r₁ r₂ at (at + 6) b i (omega arith) (e₁ ∙ overwritten_fits room at b (omega arith)) (omega arith) e₂) (omega arith) e₃)
+    (omega arith) e₄)
+    (omega arith) e₅
 
 -- A first line and the rest
 
@@ -205,11 +206,11 @@ module _ (s : List ℕ) {h : Head} (c : check s ≡ gives []) (r : Read s 0 h) (
       ∙ (open_next accepted r (some s r t)).runs
 
   module _ (n : ℕ) (e : n ≡ length (line (part s 6 h.next))) where
-    pub em_line : n ≡ h.next - 6 → text style.Emphasis (part s 6 h.next) ≡ emphasised s
+    pub em_line : n ≡ length (part s 6 h.next) → text style.Emphasis (part s 6 h.next) ≡ emphasised s
     unfolding first_line
-    em_line f = sym (em_is ∙ if_true _ _ (eq-eqb _ _ (sym e ∙ f ∙ sym length-body)))
+    em_line f = sym (em_is ∙ if_true _ _ (eq-eqb _ _ (sym e ∙ f)))
 
-    module _ (f : n ≡ h.next - 6 → ⊥) where
+    module _ (f : n ≡ length (part s 6 h.next) → ⊥) where
       body : List ℕ
       body = part s 6 h.next
 
@@ -232,7 +233,7 @@ module _ (s : List ℕ) {h : Head} (c : check s ≡ gives []) (r : Read s 0 h) (
       pub em_lines : titled s (6 + n) h.next ≡ emphasised s
       unfolding titled first_line
       em_lines = sym (
-          em_is ∙ if_false _ _ (ne_eqb _ _ (λ z. f (e ∙ z ∙ length-body)))
+          em_is ∙ if_false _ _ (ne_eqb _ _ (λ z. f (e ∙ z)))
           ∙ ap₂ (λ (a b : List ℕ). text style.Emphasis a ++ around block.Section3 (text style.Text b ++ drop h.next s))
           (before-take is_line_end (part s 6 h.next) ∙ ap (λ (k : ℕ). take k (part s 6 h.next)) (sym e) ∙ sym first_part)
           (ap (λ (k : ℕ). drop (k + 1) (part s 6 h.next)) (sym e) ∙ sym last-part)

@@ -1,8 +1,8 @@
 -- What the functions inside this crate promise each other; no rule of 01 stands here.
-use Rattle.std.specs.Prelude.{ℕ, ◌+◌, ◌-◌, ◌≤◌, ◌<◌, ◌≡◌, Bool, true, false, List, [], ◌++◌, ltb, length, take, drop}
+use Rattle.std.specs.Prelude.{ℕ, ◌+◌, ◌-◌, ◌≤◌, ◌<◌, ◌≡◌, Bool, true, false, List, [], ◌++◌, ltb, length, take, drop, Result}
 use Rattle.base.specs.Bytes.{part}
 use Rattle.base.specs.Choice.{when◌then◌else◌}
-use Rattle.base.specs.Result.{gives, refused, measured, ◌>>=◌}
+use Rattle.base.specs.Result.{gives, refused, ◌>>=◌}
 use Rattle.document.specs.Document.{reads, check, max_bytes, max_open}
 use Rattle.records.specs.Stored.{head, text, start, end, around}
 use Rattle.records.specs.declared.Style.TheVariants as style
@@ -11,8 +11,8 @@ use Rattle.records.specs.declared.Kind.{Kind}
 use Rattle.records.specs.declared.Kind.TheVariants as kind
 use Rattle.records.specs.declared.Block.TheVariants as block
 use Rattle.buffer.specs.Builder.{add, emphasised}
-use Rattle.buffer.specs.Answers.{built_as, kept}
-use Rattle.buffer.specs.declared.Built.{Built}
+use Rattle.buffer.specs.Answers.{Follows}
+use Rattle.refusal.specs.declared.Refusal.{Refusal}
 
 -- how many blocks are open after a record
 abbrev pub count_after : Kind → ℕ → ℕ
@@ -35,10 +35,9 @@ pub record Ready (room : List ℕ) (len depth : ℕ) : Type 0 where
   pub shallow : depth ≤ max_open
 
 -- records in InlineBlock were added to it, or refused, whichever blocks are open
-pub record Adds (records : List ℕ) (len depth : ℕ) (old new : List ℕ) (r : Built) : Type 0 where
+pub record Adds (records : List ℕ) (len depth : ℕ) (old new : List ℕ) (r : Result ℕ Refusal) : Type 0 where
   pub does : (stack : List ℕ) → length stack ≡ depth
-      → (built_as r ≡ measured (add old (take len old) stack (around block.InlineBlock records)))
-      × (new ≡ kept old (add old (take len old) stack (around block.InlineBlock records)))
+      → Follows (add old (take len old) stack (around block.InlineBlock records)) old new r
 
 -- what is added of a document: what `Doc::em_doc` makes of it, or the document itself
 abbrev pub made_of : Bool → List ℕ → List ℕ
@@ -46,10 +45,9 @@ made_of true x = emphasised x
 made_of false x = x
 
 -- the same after 1 to 8 of the added document
-pub record Joins (x records : List ℕ) (len depth : ℕ) (old new : List ℕ) (r : Built) : Type 0 where
+pub record Joins (x records : List ℕ) (len depth : ℕ) (old new : List ℕ) (r : Result ℕ Refusal) : Type 0 where
   pub does : (stack : List ℕ) → length stack ≡ depth
-      → (built_as r ≡ measured (check x >>= λ _. add old (take len old) stack (around block.InlineBlock records)))
-      × (new ≡ kept old (check x >>= λ _. add old (take len old) stack (around block.InlineBlock records)))
+      → Follows (check x >>= λ _. add old (take len old) stack (around block.InlineBlock records)) old new r
 
 -- Section3 around a text of so many bytes and other records, and InlineBlock's end
 unfoldable pub section : ℕ → List ℕ → List ℕ

@@ -1,6 +1,6 @@
 -- Two lists compared one byte at a time, and what it says that they are one. Assumes nothing.
-use Rattle.compared.proofs.Names.{ℕ, ◌+◌, ◌≤◌, ◌<◌, ◌≡◌, refl, ap₂, true, false, ⊎_elim, List, [], ◌∷◌, length, drop, get_or, drop_of_length-le, eqb}
-use Rattle.compared.proofs.Names.{drop-cons, add-one, arith, eqb-true, eq-eqb, ne_eqb, and_left, and_right, and_both, le_or_lt, same}
+use Rattle.compared.proofs.Names.{ℕ, ◌+◌, ◌≤◌, ◌<◌, ◌≡◌, refl, ap₂, true, false, List, [], ◌∷◌, length, drop, get_or, drop_of_length-le, eqb}
+use Rattle.compared.proofs.Names.{drop-cons, add-one, eqb-true, eq-eqb, ne_eqb, and_left, and_right, and_both, same}
 use mathlib.Core.Bool.{Bool, false≢true, ◌&&◌}
 
 -- a second test that fails, or that succeeds
@@ -39,26 +39,3 @@ module _ (xs ys : List ℕ) (i : ℕ) where
   pub same_end : length xs ≤ i → length ys ≤ i → same (drop i xs) (drop i ys) ≡ true
   unfolding same
   same_end h k = rw (drop_of_length-le xs h, drop_of_length-le ys k)
-
--- one list from a place on, beside what is left of the other
-module _ (xs : List ℕ) (i : ℕ) where
-  module _ (y : ℕ) (ys zs : List ℕ) (e : zs ≡ y ∷ ys) where
-    pub same_rest : i < length xs → get_or xs i 0 ≡ y → same (drop i xs) zs ≡ same (drop (i + 1) xs) ys
-    unfolding same
-    same_rest h f = rw (e, add-one i, drop-cons xs i 0 h, eq-eqb _ _ f)
-
-    pub other-rest : i < length xs → (get_or xs i 0 ≡ y → ⊥) → same (drop i xs) zs ≡ false
-    unfolding same
-    other-rest h f = rw (e, drop-cons xs i 0 h, ne_eqb _ _ f)
-
-    pub longer-rest : length xs ≤ i → same (drop i xs) zs ≡ false
-    unfolding same
-    longer-rest h = rw (e, drop_of_length-le xs h)
-
-  pub no-rest : i ≤ length xs → (zs : List ℕ) → zs ≡ [] → same (drop i xs) zs ≡ eqb i (length xs)
-  unfolding same
-  no-rest h zs e =
-      ⊎_elim
-      (λ (l : length xs ≤ i). let f : i ≡ length xs = omega arith in rw (e, drop_of_length-le xs l, eq-eqb i (length xs) f))
-      (λ (l : i < length xs). rw (e, drop-cons xs i 0 l, ne_eqb i (length xs) (λ f. omega arith)))
-      (le_or_lt (length xs) i)

@@ -1,13 +1,7 @@
 -- A room that holds a text and then something else, compared one byte at a time. Assumes nothing.
-use Rattle.compared.proofs.Names.{ℕ, zero, suc, ◌+◌, ◌≤◌, ◌<◌, ◌≡◌, refl, sym, ◌∙◌, false, ⊎_elim, List, [], ◌∷◌, leb, length, take, drop, get_or, set}
+use Rattle.compared.proofs.Names.{ℕ, zero, suc, ◌+◌, ◌≤◌, ◌<◌, ◌≡◌, refl, sym, ◌∙◌, false, ⊎_elim, List, [], leb, length, take, drop, get_or, set}
 use Rattle.compared.proofs.Names.{length-append, get_or-append, take-suc-set, get_or_at, add-one, arith, le_or_lt, same, filled_by, holds_by}
 use Rattle.compared.proofs.Comparing.{and_no, and_yes, same_next, same-other, same_end}
-
--- a byte within a text, whatever stands for those past its end
-pub get_d_any : (s : List ℕ) (i a b : ℕ) → i < length s → get_or s i a ≡ get_or s i b
-get_d_any [] i a b h = absurd (omega arith)
-get_d_any (x ∷ s) zero a b h = refl
-get_d_any (x ∷ s) (suc i) a b h = get_d_any s i a b (omega arith)
 
 module _ (other : ℕ → ℕ) where
   pub length-filled : (n : ℕ) (text : List ℕ) → length (filled_by other n text) ≡ n

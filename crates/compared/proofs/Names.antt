@@ -11,6 +11,6 @@ pub use lib.Seq.{drop-cons, get_or_at, take-suc-set}
 pub use mathlib.Core.Bool.{false, true}
 pub use mathlib.Core.List.{List, [], ◌∷◌}
 pub use mathlib.Core.Logic.{⊎_elim}
-pub use mathlib.Core.Path.{◌∙◌, ◌≡◌, ap₂, refl, sym}
+pub use mathlib.Core.Path.{◌∙◌, ◌≡◌, ap, ap₂, refl, sym}
 pub use native.Mathlib.Numerals.{add-one}
 pub use native.Mathlib.Omega.{arith}

@@ -1,13 +1,10 @@
 -- An answer beside the one that a list says, for the programs that compare. No rule of 01 stands here.
+use Rattle.std.specs.Prelude.{Result as Answer, Ok, Err}
 use Rattle.std.specs.Prelude.{ℕ, zero, suc, Bool, true, false, ◌&&◌, List, [], ◌∷◌, ◌++◌, leb, eqb, length, get_or}
 use Rattle.base.specs.Result.{Result, gives, refused}
 use Rattle.refusal.specs.Numbers.{refusal_number, refusal_place}
 use Rattle.refusal.specs.declared.Refusal.{Refusal}
-use Rattle.document.specs.declared.Checked.{Checked}
-use Rattle.document.specs.declared.Checked.TheVariants as checked
 use Rattle.renderer.specs.Rendered.{filled}
-use Rattle.renderer.specs.declared.Rendered.{Rendered}
-use Rattle.renderer.specs.declared.Rendered.TheVariants as rendered
 
 -- two texts are one
 unfoldable pub same : List ℕ → List ℕ → Bool
@@ -34,14 +31,14 @@ unfoldable pub is_refusal : Refusal → ℕ → ℕ → Bool
 is_refusal a number place = eqb (refusal_number a) number && eqb (refusal_place a) place
 
 -- a check answers this number, 0 for accepted, and place
-unfoldable pub is_verdict : Checked → ℕ → ℕ → Bool
-is_verdict checked.Accepted number place = eqb number 0 && eqb place 0
-is_verdict (checked.Refused a) number place = is_refusal a number place
+unfoldable pub is_verdict : Answer Unit Refusal → ℕ → ℕ → Bool
+is_verdict (Ok t) number place = eqb number 0 && eqb place 0
+is_verdict (Err a) number place = is_refusal a number place
 
 -- a renderer answers this number, 0 for accepted, and length or place, and its room then holds this text, none after a refusal, and zeros
-unfoldable pub is_rendered : Rendered → List ℕ → ℕ → ℕ → List ℕ → Bool
-is_rendered (rendered.Text n) room number at text = eqb number 0 && eqb n at && eqb (length text) n && holds room text
-is_rendered (rendered.Refused a) room number at text = is_refusal a number at && eqb (length text) 0 && holds room text
+unfoldable pub is_rendered : Answer ℕ Refusal → List ℕ → ℕ → ℕ → List ℕ → Bool
+is_rendered (Ok n) room number at text = eqb number 0 && eqb n at && eqb (length text) n && holds room text
+is_rendered (Err a) room number at text = is_refusal a number at && eqb (length text) 0 && holds room text
 
 -- what a rule gives, for a room of n bytes, is this: the number, 0 for a text, its length or the refusal's place, and the text and then zeros
 unfoldable pub is_answer : ℕ → Result (List ℕ) → ℕ → ℕ → List ℕ → Bool

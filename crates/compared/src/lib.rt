@@ -2,87 +2,73 @@
 
 #![tactic(auto)]
 
-ghost use Rattle.std.specs.Prelude.{◌≡◌, get_or};
-ghost use Rattle.compared.specs.InnerCompared.{holds, is_refusal, is_verdict, is_rendered};
+ghost use Rattle.std.specs.Prelude.{◌≡◌, ℕ, get_or};
+ghost use Rattle.compared.specs.InnerCompared.{holds, holds_by, is_refusal, is_verdict, is_rendered};
 
-use document::Checked;
 use refusal::Refusal;
-use renderer::Rendered;
 
 // The byte at a place, or another one past the end.
 pub fn byte_or(bytes: &[u8], at: usize, other: u8) -> u8
     ensures { result ≡ get_or bytes.now at other }
 {
-    if at < bytes.len() {
-        return bytes[at];
-    }
-    other
+    bytes.get(at).copied().unwrap_or(other)
 }
 
-// Whether a room holds a text and then zeros.
-fn holds(room: &[u8], text: &[u8]) -> bool
-    ensures { result ≡ holds room.now text.now }
+// Whether a room holds a text, and at each place past its end what `other` gives there.
+pub fn holds_by<F: Fn(usize) -> u8>(room: &[u8], text: &[u8], other: F) -> bool
+    ghost byte: { ℕ → ℕ }
+    requires calls { F.IsAlwaysCallable other }
+    requires gives { (i b : ℕ) → F.post other i b → b ≡ byte i }
+    ensures { result ≡ holds_by byte room.now text.now }
 {
-    let mut i: usize = 0;
-    while i < room.len() {
-        if room[i] != byte_or(text, i, 0) {
+    for (i, b) in room.iter().enumerate() {
+        if *b != byte_or(text, i, other(i)) {
             return false;
         }
-        i += 1;
     }
     text.len() <= room.len()
 }
 
+// Whether a room holds a text and then zeros.
+#[tactic(auto, unfolding(crate::specs::InnerCompared::holds))]
+fn holds(room: &[u8], text: &[u8]) -> bool
+    ensures { result ≡ holds room.now text.now }
+{
+    holds_by(room, text, |_| 0)
+}
+
 // Whether a refusal has this number and place.
+#[tactic(auto, unfolding(crate::specs::InnerCompared::is_refusal))]
 pub fn is_refusal(a: Refusal, number: usize, place: usize) -> bool
     ensures { result ≡ is_refusal a number place }
 {
-    if refusal::refusal_number(a) as usize != number {
-        return false;
-    }
-    refusal::refusal_place(a) == place
+    a.number() as usize == number && a.place() == place
 }
 
 // Whether the check answers this number, 0 for accepted, and place.
-pub fn is_verdict(checked: Checked, number: usize, place: usize) -> bool
+#[tactic(auto, unfolding(crate::specs::InnerCompared::is_verdict))]
+pub fn is_verdict(checked: Result<(), Refusal>, number: usize, place: usize) -> bool
     ensures { result ≡ is_verdict checked number place }
 {
     match checked {
-        Checked::Accepted => {
-            if number != 0 {
-                return false;
-            }
-            place == 0
-        }
-        Checked::Refused(a) => is_refusal(a, number, place),
+        Ok(()) => number == 0 && place == 0,
+        Err(a) => is_refusal(a, number, place),
     }
 }
 
 // Whether a renderer answers this number, 0 for accepted, and length or place, and its room then holds this text.
-pub fn is_rendered(rendered: Rendered, room: &[u8], number: usize, at: usize, text: &[u8]) -> bool
+#[tactic(auto, unfolding(crate::specs::InnerCompared::is_rendered))]
+pub fn is_rendered(
+    rendered: Result<usize, Refusal>,
+    room: &[u8],
+    number: usize,
+    at: usize,
+    text: &[u8],
+) -> bool
     ensures { result ≡ is_rendered rendered room.now number at text.now }
 {
     match rendered {
-        Rendered::Text(n) => {
-            if number != 0 {
-                return false;
-            }
-            if n != at {
-                return false;
-            }
-            if text.len() != n {
-                return false;
-            }
-            holds(room, text)
-        }
-        Rendered::Refused(a) => {
-            if !is_refusal(a, number, at) {
-                return false;
-            }
-            if text.len() != 0 {
-                return false;
-            }
-            holds(room, text)
-        }
+        Ok(n) => number == 0 && n == at && text.len() == n && holds(room, text),
+        Err(a) => { is_refusal(a, number, at) && text.is_empty() && holds(room, text) }
     }
 }

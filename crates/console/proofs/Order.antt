@@ -1,4 +1,6 @@
 -- The order of the console's refusals, and what its answer and its cleared room say of demand 3. Assumes nothing.
+use Rattle.std.specs.Prelude.{Result as Answer, Err, IsErrAnd}
+use Rattle.std.proofs.lemmas.Result.{err_from_is_err_and}
 use Prim.Native.Nat.{ℕ, ◌≤◌, ◌<◌}
 use mathlib.Core.Path.{◌≡◌, sym, ap, ◌∙◌}
 use mathlib.Core.List.{List}
@@ -14,8 +16,6 @@ use Rattle.refusal.specs.Numbers.{refusal_number, refusal_place}
 use Rattle.refusal.specs.declared.Refusal.{Refusal}
 use Rattle.room.specs.Room.{padded}
 use Rattle.renderer.specs.Rendered.{standing, filled}
-use Rattle.renderer.specs.declared.Rendered.{Rendered}
-use Rattle.renderer.specs.declared.Rendered.TheVariants as rendered
 use Rattle.console_rules.specs.Console.{tabstop, narrow, measure_of, text_by, console_by, console}
 use Rattle.console_rules.specs.declared.Settings.{Settings}
 use Rattle.console_rules.proofs.Printed.{console-prints}
@@ -41,14 +41,19 @@ module _ (set : Settings) (room : ℕ) (s : List ℕ) where
       console-text x e = rw (le-ltb 32_768 (length s) few, le-ltb 10_000 set.width low, e)
 
 -- an answer that is the rules' refusal, and the one that is their text
-pub stands-no : (room : List ℕ) (a : Refusal) (r : Result (List ℕ)) → r ≡ refused (refusal_number a) (refusal_place a) → Stands room (rendered.Refused a) r
+pub stands-no : (room : List ℕ) (a : Refusal) (r : Result (List ℕ)) → r ≡ refused (refusal_number a) (refusal_place a) → Stands room (Err a) r
 stands-no room a r e = record { same = sym e; fits = tt }
 
-pub stands_by : (room : List ℕ) (answer : Rendered) (r x : Result (List ℕ)) → x ≡ r → Stands room answer r → Stands room answer x
+-- what a function answers where a `?` ends it with that refusal
+pub stands-exit : (room : List ℕ) (answer : Answer ℕ Refusal) (a : Refusal) (r : Result (List ℕ)) → IsErrAnd answer (λ e. e ≡ a)
+    → r ≡ refused (refusal_number a) (refusal_place a) → Stands room answer r
+stands-exit room answer a r h e = let p = err_from_is_err_and answer h in rw (p.1, p.2) (stands-no room a r e)
+
+pub stands_by : (room : List ℕ) (answer : Answer ℕ Refusal) (r x : Result (List ℕ)) → x ≡ r → Stands room answer r → Stands room answer x
 stands_by room answer r x e s = record { same = s.same ∙ sym e; fits = s.fits }
 
 -- what the room holds once it is cleared
-pub cleared_room : (before here after : List ℕ) (answer : Rendered) (r : Result (List ℕ)) → Stands here answer r → length here ≡ length before
+pub cleared_room : (before here after : List ℕ) (answer : Answer ℕ Refusal) (r : Result (List ℕ)) → Stands here answer r → length here ≡ length before
     → after ≡ filled (length here) (standing here answer) → after ≡ filled (length before) r
 cleared_room before here after answer r s e f = f ∙ rw (s.same, e)
 

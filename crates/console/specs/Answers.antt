@@ -1,11 +1,11 @@
 -- What the walk of a document answers, seen as the rules' text; and demand 3 of what a room holds.
-use Rattle.std.specs.Prelude.{ℕ, ◌≡◌, Bool, true, List, length, take}
+use Rattle.std.specs.Prelude.{ℕ, ◌≡◌, Bool, true, List, length, take, Result as Answer}
 use Rattle.base.specs.Result.{Result, gives, ◌>>=◌}
 use Rattle.utf8.specs.Utf8.{utf8}
 use Rattle.white.specs.White.{printing}
 use Rattle.records.specs.Records.{printing_order}
 use Rattle.renderer.specs.Rendered.{standing, Inside}
-use Rattle.renderer.specs.declared.Rendered.{Rendered}
+use Rattle.refusal.specs.declared.Refusal.{Refusal}
 use Rattle.console_rules.specs.Console.{finish, console}
 use Rattle.console_rules.specs.declared.Settings.{Settings}
 use Rattle.console_rules.specs.declared.Measure.TheVariants as measure
@@ -21,7 +21,7 @@ abbrev pub wide : Bool → Settings
 wide x = record { width = 100; full = x; measure = measure.Bytes }
 
 -- An answer stands for a text in a room: the text, or the refusal; and the text lies in the room.
-pub record Stands (room : List ℕ) (answer : Rendered) (text : Result (List ℕ)) : Type 0 where
+pub record Stands (room : List ℕ) (answer : Answer ℕ Refusal) (text : Result (List ℕ)) : Type 0 where
   pub same : standing room answer ≡ text
   pub fits : Inside (length room) answer
 

@@ -7,23 +7,25 @@ ghost use Rattle.base.specs.Result.{gives, measured, ◌>>=◌ as bind};
 ghost use Rattle.splitter.specs.Answers.{placed_of, PieceWithin};
 ghost use Rattle.records.specs.Records.{tokens};
 ghost use Rattle.document.specs.Document.{check, max_bytes};
-ghost use Rattle.renderer.specs.Rendered.{answered, filled};
+ghost use Rattle.refusal.specs.Answers.{answered};
+ghost use Rattle.renderer.specs.Rendered.{filled};
 ghost use Rattle.console_rules.specs.Console.{blank_lay, measure_of, body_chunk, text_by, console, max_tab};
 ghost use Rattle.console_chunks.specs.InnerShown.{state_at, state_after, Nearby};
 ghost use Rattle.console_chunks.specs.InnerPieces.{text_or};
 ghost use Rattle.console.specs.Answers.{text_after, Stands, Demand3, wide};
+ghost use Rattle.console.specs.InnerWritten.{Written};
 
-use console_chunks::{Mark, Placed};
+use console_blocks::Margins;
+use console_chunks::Mark;
 use console_rules::{Bytes, Columns, Lay, MAX_WIDTH, Measure, Settings};
-use document::{Checked, MAX_BYTES, MAX_OPEN};
+use document::MAX_BYTES;
 use records::Kind;
 use refusal::Refusal;
-use renderer::Rendered;
 use skip::Skip;
-use splitter::{Code, Cursor, Piece, Step};
+use splitter::{Code, Cursor, Piece};
 
 // `Doc::monochrome`: the width is 100.
-pub fn monochrome(document: &[u8], full: bool, room: &mut [u8]) -> Rendered
+pub fn monochrome(document: &[u8], full: bool, room: &mut [u8]) -> Result<usize, Refusal>
     ensures answer { answered result ≡ measured (console (wide full) (length room.old) document.now) }
     ensures room { room.new ≡ filled (length room.old) (console (wide full) (length room.old) document.now) }
     ensures demand3 { Demand3 (wide full) document.now room.old room.new (answered result) }
@@ -40,7 +42,7 @@ pub fn monochrome(document: &[u8], full: bool, room: &mut [u8]) -> Rendered
 }
 
 // The text of a document in a room, or its refusal. The room is 0 beyond the text, and all 0 after a refusal.
-pub fn render_console(document: &[u8], set: Settings, room: &mut [u8]) -> Rendered
+pub fn render_console(document: &[u8], set: Settings, room: &mut [u8]) -> Result<usize, Refusal>
     ensures answer { answered result ≡ measured (console set (length room.old) document.now) }
     ensures room { room.new ≡ filled (length room.old) (console set (length room.old) document.now) }
     ensures demand3 { Demand3 set document.now room.old room.new (answered result) }
@@ -51,23 +53,18 @@ pub fn render_console(document: &[u8], set: Settings, room: &mut [u8]) -> Render
 }
 
 // Refusals 1, 9, then 2 to 8; then the walk.
-fn rendered(document: &[u8], set: Settings, room: &mut [u8]) -> Rendered
+fn rendered(document: &[u8], set: Settings, room: &mut [u8]) -> Result<usize, Refusal>
     ensures { Stands room.new result (console set (length room.old) document.now) }
 {
     if MAX_BYTES < document.len() {
-        return Rendered::Refused(Refusal::TooLong);
+        return Err(Refusal::TooLong);
     }
     if MAX_WIDTH < set.width {
-        return Rendered::Refused(Refusal::TooWide);
+        return Err(Refusal::TooWide);
     }
-    let verdict = document::check(document);
-    match verdict {
-        Checked::Refused(a) => Rendered::Refused(a),
-        Checked::Accepted => {
-            let tab = console_tabstop::tabstop_of(document);
-            walk(document, set, tab, room)
-        }
-    }
+    document::check(document)?;
+    let tab = console_tabstop::tabstop_of(document);
+    walk(document, set, tab, room)
 }
 
 // A mark before anything is written.
@@ -81,7 +78,7 @@ fn first_mark() -> Mark
             newline: false,
             blank: false,
             gutter: false,
-            skip: 0,
+            skip: Skip::new(),
             gap: false,
             passing: false,
         },
@@ -89,14 +86,11 @@ fn first_mark() -> Mark
 }
 
 // What is due at the end.
-fn finish(room: &mut [u8], m: Mark) -> Rendered
+fn finish(room: &mut [u8], m: Mark) -> Result<usize, Refusal>
     ensures { (kept : List ℕ) → Stands room.new result (text_after room.old kept m) }
 {
     let a = console_chunks::last_line(room, m);
-    if room.len() < a.len.0 {
-        return Rendered::Refused(Refusal::NoRoom);
-    }
-    Rendered::Text(a.len.0)
+    renderer::answer(room, a.len.0)
 }
 
 // The text of a piece: a part of the body, or the space that is lent.
@@ -106,13 +100,12 @@ fn text_or<'a>(body: &'a [u8], space: &'a [u8], piece: Piece) -> &'a [u8]
 {
     match piece {
         Piece::Raw(from, to, _) => &body[from..to],
-        Piece::Space(_) => space,
-        Piece::Paragraph(_) => space,
-        Piece::LineBreak(_) => space,
+        _ => space,
     }
 }
 
-// A chunk of a body that starts at a place of the document, at a margin: a piece as the splitter gives it.
+// A chunk of a body that starts at a place of the document, at a margin: a piece as the splitter gives it. Words and spaces have one call, so that the
+// compiler puts `place_chunk` into the loop.
 fn put_piece(
     room: &mut [u8],
     m: Mark,
@@ -121,7 +114,7 @@ fn put_piece(
     body: &[u8],
     piece: Piece,
     set: Settings,
-) -> Placed
+) -> Result<Mark, Refusal>
     requires { (m.lay.column.0 ≤ 2 ^ 50) × (margin.0 ≤ 2 ^ 50) × (length body.now ≤ max_bytes) × (start ≤ max_bytes) × PieceWithin (length body.now) piece }
     ensures by_index { (kept : List ℕ) → state_after room.new kept result ≡ bind (state_at room.old kept m) (body_chunk (measure_of set) set (length room.old) margin.0 start (placed_of body.now piece)) }
     ensures near { Nearby (margin.0 + 1_032_771) m.lay result }
@@ -140,84 +133,68 @@ fn put_piece(
     console_chunks::put_break(room, m, piece, set)
 }
 
+// The text of a record whose body starts at a place of the document, at a margin.
+fn put_body(
+    room: &mut [u8],
+    m: Mark,
+    margin: Columns,
+    start: usize,
+    body: &[u8],
+    set: Settings,
+) -> Result<Mark, Refusal>
+    requires { (m.lay.column.0 ≤ 2 ^ 49) × (margin.0 ≤ 1_000_000) × (length body.now ≤ max_bytes) × (start ≤ max_bytes) }
+    ensures { Written set body.now margin.0 start room.old m room.new result }
+{
+    let mut m = m;
+    let mut cursor = Cursor {
+        at: 0,
+        code: Code::No,
+    };
+    loop {
+        let run = console_words::put_words(room, m, margin, body, cursor, set);
+        m = run.mark;
+        cursor.at = run.at;
+        // At a body's end the splitter is not asked: so the console takes 0.97 to 0.99 of its time.
+        if body.len() <= cursor.at {
+            return Ok(m);
+        }
+        let Some((piece, after)) = splitter::step_at(body, cursor) else {
+            return Ok(m);
+        };
+        m = put_piece(room, m, margin, start, body, piece, set)?;
+        if renderer::ends_body(piece, set.full) {
+            return Ok(m);
+        }
+        cursor = after;
+    }
+}
+
 // The walk over the records of an accepted document.
-fn walk(document: &[u8], set: Settings, tab: Columns, room: &mut [u8]) -> Rendered
+fn walk(document: &[u8], set: Settings, tab: Columns, room: &mut [u8]) -> Result<usize, Refusal>
     requires { (length document.now ≤ max_bytes) × (tab.0 ≤ max_tab + 4) × (check document.now ≡ gives []) }
     ensures { Stands room.new result (text_by (measure_of set) set (length room.old) tab.0 (tokens 0 0 document.now)) }
 {
-    let mut margins: [usize; MAX_OPEN] = [0; MAX_OPEN];
-    let mut count: usize = 0;
+    let mut margins = Margins::new();
     let mut m = first_mark();
     let mut ahead: usize = 0;
     let mut at: usize = 0;
-    'records: while at < document.len() {
+    while at < document.len() {
         if room.len() < m.len.0 {
-            return Rendered::Refused(Refusal::NoRoom);
+            return Err(Refusal::NoRoom);
         }
         let h = records::whole_at(document, at);
-        let start = h.start;
-        let stop = h.stop;
-        let next = h.next;
-        let k = h.kind;
-        at = next;
-        match k {
+        at = h.next;
+        match h.kind {
             Kind::Unknown => {}
             Kind::Start(b) => {
-                ahead = console_tabstop::look_ahead(document, next, b, ahead);
-                let s = console_blocks::started(
-                    room,
-                    &mut margins,
-                    m,
-                    count,
-                    b,
-                    tab,
-                    document,
-                    ahead,
-                );
-                m = s.mark;
-                count = s.count;
+                let gap = console_tabstop::gap_ahead(document, h.next, b, &mut ahead);
+                m = console_blocks::started(room, &mut margins, m, b, tab, gap);
             }
-            Kind::End(b) => {
-                let s = console_blocks::ended(room, m, count, b);
-                m = s.mark;
-                count = s.count;
-            }
+            Kind::End(b) => m = console_blocks::ended(room, &mut margins, m, b),
             Kind::Text(_) => {
-                let lay = m.lay;
-                if Skip(lay.skip).enabled() {
-                    continue 'records;
-                }
-                let margin = console_blocks::top_margin(&margins, count);
-                let body = &document[start..stop];
-                let mut from: usize = 0;
-                let mut code = Code::No;
-                'chunks: loop {
-                    let run = console_words::put_words(room, m, margin, body, from, code, set);
-                    m = run.mark;
-                    from = run.at;
-                    if body.len() <= from {
-                        break 'chunks;
-                    }
-                    let Step::Take(piece, after) = splitter::step_at(
-                        body,
-                        Cursor { at: from, code },
-                    ) else {
-                        break 'chunks;
-                    };
-                    let placed = put_piece(room, m, margin, start, body, piece, set);
-                    match placed {
-                        Placed::Deep(p) => {
-                            return Rendered::Refused(Refusal::BeyondMargin(p));
-                        }
-                        Placed::At(p) => {
-                            m = p;
-                        }
-                    }
-                    if renderer::ends_body(piece, set.full) {
-                        continue 'records;
-                    }
-                    from = after.at;
-                    code = after.code;
+                if !m.lay.skip.enabled() {
+                    let body = &document[h.start..h.stop];
+                    m = put_body(room, m, margins.top(), h.start, body, set)?;
                 }
             }
         }

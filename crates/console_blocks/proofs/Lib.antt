@@ -1,2 +1,2 @@
-pub mod Margins
+pub mod Depths
 pub mod Blocks

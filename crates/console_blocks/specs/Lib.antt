@@ -1,2 +1,1 @@
 pub mod InnerDepth
-pub mod InnerBlocks

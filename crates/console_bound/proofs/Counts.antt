@@ -2,6 +2,7 @@
 use Rattle.console_bound.proofs.Names.{ℕ, ◌+◌, ◌*◌, ◌-◌, ◌≤◌, ◌<◌, ◌≡◌, refl, sym, ap, ◌∙◌, Bool, true, false, ◌||◌, List, length, drop}
 use Rattle.console_bound.proofs.Names.{length-append, length-drop, arith, when◌then◌else◌, Result, gives, refused, measured, ◌>>=◌, pick, Token, tokens}
 use Rattle.console_bound.proofs.Names.{tokens_from, is_start, is_end, joined, Kind, check, console, ref, refs, bound_on, bound, room_bound}
+use Rattle.std.specs.Int.{from_bool}
 use lib.Seq.{length-take-le}
 use Rattle.base.specs.Bytes.{part}
 use Rattle.base.proofs.Results.{bind_gives, gives_same, refused-gives}
@@ -12,23 +13,14 @@ use Rattle.records.proofs.Tokens.{tokens-end}
 use Rattle.console_bound.specs.Answers.{Enough}
 use Rattle.console_bound.proofs.Room.{console_by_room, console_by-within, console_room}
 
--- a start, an end, or neither
-module _ (k : Kind) where
-  pub ref-start : is_start 9 k ≡ true → 1 ≡ ref k
-  unfolding ref when◌then◌else◌
-  ref-start h = rw h
-
-  pub ref-end : is_end 9 k ≡ true → 1 ≡ ref k
-  unfolding ref when◌then◌else◌
-  ref-end h = rw h (go (is_start 9 k))
-    where
-      go : (x : Bool) → ◌≡◌ {A = ℕ} 1 (when x || true then 1 else 0)
-      go true = refl
-      go false = refl
-
-  pub ref_neither : is_start 9 k ≡ false → is_end 9 k ≡ false → 0 ≡ ref k
-  unfolding ref when◌then◌else◌
-  ref_neither h g = rw (h, g)
+-- a TermRef's start or end is one, another record none
+pub from_bool-ref : (k : Kind) → from_bool (is_start 9 k || is_end 9 k) ≡ ref k
+unfolding ref when◌then◌else◌
+from_bool-ref k = go (is_start 9 k || is_end 9 k)
+  where
+    go : (x : Bool) → from_bool x ≡ (when x then 1 else 0)
+    go true = refl
+    go false = refl
 
 pub ref_small : (k : Kind) → ref k ≤ 1
 unfolding ref

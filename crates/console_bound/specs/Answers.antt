@@ -1,16 +1,8 @@
--- What the function that gives the bound answers, seen as the rules' number or refusal; and what that number is good for.
+-- What the number that is answered, or the refusal, is good for.
 use Rattle.std.specs.Prelude.{ℕ, ◌≤◌, ◌≡◌, List, length}
 use Rattle.base.specs.Result.{Result, gives, refused, measured}
-use Rattle.refusal.specs.Numbers.{refusal_number, refusal_place}
 use Rattle.console_rules.specs.Console.{console_by, console}
 use Rattle.console_rules.specs.declared.Settings.{Settings}
-use Rattle.console_bound.specs.declared.Lend.{Lend}
-use Rattle.console_bound.specs.declared.Lend.TheVariants as lend
-
--- an answer is the bound, or 'A refusal is its number and place'
-abbrev pub lent : Lend → Result ℕ
-lent (lend.Bound n) = gives n
-lent (lend.Refused a) = refused (refusal_number a) (refusal_place a)
 
 -- 'so 13 never comes when that much is lent': with a number as answer, in every room of so many bytes or more and at all settings. 01: '13 means
 -- that the text, at some moment of being written by the rules and before a trim, is longer than the room', so that this is the bound 'at any moment'.

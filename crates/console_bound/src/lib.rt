@@ -2,33 +2,28 @@
 
 #![tactic(auto)]
 
-ghost use Rattle.std.specs.Prelude.{◌≡◌, ◌≤◌, length};
+ghost use Rattle.std.specs.Prelude.{◌≡◌, ◌≤◌, ◌||◌, length};
+ghost use Rattle.records.specs.Records.{is_start, is_end};
 ghost use Rattle.console_bound.specs.Bound.{ref, bound, room_bound};
-ghost use Rattle.console_bound.specs.Answers.{lent, Enough};
+ghost use Rattle.console_bound.specs.Answers.{Enough};
+ghost use Rattle.refusal.specs.Answers.{answered};
 ghost use Rattle.document.specs.Document.{max_bytes};
 
-use document::Checked;
-use records::Kind;
+use records::{Block, Kind};
 use refusal::Refusal;
 
-// The bytes that are enough for the console's text at any moment, or the refusal.
-#[derive(Clone, Copy)]
-pub enum Lend {
-    Bound(usize),
-    Refused(Refusal),
+// Whether a record is a TermRef's start or end.
+fn is_ref(k: Kind) -> bool
+    ensures { result ≡ (is_start 9 k || is_end 9 k) }
+{
+    matches!(k, Kind::Start(Block::TermRef) | Kind::End(Block::TermRef))
 }
 
-// A TermRef start or end is one, any other record none.
+// It counts as one, any other record as none.
 fn ref_of(k: Kind) -> usize
     ensures { result ≡ ref k }
 {
-    if records::is_start(k, 9) {
-        return 1;
-    }
-    if records::is_end(k, 9) {
-        return 1;
-    }
-    0
+    usize::from(is_ref(k))
 }
 
 // The bound, counted in one pass over the records of a document that is not too long.
@@ -50,13 +45,10 @@ fn bound_of(document: &[u8]) -> usize
 }
 
 // How much room to lend: 54 times the bytes of the document's text, plus the number of TermRef starts and ends, plus 1; or refusals 1 to 8.
-pub fn room_bound(document: &[u8]) -> Lend
-    ensures answer { lent result ≡ room_bound document.now }
-    ensures enough { Enough document.now (lent result) }
+pub fn room_bound(document: &[u8]) -> Result<usize, Refusal>
+    ensures answer { answered result ≡ room_bound document.now }
+    ensures enough { Enough document.now (answered result) }
 {
-    let verdict = document::check(document);
-    match verdict {
-        Checked::Accepted => Lend::Bound(bound_of(document)),
-        Checked::Refused(r) => Lend::Refused(r),
-    }
+    document::check(document)?;
+    Ok(bound_of(document))
 }

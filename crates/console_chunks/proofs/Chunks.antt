@@ -1,11 +1,13 @@
 -- The steps of a chunk, by the tests that the code makes. Assumes nothing.
 use Rattle.std.proofs.Common.{◌≡◌, ℕ, zero, suc, ◌+◌, ◌-◌, ◌<◌, ◌≤◌, true, false, ◌||◌, eqb, ltb, List, [], ◌∷◌, length, get_or, take, replicate, sym, refl, ◌∙◌, ⊎_elim, arith, le-ltb, lt-ltb, le-leb}
+use Rattle.std.specs.Prelude.{Result as Answer, Ok, Err}
 use mathlib.Core.Bool.{and-false}
 use borrow.Author.Tests.{lt-leb}
 use Rattle.base.specs.Result.{Result, gives, refused, ◌>>=◌}
 use Rattle.base.specs.Choice.{when◌then◌else◌}
 use Rattle.base.specs.Bytes.{ends_with}
 use Rattle.base.proofs.Choice.{if_true, if_false, le_or_lt}
+use Rattle.refusal.specs.declared.Refusal.{Refusal}
 use Rattle.white.specs.White.{trim}
 use Rattle.room.specs.Room.{seen}
 use Rattle.renderer.specs.Walk.{page, with_out, with_lay, write, empty, shown}
@@ -16,8 +18,6 @@ use Rattle.console_rules.specs.Console.{State, with_column, folds, line_end, due
 use Rattle.console_rules.specs.declared.Lay.{Lay}
 use Rattle.console_rules.specs.declared.Settings.{Settings}
 use Rattle.console_chunks.specs.declared.Mark.{Mark}
-use Rattle.console_chunks.specs.declared.Placed.{Placed}
-use Rattle.console_chunks.specs.declared.Placed.TheVariants.{At, Deep}
 use Rattle.console_chunks.specs.InnerShown.{state_at, Near, Nearby}
 use Rattle.console_chunks.proofs.Pages.{bind_two, bind_three, agree}
 
@@ -191,6 +191,6 @@ near_column n k a b e h = rw e (h, omega arith)
 pub near_then : (n k l : ℕ) (a b c : Lay) → n + k ≤ l → Near n a b → Near k b c → Near l a c
 near_then n k l a b c h e f = (omega (arith, e.0, f.0), omega (arith, e.1, f.1))
 
-pub near_on : (n k l : ℕ) (a b : Lay) (r : Placed) → n + k ≤ l → Near n a b → Nearby k b r → Nearby l a r
-near_on n k l a b (At m) h e f = near_then n k l a b m.lay h e f
-near_on n k l a b (Deep p) h e f = tt
+pub near_on : (n k l : ℕ) (a b : Lay) (r : Answer Mark Refusal) → n + k ≤ l → Near n a b → Nearby k b r → Nearby l a r
+near_on n k l a b (Ok m) h e f = near_then n k l a b m.lay h e f
+near_on n k l a b (Err d) h e f = tt

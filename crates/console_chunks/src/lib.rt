@@ -5,15 +5,16 @@
 ghost use Rattle.std.specs.Prelude.{◌≡◌, ℕ, ◌+◌, ◌-◌, ◌^◌, ◌<◌, ◌≤◌, max, false, ◌||◌, List, length};
 ghost use Rattle.base.specs.Result.{◌>>=◌ as bind};
 ghost use Rattle.white.specs.White.{trim};
+ghost use Rattle.splitter.specs.Answers.{chunk_of};
 ghost use Rattle.splitter.specs.Split.{paragraph};
-ghost use Rattle.splitter.specs.Answers.{chunk_of, PieceWithin};
 ghost use Rattle.renderer.specs.Walk.{with_out};
 ghost use Rattle.splitter.specs.Split.{is_space};
 ghost use Rattle.console_rules.specs.Console.{measure_of, folds, with_column, with_skip, line_end, due_line, due_blank, reach, pad_gutter, place, put, raw_chunk, chunk, finish};
+ghost use Rattle.console_chunks.specs.InnerPieces.{is_text, width_of};
 ghost use Rattle.console_chunks.specs.InnerShown.{state_at, state_after, Fits64, Near, Nearby};
-ghost use Rattle.console_chunks.specs.InnerPieces.{is_text, text_or, width_of};
 
 use console_rules::{Bytes, Columns, Lay, MAX_MISSING, MAX_TABSTOP, Measure, Settings};
+use refusal::Refusal;
 use splitter::Piece;
 
 // How far the text in a room has come, in bytes, and what is kept beside it. A length past the room says that the text was longer than the
@@ -24,34 +25,17 @@ pub struct Mark {
     pub lay: Lay,
 }
 
-// Where a chunk leaves the text, or the place of refusal 10.
-#[derive(Clone, Copy)]
-pub enum Placed {
-    At(Mark),
-    Deep(usize),
-}
-
-fn either(a: bool, b: bool) -> bool
-    ensures { result ≡ (a || b) }
+// Whether a line end is due.
+fn line_is_due(lay: &Lay) -> bool
+    ensures { result ≡ (lay.now.newline || lay.now.blank) }
 {
-    if a {
-        return true;
-    }
-    b
+    lay.newline || lay.blank
 }
 
 pub fn at_column(lay: Lay, n: Columns) -> Lay
     ensures { result ≡ with_column n.0 lay }
 {
-    Lay {
-        column: n,
-        newline: lay.newline,
-        blank: lay.blank,
-        gutter: lay.gutter,
-        skip: lay.skip,
-        gap: lay.gap,
-        passing: lay.passing,
-    }
+    Lay { column: n, ..lay }
 }
 
 // Chunks. Each function does what a rule does, whatever margins are kept beside the text.
@@ -71,11 +55,8 @@ fn due_line(room: &mut [u8], m: Mark) -> Mark
     ensures by_index { (kept : List ℕ) → state_at room.new kept result ≡ bind (state_at room.old kept m) (due_line (length room.old)) }
     ensures near { Near 0 m.lay result.lay }
 {
-    let lay = m.lay;
-    if either(lay.newline, lay.blank) {
-        if !room::ends_with(room, m.len.0, b"\n") {
-            return line_end(room, m);
-        }
+    if line_is_due(&m.lay) && !room::ends_with(room, m.len.0, b"\n") {
+        return line_end(room, m);
     }
     m
 }
@@ -85,12 +66,9 @@ fn due_blank(room: &mut [u8], m: Mark) -> Mark
     ensures by_index { (kept : List ℕ) → state_at room.new kept result ≡ bind (state_at room.old kept m) (due_blank (length room.old)) }
     ensures near { Near 0 m.lay result.lay }
 {
-    let lay = m.lay;
-    if lay.blank {
-        if !room::ends_with(room, m.len.0, b"\n\n") {
-            let len = Bytes(room::put(room, m.len.0, b'\n'));
-            return Mark { len, lay };
-        }
+    if m.lay.blank && !room::ends_with(room, m.len.0, b"\n\n") {
+        let len = Bytes(room::put(room, m.len.0, b'\n'));
+        return Mark { len, ..m };
     }
     m
 }
@@ -100,14 +78,14 @@ pub fn plus(a: Columns, b: Columns) -> Columns
     ensures result_value { a.0 + b.0 < 2 ^ 64 → result.0 ≡ a.0 + b.0 }
     ensures most { result.0 ≤ a.0 + b.0 }
 {
-    Columns(std::num::wrapping_add_usize(a.0, b.0))
+    Columns(a.0.wrapping_add(b.0))
 }
 
 // The columns that are missing to a margin.
 fn missing_to(margin: Columns, column: Columns) -> Columns
     ensures { result.0 ≡ margin.0 - column.0 }
 {
-    Columns(base::saturating_sub(margin.0, column.0))
+    Columns(margin.0.saturating_sub(column.0))
 }
 
 // Spaces up to a margin.
@@ -115,10 +93,9 @@ fn reach_margin(room: &mut [u8], m: Mark, margin: Columns) -> Mark
     ensures by_index { (kept : List ℕ) → state_at room.new kept result ≡ bind (state_at room.old kept m) (reach (length room.old) margin.0) }
     ensures near { Near margin.0 m.lay result.lay }
 {
-    let lay = m.lay;
-    let column = lay.column;
+    let column = m.lay.column;
     let len = Bytes(room::put_spaces(room, m.len.0, missing_to(margin, column).0));
-    let lay = at_column(lay, Columns(base::max(column.0, margin.0)));
+    let lay = at_column(m.lay, Columns(column.0.max(margin.0)));
     Mark { len, lay }
 }
 
@@ -127,17 +104,12 @@ fn pad_gutter(room: &mut [u8], m: Mark, padded: Columns) -> Mark
     ensures result_after { Fits64 (m.lay.column.0 + 2) → (kept : List ℕ) → state_at room.new kept result ≡ bind (state_at room.old kept m) (pad_gutter (length room.old) padded.0) }
     ensures near { Near 2 m.lay result.lay }
 {
-    let lay = m.lay;
-    let column = lay.column.0;
-    if lay.gutter {
-        if MAX_TABSTOP <= column {
-            if padded.0 < 2 {
-                let more = 2 - padded.0;
-                let len = Bytes(room::put_spaces(room, m.len.0, more));
-                let lay = at_column(lay, plus(lay.column, Columns(more)));
-                return Mark { len, lay };
-            }
-        }
+    if m.lay.gutter && MAX_TABSTOP <= m.lay.column.0 && padded.0 < 2 {
+        let more = 2 - padded.0;
+        let len = Bytes(room::put_spaces(room, m.len.0, more));
+        let column = plus(m.lay.column, Columns(more));
+        let lay = at_column(m.lay, column);
+        return Mark { len, lay };
     }
     m
 }
@@ -148,8 +120,7 @@ fn place_here(room: &mut [u8], m: Mark, text: &[u8], width: Columns) -> Mark
     ensures near { Near width.0 m.lay result.lay }
 {
     let len = Bytes(room::put_all(room, m.len.0, text));
-    let lay = m.lay;
-    let column = plus(lay.column, width);
+    let column = plus(m.lay.column, width);
     Mark {
         len,
         lay: Lay {
@@ -157,9 +128,7 @@ fn place_here(room: &mut [u8], m: Mark, text: &[u8], width: Columns) -> Mark
             newline: false,
             blank: false,
             gutter: false,
-            skip: lay.skip,
-            gap: lay.gap,
-            passing: lay.passing,
+            ..m.lay
         },
     }
 }
@@ -172,21 +141,20 @@ fn put_chunk(
     at: usize,
     text: &[u8],
     width: Columns,
-) -> Placed
+) -> Result<Mark, Refusal>
     ensures result_after { Fits64 (m.lay.column.0 + (margin.0 + width.0 + 2)) → (kept : List ℕ) → state_after room.new kept result ≡ bind (state_at room.old kept m) (put (length room.old) margin.0 at text.now width.0) }
     ensures near { Nearby (margin.0 + width.0 + 2) m.lay result }
 {
-    let lay = m.lay;
-    let missing = missing_to(margin, lay.column);
+    let missing = missing_to(margin, m.lay.column);
     if MAX_MISSING < missing.0 {
         if room.len() < m.len.0 {
-            return Placed::At(m);
+            return Ok(m);
         }
-        return Placed::Deep(at);
+        return Err(Refusal::BeyondMargin(at));
     }
     let a = reach_margin(room, m, margin);
     let b = pad_gutter(room, a, missing);
-    Placed::At(place_here(room, b, text, width))
+    Ok(place_here(room, b, text, width))
 }
 
 // A fold: the White_Space at the end goes, and a line end follows.
@@ -195,26 +163,21 @@ fn fold_line(room: &mut [u8], m: Mark) -> Mark
     ensures near { Near 0 m.lay result.lay }
 {
     let len = Bytes(room::trim_end(room, m.len.0));
-    let lay = m.lay;
-    line_end(room, Mark { len, lay })
+    line_end(room, Mark { len, ..m })
 }
 
 // Whether a chunk is just one space.
 fn is_space(text: &[u8]) -> bool
     ensures { result ≡ is_space text.now }
 {
-    if text.len() == 1 {
-        return text[0] == b' ';
-    }
-    false
+    text.len() == 1 && text[0] == b' '
 }
 
 // What a chunk counts for in the fold test.
 fn measure_of(set: Settings, text: &[u8]) -> Bytes
     ensures { result.0 ≡ measure_of set text.now }
 {
-    let measure = set.measure;
-    match measure {
+    match set.measure {
         Measure::Bytes => Bytes(text.len()),
         Measure::Characters => Bytes(utf8::count(text)),
     }
@@ -226,11 +189,7 @@ pub fn folds_at(width: usize, column: Columns, bytes: Bytes) -> bool
     ensures value { result ≡ folds width column bytes }
     ensures sum { result ≡ false → column.0 + bytes.0 < 2 ^ 64 }
 {
-    let used = column.0;
-    if width < used {
-        return true;
-    }
-    width - used < bytes.0
+    width < column.0 || width - column.0 < bytes.0
 }
 
 // A chunk at a place, at a margin. The rules' numbers have no bound: the promise is theirs where the column after the
@@ -243,7 +202,7 @@ pub fn place_chunk(
     text: &[u8],
     width: Columns,
     set: Settings,
-) -> Placed
+) -> Result<Mark, Refusal>
     ensures result_after { Fits64 (m.lay.column.0 + (margin.0 + width.0 + 2)) → (kept : List ℕ) → state_after room.new kept result ≡ bind (state_at room.old kept m) (raw_chunk (measure_of set) set (length room.old) margin.0 at text.now width.0) }
     ensures near { Nearby (margin.0 + width.0 + 2) m.lay result }
 {
@@ -252,11 +211,10 @@ pub fn place_chunk(
     }
     let a = due_line(room, m);
     let b = due_blank(room, a);
-    let lay = b.lay;
-    if folds_at(set.width, lay.column, measure_of(set, text)) {
+    if folds_at(set.width, b.lay.column, measure_of(set, text)) {
         let f = fold_line(room, b);
         if is_space(text) {
-            return Placed::At(f);
+            return Ok(f);
         }
         return put_chunk(room, f, margin, at, text, width);
     }
@@ -267,10 +225,9 @@ pub fn place_chunk(
 fn skipping(m: Mark) -> Mark
     ensures { (result.len.0 ≡ m.len.0) × (result.lay ≡ with_skip 1 m.lay) }
 {
-    let len = m.len;
-    let mut lay = m.lay;
-    lay.skip = skip::enable_number(lay.skip);
-    Mark { len, lay }
+    let mut m = m;
+    m.lay.skip.enable();
+    m
 }
 
 // A paragraph.
@@ -289,12 +246,7 @@ fn put_paragraph(room: &mut [u8], m: Mark, set: Settings) -> Mark
 pub fn is_text(piece: Piece) -> bool
     ensures { result ≡ is_text piece }
 {
-    match piece {
-        Piece::Raw(_, _, _) => true,
-        Piece::Space(_) => true,
-        Piece::Paragraph(_) => false,
-        Piece::LineBreak(_) => false,
-    }
+    matches!(piece, Piece::Raw(_, _, _) | Piece::Space(_))
 }
 
 // The width of a piece that is a text.
@@ -303,22 +255,19 @@ pub fn width_of(piece: Piece) -> Columns
 {
     match piece {
         Piece::Raw(_, _, width) => Columns(width),
-        Piece::Space(_) => Columns(1),
-        Piece::Paragraph(_) => Columns(1),
-        Piece::LineBreak(_) => Columns(1),
+        _ => Columns(1),
     }
 }
 
 // A paragraph or a line break.
-pub fn put_break(room: &mut [u8], m: Mark, piece: Piece, set: Settings) -> Placed
+pub fn put_break(room: &mut [u8], m: Mark, piece: Piece, set: Settings) -> Result<Mark, Refusal>
     ensures result_after { is_text piece ≡ false → (body : List ℕ) (margin at : ℕ) (kept : List ℕ) → state_after room.new kept result ≡ bind (state_at room.old kept m) (chunk (measure_of set) set (length room.old) margin at (chunk_of body piece)) }
     ensures near { Nearby 0 m.lay result }
 {
     match piece {
-        Piece::Raw(_, _, _) => Placed::At(m),
-        Piece::Space(_) => Placed::At(m),
-        Piece::Paragraph(_) => Placed::At(put_paragraph(room, m, set)),
-        Piece::LineBreak(_) => Placed::At(line_end(room, m)),
+        Piece::Paragraph(_) => Ok(put_paragraph(room, m, set)),
+        Piece::LineBreak(_) => Ok(line_end(room, m)),
+        _ => Ok(m),
     }
 }
 
@@ -326,10 +275,9 @@ pub fn put_break(room: &mut [u8], m: Mark, piece: Piece, set: Settings) -> Place
 pub fn last_line(room: &mut [u8], m: Mark) -> Mark
     ensures { (kept : List ℕ) → state_at room.new kept result ≡ bind (state_at room.old kept m) (finish (length room.old)) }
 {
-    let lay = m.lay;
-    if either(lay.newline, lay.blank) {
+    if line_is_due(&m.lay) {
         let len = Bytes(room::put(room, m.len.0, b'\n'));
-        return Mark { len, lay };
+        return Mark { len, ..m };
     }
     m
 }

@@ -2,6 +2,8 @@
 
 #![tactic(auto)]
 
+use skip::Skip;
+
 // The characters of the widest term that counts for the tabstop: the source's `MAX_TAB`.
 pub const MAX_TAB: usize = 24;
 
@@ -41,7 +43,7 @@ pub struct Bytes(pub usize);
 pub struct Lay {
     pub column: Columns,
     // text is skipped while this is over 0
-    pub skip: usize,
+    pub skip: Skip,
     // a line end, a blank line, a gap of two columns before an item's body is due: the source's `pending_newline`, `pending_blank_line`,
     // `pending_margin`
     pub newline: bool,

@@ -1,8 +1,7 @@
 -- Where the next end of a Section4 stands, for every start before it; no rule of 01 stands here.
 use Rattle.std.specs.Prelude.{ℕ, ◌<◌, ◌≡◌, List, [], ◌∷◌, length}
 use Rattle.base.specs.Choice.{when◌then◌else◌}
-use Rattle.records.specs.Records.{Token, index, tokens_from, is_end}
-use Rattle.records.specs.declared.Block.{Block}
+use Rattle.records.specs.Records.{Token, tokens_from, is_end}
 use Rattle.console_rules.specs.Console.{empty_block, gap_ahead}
 
 -- where the first of some records of a document of n bytes starts
@@ -23,8 +22,3 @@ pub record Ahead (s : List ℕ) (at e : ℕ) : Type 0 where
 -- e was found at a place before this one, and has not been passed since
 abbrev pub Known : List ℕ → ℕ → ℕ → Type 0
 Known s at e = at < e → Ahead s at e
-
--- after a look at the start of a block: the place is still known, and at a Section4 it is the one ahead
-pub record Looked (s : List ℕ) (at : ℕ) (b : Block) (e : ℕ) : Type 0 where
-  pub known : Known s at e
-  pub here : index b ≡ 3 → Ahead s at e

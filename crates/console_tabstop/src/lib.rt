@@ -3,37 +3,43 @@
 #![tactic(auto)]
 
 ghost use Rattle.std.specs.Prelude.{◌≡◌, false, ◌+◌, ◌-◌, ◌≤◌, ◌<◌, ◌^◌, length};
-ghost use Rattle.records.specs.Records.{is_text, kind_of, tokens, tokens_from};
+ghost use Rattle.records.specs.Records.{index, is_text, is_start, is_end, kind_of, tokens, tokens_from};
 ghost use Rattle.records.specs.declared.Block.TheVariants as block;
-ghost use Rattle.console_rules.specs.Console.{term_start, term_end, term, terms, settles, tabstop, settled_from, settled_at, tabstop_in, settled_in, empty_block, max_tab};
+ghost use Rattle.console_rules.specs.Console.{term_start, term_end, term, terms, settles, tabstop, settled_from, settled_at, tabstop_in, settled_in, empty_block, gap_ahead, max_tab};
 ghost use Rattle.console_tabstop.specs.Answers.{tabstop_of, settled_of};
 ghost use Rattle.console_tabstop.specs.InnerCounted.{terms_of};
-ghost use Rattle.console_tabstop.specs.InnerAhead.{Ahead, Known, Looked};
+ghost use Rattle.console_tabstop.specs.InnerAhead.{Ahead, Known};
 
 use console_rules::{Columns, MAX_TAB, MAX_TABSTOP};
-use document::Checked;
-use records::Block;
+use records::{Block, Kind};
 use refusal::Refusal;
 
+// Whether a record is a Block's start, and whether it is a Block's end.
+fn starts_block(k: Kind) -> bool
+    ensures { result ≡ is_start 7 k }
+{
+    matches!(k, Kind::Start(Block::Block))
+}
+
+fn ends_block(k: Kind) -> bool
+    ensures { result ≡ is_end 7 k }
+{
+    matches!(k, Kind::End(Block::Block))
+}
+
 // Whether the start and the end of a Block come first.
-pub fn empty_block(document: &[u8], at: usize) -> bool
+fn empty_block(document: &[u8], at: usize) -> bool
     ensures { result ≡ empty_block (tokens_from document.now at) }
 {
     if document.len() <= at {
         return false;
     }
     let a = records::record_at(document, at);
-    let next = a.next;
-    if document.len() <= next {
+    if document.len() <= a.next {
         return false;
     }
-    let b = records::record_at(document, next);
-    let k = a.kind;
-    let l = b.kind;
-    if records::is_start(k, 7) {
-        return records::is_end(l, 7);
-    }
-    false
+    let b = records::record_at(document, a.next);
+    starts_block(a.kind) && ends_block(b.kind)
 }
 
 // Where the records after the next end of a Section4 begin; the document's length where there is none. Only kinds and lengths are read.
@@ -52,22 +58,36 @@ fn section_end(document: &[u8], at: usize) -> usize
     document.len()
 }
 
-// The same at the start of a block, where it was `known` before. It is looked for only at a Section4, and only where the place known has been
-// passed: each record is read once for it, however many starts stand before it.
-pub fn look_ahead(document: &[u8], next: usize, b: Block, known: usize) -> usize
-    ensures { Known document.now next known → Looked document.now next b result }
+// The same, where it was `known` before: it is looked for only where the place known has been passed.
+fn look_ahead(document: &[u8], next: usize, known: usize) -> usize
+    ensures { Known document.now next known → Ahead document.now next result }
 {
-    if records::index_of(b) == 3 {
-        if known <= next {
-            return section_end(document, next);
-        }
+    if known <= next {
+        return section_end(document, next);
     }
     known
 }
 
+// Whether an adjacent gap lies ahead of a block's start, with the next record at `next`: an empty Block where the records after the next end of a
+// Section4 begin. Only a Section4 asks. That place is kept in `known`: each record is read once for it, however many starts stand before it.
+pub fn gap_ahead(document: &[u8], next: usize, b: Block, known: &mut usize) -> bool
+    ensures knows { Known document.now next known.old → Known document.now next known.new }
+    ensures gap { Known document.now next known.old → index b ≡ 3 → result ≡ gap_ahead (tokens_from document.now next) }
+{
+    match b {
+        Block::Section4 => {
+            let at = look_ahead(document, next, *known);
+            *known = at;
+            empty_block(document, at)
+        }
+        _ => false,
+    }
+}
+
 // The tabstop.
 
-// The widest term so far, whether a term is being counted (1 where it is), and its characters so far.
+// The widest term so far, whether a term is being counted (1 where it is), and its characters so far. A number, since the padding of a `bool` costs in
+// what a loop carries.
 #[derive(Clone, Copy)]
 struct Terms {
     widest: usize,
@@ -91,10 +111,8 @@ fn term_end(t: Terms) -> Terms
 {
     let mut r = t;
     r.counting = 0;
-    if t.widest < t.counted {
-        if t.counted <= MAX_TAB {
-            r.widest = t.counted;
-        }
+    if t.widest < t.counted && t.counted <= MAX_TAB {
+        r.widest = t.counted;
     }
     r
 }
@@ -103,10 +121,7 @@ fn term_end(t: Terms) -> Terms
 fn is_text(code: usize) -> bool
     ensures { result ≡ is_text (kind_of code) }
 {
-    if code <= 0x0005 {
-        return 0 < code;
-    }
-    false
+    code <= 0x0005 && 0 < code
 }
 
 // The count after a record. Most kinds change nothing, and none is taken apart further than this needs.
@@ -121,10 +136,8 @@ fn term_on(t: Terms, code: usize, body: &[u8]) -> Terms
         return term_end(t);
     }
     let mut r = t;
-    if t.counting == 1 {
-        if is_text(code) {
-            r.counted = t.counted + utf8::count(body);
-        }
+    if t.counting == 1 && is_text(code) {
+        r.counted = t.counted + utf8::count(body);
     }
     r
 }
@@ -133,10 +146,7 @@ fn term_on(t: Terms, code: usize, body: &[u8]) -> Terms
 fn settles(t: Terms, code: usize) -> bool
     ensures { result ≡ settles (kind_of code) (terms_of t) }
 {
-    if code == 0x0204 {
-        return t.counted == MAX_TAB;
-    }
-    false
+    code == 0x0204 && t.counted == MAX_TAB
 }
 
 // The tabstop, and the start of the record that settles it, or the document's length.
@@ -219,24 +229,11 @@ pub fn tabstop_of(document: &[u8]) -> Columns
     found.columns
 }
 
-// What the search answers in any bytes: what it finds in an accepted document, or the refusal.
-#[derive(Clone, Copy)]
-pub enum Searched {
-    Found(Tabstop),
-    Refused(Refusal),
-}
-
 // Refusals 1 to 8, then the search.
-pub fn search_tabstop(document: &[u8]) -> Searched
+pub fn search_tabstop(document: &[u8]) -> Result<Tabstop, Refusal>
     ensures tabstop { tabstop_of result ≡ tabstop_in document.now }
     ensures settled { settled_of result ≡ settled_in document.now }
 {
-    let verdict = document::check(document);
-    match verdict {
-        Checked::Refused(a) => Searched::Refused(a),
-        Checked::Accepted => {
-            let found = find_tabstop(document);
-            Searched::Found(found)
-        }
-    }
+    document::check(document)?;
+    Ok(find_tabstop(document))
 }

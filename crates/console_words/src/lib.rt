@@ -7,8 +7,8 @@ ghost use Rattle.std.specs.Prelude.{◌<◌, ◌≤◌, length};
 ghost use Rattle.console_words.specs.InnerAdvance.{LineAdvance, Ahead, Moves};
 
 use console_chunks::Mark;
-use console_rules::{Bytes, Columns, Lay, Settings};
-use splitter::Code;
+use console_rules::{Bytes, Columns, Settings};
+use splitter::{Code, Cursor};
 
 // How far the text, the column and the walk of a body have come.
 #[derive(Clone, Copy)]
@@ -35,11 +35,8 @@ fn fill_line(
     let mut column = column;
     let mut at = from;
     while at < body.len() {
-        if set.width <= column.0 {
-            return LineFilled { len, column, at };
-        }
-        if body[at] == b'\n' {
-            return LineFilled { len, column, at };
+        if set.width <= column.0 || body[at] == b'\n' {
+            break;
         }
         let run = words::copy_run(room, len.0, body, at, set.width - column.0);
         let n = run.to - at;
@@ -49,37 +46,20 @@ fn fill_line(
         column = Columns(wider);
         at = run.to;
         if run.width == n {
-            return LineFilled { len, column, at };
+            break;
         }
     }
     LineFilled { len, column, at }
 }
 
 // Whether a word would follow on the line at once: something is written, nothing is due, no column is missing to the margin.
-fn follows(room: &[u8], m: Mark, margin: Columns, code: Code) -> bool
-    ensures { Ahead room.now m margin.0 code result }
+fn follows(room: &[u8], m: &Mark, margin: Columns, code: Code) -> bool
+    ensures { Ahead room.now m.now margin.0 code result }
 {
-    if m.len.0 == 0 {
+    if m.len.0 == 0 || room.len() < m.len.0 || m.lay.newline || m.lay.blank || m.lay.gutter {
         return false;
     }
-    if room.len() < m.len.0 {
-        return false;
-    }
-    let lay = m.lay;
-    if lay.newline {
-        return false;
-    }
-    if lay.blank {
-        return false;
-    }
-    if lay.gutter {
-        return false;
-    }
-    match code {
-        Code::No => margin.0 <= lay.column.0,
-        Code::First => false,
-        Code::Rest => false,
-    }
+    matches!(code, Code::No) && margin.0 <= m.lay.column.0
 }
 
 // A mark in the text, and how far the walk of a body has come.
@@ -97,32 +77,20 @@ pub fn put_words(
     m: Mark,
     margin: Columns,
     body: &[u8],
-    from: usize,
-    code: Code,
+    cursor: Cursor,
     set: Settings,
 ) -> Run
-    ensures { Moves set margin.0 body.now code room.old m from room.new result.mark result.at }
+    ensures { Moves set margin.0 body.now cursor.code room.old m cursor.at room.new result.mark result.at }
 {
-    if !follows(room, m, margin, code) {
-        return Run { mark: m, at: from };
+    if !follows(room, &m, margin, cursor.code) {
+        return Run {
+            mark: m,
+            at: cursor.at,
+        };
     }
-    let lay = m.lay;
-    let column = lay.column;
-    let line = fill_line(room, m.len, column, body, from, set);
-    let at = line.at;
-    let len = line.len;
-    let column = line.column;
-    let lay = Lay {
-        column,
-        newline: lay.newline,
-        blank: lay.blank,
-        gutter: lay.gutter,
-        skip: lay.skip,
-        gap: lay.gap,
-        passing: lay.passing,
-    };
-    Run {
-        mark: Mark { len, lay },
-        at,
-    }
+    let line = fill_line(room, m.len, m.lay.column, body, cursor.at, set);
+    let mut mark = m;
+    mark.len = line.len;
+    mark.lay.column = line.column;
+    Run { mark, at: line.at }
 }

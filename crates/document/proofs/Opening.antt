@@ -1,17 +1,14 @@
 -- The refusals of one record, as the code finds them on a stack kept in an array. Assumes nothing.
-use Rattle.document.proofs.Names.{ℕ, suc, min, ◌+◌, ◌-◌, ◌≤◌, ◌<◌, ◌≡◌, sym, ap, ◌∙◌, subst, true, false, List, [], length, take, drop, get_or, set}
-use Rattle.document.proofs.Names.{length-take, length-take-le, take_all, drop-cons, set_out, arith, le-leb, lt-leb, le-ltb, lt-ltb, eq-eqb, ne_eqb}
-use Rattle.document.proofs.Names.{part, Result, gives, refused, ◌>>=◌, if_true, if_false, le_or_lt, push-take, pop_take, top-take, Token, index}
-use Rattle.document.proofs.Names.{record_fits, opens, closes, bodiless, accept, first, reads, open_blocks, short, closed, check, refusal_number}
-use Rattle.document.proofs.Names.{refusal_place, Read, Head, Refusal, Kind, Style, Block}
-use mathlib.Core.Logic.{⊎_elim}
+use Rattle.document.proofs.Names.{ℕ, suc, ◌-◌, ◌≤◌, ◌<◌, ◌≡◌, sym, ap, ◌∙◌, true, false, List, [], length, take, drop, get_or}
+use Rattle.document.proofs.Names.{length-take-le, take_all, drop-cons, arith, le-leb, lt-leb, le-ltb, lt-ltb, ne_eqb}
+use Rattle.document.proofs.Names.{part, Result, gives, refused, ◌>>=◌, top-take, Token, index}
+use Rattle.document.proofs.Names.{record_fits, opens, closes, bodiless, accept, first, reads, open_blocks, short, closed, check}
+use Rattle.document.proofs.Names.{Read, Head, Kind, Style, Block}
+use lib.Dec.{eqb, leb}
+use mathlib.Core.Bool.{◌&&◌}
 use Rattle.base.specs.Choice.{when◌then◌else◌}
+use Rattle.base.specs.Stack.{top, pushed, popped}
 use Rattle.utf8.specs.Utf8.{utf8}
-use Rattle.document.specs.Answers.{opened_as, turn_as, depth_of, put_on}
-use Rattle.document.specs.declared.Turn.{Turn}
-use Rattle.document.specs.declared.Turn.TheVariants as turn
-use Rattle.document.specs.declared.Opened.{Opened}
-use Rattle.document.specs.declared.Checked.TheVariants as checked
 use Rattle.records.specs.declared.Kind.TheVariants as kind
 use Rattle.document.proofs.Refusals.{reads_at_gives, reads_at_refused}
 use Rattle.records.proofs.Reading.{read-token}
@@ -28,46 +25,30 @@ body-some s a e p r h l = let z : e - a ≡ suc (e - a - 1) = omega arith in rw 
 
 -- 6 and 7
 
--- of a stack with no more than so many blocks all are open
-pub take_capped : (stack : List ℕ) (depth n : ℕ) → n ≡ min depth (length stack) → take n stack ≡ take depth stack
-take_capped stack depth n e =
-    ⊎_elim (λ (h : depth ≤ length stack). let f : n ≡ depth = omega arith in rw f)
-    (λ (h : length stack < depth). take_all n stack (omega arith) ∙ sym (take_all depth stack (omega arith)))
-    (le_or_lt depth (length stack))
-
-module _ (stack : List ℕ) (depth i p : ℕ) where
-  pub opens-deep : 32 ≤ length stack → 32 ≤ depth → refused 7 p ≡ opens p i (take depth stack)
+module _ (stack : List ℕ) (i p : ℕ) where
+  pub opens-deep : 32 ≤ length stack → refused 7 p ≡ opens p i stack
   unfolding opens when◌then◌else◌
-  opens-deep m l = rw (length-take depth stack, le-leb 32 (min depth (length stack)) (omega arith))
+  opens-deep l = rw (le-leb 32 (length stack) l)
 
-  pub put-deep : 32 ≤ depth → stack ≡ put_on stack depth i
-  unfolding put_on
-  put-deep l = sym (if_false _ _ (le-ltb depth 32 l))
+  pub opens-more : length stack < 32 → gives (pushed i stack) ≡ opens p i stack
+  unfolding opens when◌then◌else◌
+  opens-more l = rw (lt-leb 32 (length stack) l)
 
-  pub put-past : depth < 32 → length stack ≤ depth → stack ≡ put_on stack depth i
-  unfolding put_on
-  put-past l m = sym (if_true _ _ (lt-ltb depth 32 l) ∙ set_out stack depth i m)
+  pub closes-other : leb 1 (length stack) && eqb (top stack) i ≡ false → refused 6 p ≡ closes p i stack
+  unfolding closes when◌then◌else◌
+  closes-other e = rw e
 
-  pub put-more : depth < 32 → set stack depth i ≡ put_on stack depth i
-  unfolding put_on
-  put-more l = sym (if_true _ _ (lt-ltb depth 32 l))
+  pub closes-same : leb 1 (length stack) && eqb (top stack) i ≡ true → gives (popped stack) ≡ closes p i stack
+  unfolding closes when◌then◌else◌
+  closes-same e = rw e
 
-  module _ (h : depth ≤ length stack) where
-    pub opens-more : depth < 32 → depth < length stack → gives (take (depth + 1) (set stack depth i)) ≡ opens p i (take depth stack)
-    unfolding opens when◌then◌else◌
-    opens-more l m = rw (length-take-le depth stack h, lt-leb 32 depth l) (ap gives (push-take stack depth i m))
+-- the innermost, on an array
+module _ (array : List ℕ) (depth i : ℕ) (h : depth ≤ length array) where
+  pub innermost-none : depth < 1 → false ≡ leb 1 (length (take depth array)) && eqb (top (take depth array)) i
+  innermost-none l = rw (length-take-le depth array h, lt-leb 1 depth l)
 
-    pub closes-none : depth < 1 → refused 6 p ≡ closes p i (take depth stack)
-    unfolding closes when◌then◌else◌
-    closes-none l = rw (length-take-le depth stack h, lt-leb 1 depth l)
-
-    pub closes-other : 1 ≤ depth → (get_or stack (depth - 1) 0 ≡ i → ⊥) → refused 6 p ≡ closes p i (take depth stack)
-    unfolding closes when◌then◌else◌
-    closes-other l n = rw (length-take-le depth stack h, le-leb 1 depth l, top-take stack depth l h, ne_eqb _ i n)
-
-    pub closes-same : 1 ≤ depth → get_or stack (depth - 1) 0 ≡ i → gives (take (depth - 1) stack) ≡ closes p i (take depth stack)
-    unfolding closes when◌then◌else◌
-    closes-same l e = rw (length-take-le depth stack h, le-leb 1 depth l, top-take stack depth l h, eq-eqb _ i e) (ap gives (pop_take stack depth h))
+  pub innermost-last : 1 ≤ depth → eqb (get_or array (depth - 1) 0) i ≡ leb 1 (length (take depth array)) && eqb (top (take depth array)) i
+  innermost-last l = rw (length-take-le depth array h, le-leb 1 depth l, top-take array depth l h)
 
 -- a record by its kind
 
@@ -103,16 +84,6 @@ module _ {k : Kind} (p : ℕ) (s : List ℕ) (a e : ℕ) (stack : List ℕ) wher
 
 -- a turn of the loop over the records
 
-pub turn_open : {t : Turn} {d : ℕ} (stack : List ℕ) {r : Result (List ℕ)} → turn_as t stack ≡ r → t ≡ turn.Open d → r ≡ gives (take d stack)
-turn_open stack e f = sym e ∙ ap (λ (t : Turn). turn_as t stack) f
-
-pub turn_shallow : {t : Turn} {d : ℕ} → depth_of t ≤ 32 → t ≡ turn.Open d → d ≤ 32
-turn_shallow h f = subst (λ (t : Turn). depth_of t ≤ 32) f h
-
-pub turn-refused : {t : Turn} {a : Refusal} (stack : List ℕ) {r : Result (List ℕ)} → turn_as t stack ≡ r → t ≡ turn.Refused a
-    → r ≡ refused (refusal_number a) (refusal_place a)
-turn-refused stack e f = sym e ∙ ap (λ (t : Turn). turn_as t stack) f
-
 module _ (s : List ℕ) (at : ℕ) (stack : List ℕ) (l : at < length s) where
   pub reads-cut : record_fits (drop at s) ≡ false → reads at 0 stack (drop at s) ≡ refused 2 at
   unfolding first when◌then◌else◌
@@ -137,19 +108,20 @@ pub check_long : (s : List ℕ) → 32768 < length s → refused 1 0 ≡ check s
 unfolding check short when◌then◌else◌ ◌>>=◌
 check_long s h = rw (lt-ltb 32768 (length s) h)
 
-module _ (s : List ℕ) (o : Opened) (h : length s ≤ 32768) (e : opened_as o ≡ open_blocks s) where
-  by_open : check s ≡ (opened_as o >>= closed (length s))
+module _ (s : List ℕ) (h : length s ≤ 32768) where
+  check_open : {r : Result (List ℕ)} → r ≡ open_blocks s → check s ≡ (r >>= closed (length s))
   unfolding check short when◌then◌else◌ ◌>>=◌
-  by_open = rw (le-ltb 32768 (length s) h, e)
+  check_open e = rw (le-ltb 32768 (length s) h, e)
 
-  pub check-refused : {a : Refusal} → o.verdict ≡ checked.Refused a → refused (refusal_number a) (refusal_place a) ≡ check s
+  pub check-refused : {n p : ℕ} → refused n p ≡ open_blocks s → refused n p ≡ check s
   unfolding ◌>>=◌
-  check-refused v = sym (by_open ∙ rw v)
+  check-refused e = sym (check_open e)
 
-  pub check-closed : o.verdict ≡ checked.Accepted → o.depth ≡ 0 → gives [] ≡ check s
-  unfolding ◌>>=◌ closed when◌then◌else◌
-  check-closed v d = sym (by_open ∙ rw (v, d))
+  module _ {stack : List ℕ} (e : gives stack ≡ open_blocks s) where
+    pub check-closed : length stack ≡ 0 → gives [] ≡ check s
+    unfolding ◌>>=◌ closed when◌then◌else◌
+    check-closed z = sym (check_open e ∙ rw z (ap gives (sym (take_all 0 stack (omega (arith, z))))))
 
-  pub check-left : o.verdict ≡ checked.Accepted → (o.depth ≡ 0 → ⊥) → o.depth ≤ length o.stack → refused 8 (length s) ≡ check s
-  unfolding ◌>>=◌ closed when◌then◌else◌
-  check-left v d l = sym (by_open ∙ rw (v, length-take-le o.depth o.stack l, ne_eqb o.depth 0 d))
+    pub check-left : (length stack ≡ 0 → ⊥) → refused 8 (length s) ≡ check s
+    unfolding ◌>>=◌ closed when◌then◌else◌
+    check-left n = sym (check_open e ∙ rw (ne_eqb (length stack) 0 n))

@@ -11,8 +11,7 @@ use Rattle.utf8.proofs.Text.{Valid}
 use Rattle.records.specs.Records.{token_at, tokens, is_text}
 use Rattle.document.specs.Answers.{verdict_of}
 use Rattle.records.specs.declared.Kind.TheVariants as kind
-use Rattle.document.specs.declared.Checked.{Checked}
-use Rattle.document.specs.declared.Checked.TheVariants as checked
+use Rattle.std.specs.Prelude.{Result as Answer, Ok, Err}
 use Rattle.base.proofs.Results.{All, all_given, refused-gives, gives_same, bind_gives, if_gives, else_gives}
 use Rattle.document.proofs.Refusals.{reads_at, reads_end}
 use Rattle.document.proofs.Opening.{first_read}
@@ -128,12 +127,12 @@ pub check_sane : (s : List ℕ) → All (λ _. Sanes (tokens 0 0 s)) (check s)
 check_sane s = all_given (λ _. Sanes (tokens 0 0 s)) (check s) (λ x e. open_sane s [] (check-gives s x e).1)
 
 -- the code's verdict on what was read
-module _ {A : Type 0} (x : A) {c : Checked} {r : Result A} where
-  pub verdict_gives : verdict_of c x ≡ r → c ≡ checked.Accepted → r ≡ gives x
-  verdict_gives e f = sym e ∙ ap (λ (c : Checked). verdict_of c x) f
+module _ {A : Type 0} (x : A) {c : Answer Unit Refusal} {r : Result A} where
+  pub verdict_gives : verdict_of c x ≡ r → c ≡ Ok tt → r ≡ gives x
+  verdict_gives e f = sym e ∙ ap (λ (c : Answer Unit Refusal). verdict_of c x) f
 
-  pub verdict_refused : {a : Refusal} → verdict_of c x ≡ r → c ≡ checked.Refused a → r ≡ refused (refusal_number a) (refusal_place a)
-  verdict_refused e f = sym e ∙ ap (λ (c : Checked). verdict_of c x) f
+  pub verdict_refused : {a : Refusal} → verdict_of c x ≡ r → c ≡ Err a → r ≡ refused (refusal_number a) (refusal_place a)
+  verdict_refused e f = sym e ∙ ap (λ (c : Answer Unit Refusal). verdict_of c x) f
 
 -- Each record on the way
 

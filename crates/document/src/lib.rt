@@ -2,13 +2,17 @@
 
 #![tactic(auto)]
 
-ghost use Rattle.std.specs.Prelude.{◌≡◌, [], ◌+◌, ◌<◌, ◌≤◌, length, take};
-ghost use Rattle.document.specs.Document.{opens, closes, accept, open_blocks, check, max_open};
+ghost use Rattle.std.specs.Prelude.{◌≡◌, [], ◌<◌, ◌≤◌, ◌&&◌, leb, eqb, length, OnErr};
 ghost use Rattle.base.specs.Bytes.{part};
-ghost use Rattle.document.specs.Answers.{verdict_of, opened_as, turn_as, depth_of, put_on};
+ghost use Rattle.base.specs.Stack.{top, pushed, popped};
+ghost use Rattle.refusal.specs.Answers.{answered};
+ghost use Rattle.records.specs.Records.{index};
+ghost use Rattle.document.specs.Document.{opens, closes, accept, open_blocks, check, max_open};
+ghost use Rattle.document.specs.Answers.{verdict_of};
 
-use records::{Head, Kind};
+use records::{Block, Head, Kind};
 use refusal::Refusal;
+use std::marker::Model;
 
 // 'At most 32,768 bytes'
 pub const MAX_BYTES: usize = 32_768;
@@ -16,157 +20,146 @@ pub const MAX_BYTES: usize = 32_768;
 // 'At most .. 32 open blocks'
 pub const MAX_OPEN: usize = 32;
 
-// Whether a document is accepted.
-#[derive(Clone, Copy)]
-pub enum Checked {
-    Accepted,
-    Refused(Refusal),
+// The blocks that are open, by their indices, the innermost last.
+#[derive(Drop)]
+pub struct OpenBlocks {
+    indices: [u8; MAX_OPEN],
+    depth: usize,
 }
 
-// The verdict on a document whose blocks may be open, and the indices of its open blocks, the innermost last.
-#[derive(Clone, Copy)]
-pub struct Opened {
-    pub verdict: Checked,
-    pub stack: [u8; MAX_OPEN],
-    pub depth: usize,
+impl Model for OpenBlocks {
+    ghost use Rattle.std.specs.Prelude.{List, ℕ, ◌≤◌, take};
+
+    ghost Value = { List ℕ };
+
+    ghost view = { λ s. take s.depth s.indices };
+
+    ghost invariant = { λ s. s.depth ≤ 32 };
 }
 
-// What a record leaves open: so many blocks of the stack, or its refusal.
-#[derive(Clone, Copy)]
-pub enum Turn {
-    Open(usize),
-    Refused(Refusal),
-}
-
-// Refusal 7: the start of the block with an index, where the first `depth` blocks of the stack are open. Free is the answer where the
-// stack has fewer than 32 places.
-pub fn open_block(stack: &mut [u8], depth: usize, i: u8, at: usize) -> Turn
-    ensures open { max_open ≤ length stack.old → turn_as result stack.new ≡ opens at i (take depth stack.old) }
-    ensures shallow { depth_of result ≤ max_open }
-    ensures written { stack.new ≡ put_on stack.old depth i }
-{
-    if MAX_OPEN <= depth {
-        return Turn::Refused(Refusal::TooDeep(at));
+impl OpenBlocks {
+    pub fn new() -> OpenBlocks
+        ensures { result ≡ [] }
+    {
+        OpenBlocks {
+            indices: [0; MAX_OPEN],
+            depth: 0,
+        }
     }
-    if stack.len() <= depth {
-        return Turn::Refused(Refusal::TooDeep(at));
+
+    // How many are open.
+    pub fn depth(&self) -> usize
+        ensures { (result ≡ length self.now) × (result ≤ max_open) }
+    {
+        self.depth
     }
-    stack[depth] = i;
-    Turn::Open(depth + 1)
+
+    // Whether the innermost is this one.
+    pub fn is_innermost(&self, b: Block) -> bool
+        ensures { result ≡ (leb 1 (length self.now) && eqb (top self.now) (index b)) }
+    {
+        if self.depth < 1 {
+            return false;
+        }
+        usize::from(self.indices[self.depth - 1]) == b.index()
+    }
+
+    // One more, where they are fewer than 32.
+    pub fn push(&mut self, b: Block)
+        requires { length self.old < max_open }
+        ensures { self.new ≡ pushed (index b) self.old }
+    {
+        self.indices[self.depth] = b.index() as u8;
+        self.depth += 1;
+    }
+
+    // Without the innermost, if there is one.
+    pub fn pop(&mut self)
+        ensures { self.new ≡ popped self.old }
+    {
+        self.depth = self.depth.saturating_sub(1);
+    }
+
+    // Refusal 7: a block's start.
+    pub fn open(&mut self, b: Block, at: usize) -> Result<(), Refusal>
+        ensures opened { verdict_of result self.new ≡ opens at (index b) self.old }
+        ensures kept { OnErr result (self.new ≡ self.old) }
+    {
+        if MAX_OPEN <= self.depth() {
+            return Err(Refusal::TooDeep(at));
+        }
+        self.push(b);
+        Ok(())
+    }
+
+    // Refusal 6: a block's end.
+    pub fn close(&mut self, b: Block, at: usize) -> Result<(), Refusal>
+        ensures closed { verdict_of result self.new ≡ closes at (index b) self.old }
+        ensures kept { OnErr result (self.new ≡ self.old) }
+    {
+        if !self.is_innermost(b) {
+            return Err(Refusal::WrongEnd(at));
+        }
+        self.pop();
+        Ok(())
+    }
 }
 
-// Refusal 6: the end of the block with an index, where so many blocks are on the stack.
-fn close_top(stack: &[u8], depth: usize, i: u8, at: usize) -> Turn
-    requires { depth ≤ length stack.now }
-    ensures open { turn_as result stack.now ≡ closes at i (take depth stack.now) }
-    ensures shallow { depth_of result ≤ depth }
+// Refusals 3 to 7 of a record with this head.
+fn accept(document: &[u8], at: usize, h: Head, blocks: &mut OpenBlocks) -> Result<(), Refusal>
+    requires { (h.start ≤ h.stop) × (h.stop ≤ length document.now) }
+    ensures { verdict_of result blocks.new ≡ accept at h.kind (part document.now h.start h.stop) blocks.old }
 {
-    if depth < 1 {
-        return Turn::Refused(Refusal::WrongEnd(at));
-    }
-    if stack[depth - 1] != i {
-        return Turn::Refused(Refusal::WrongEnd(at));
-    }
-    Turn::Open(depth - 1)
-}
-
-// Refusal 6: the end of the block with an index, where the first `depth` blocks of the stack are open, or all that it has.
-pub fn close_block(stack: &[u8], depth: usize, i: u8, at: usize) -> Turn
-    ensures open { turn_as result stack.now ≡ closes at i (take depth stack.now) }
-    ensures shallow { depth_of result ≤ depth }
-{
-    close_top(stack, base::min(depth, stack.len()), i, at)
-}
-
-// Refusals 3 to 7 of a record with this head, where the first `depth` blocks of the stack are open.
-fn accept(document: &[u8], at: usize, h: Head, stack: &mut [u8], depth: usize) -> Turn
-    requires { (h.start ≤ h.stop) × (h.stop ≤ length document.now) × (length stack.old ≡ max_open) × (depth ≤ max_open) }
-    ensures open { turn_as result stack.new ≡ accept at h.kind (part document.now h.start h.stop) (take depth stack.old) }
-    ensures shallow { depth_of result ≤ max_open }
-{
-    let kind = h.kind;
-    let start = h.start;
-    let stop = h.stop;
-    match kind {
-        Kind::Unknown => Turn::Refused(Refusal::UnknownKind(at)),
+    match h.kind {
+        Kind::Unknown => Err(Refusal::UnknownKind(at)),
         Kind::Text(_) => {
-            if utf8::valid(&document[start..stop]) {
-                return Turn::Open(depth);
+            if !utf8::valid(&document[h.start..h.stop]) {
+                return Err(Refusal::NotUtf8(at));
             }
-            Turn::Refused(Refusal::NotUtf8(at))
+            Ok(())
         }
         Kind::Start(b) => {
-            if start < stop {
-                return Turn::Refused(Refusal::BlockWithBody(at));
+            if h.start < h.stop {
+                return Err(Refusal::BlockWithBody(at));
             }
-            open_block(stack, depth, records::index_of(b) as u8, at)
+            blocks.open(b, at)
         }
         Kind::End(b) => {
-            if start < stop {
-                return Turn::Refused(Refusal::BlockWithBody(at));
+            if h.start < h.stop {
+                return Err(Refusal::BlockWithBody(at));
             }
-            close_top(stack, depth, records::index_of(b) as u8, at)
+            blocks.close(b, at)
         }
     }
 }
 
-// Refusals 2 to 7 of a document, in one pass, and its blocks that are left open. Free are the stack from `depth` on and, after a
-// refusal, `depth` and all of the stack; `shallow` holds of them.
-pub fn open_blocks(document: &[u8]) -> Opened
-    ensures open { opened_as result ≡ open_blocks document.now }
-    ensures shallow { (result.depth ≤ max_open) × (length result.stack ≡ max_open) }
+// Refusals 2 to 7 of a document, in one pass, and its blocks that are left open.
+pub fn open_blocks(document: &[u8]) -> Result<OpenBlocks, Refusal>
+    ensures { answered result ≡ open_blocks document.now }
 {
-    let mut stack: [u8; MAX_OPEN] = [0; MAX_OPEN];
-    let mut depth: usize = 0;
+    let mut blocks = OpenBlocks::new();
     let mut at: usize = 0;
     while at < document.len() {
         if !records::fits_at(document, at) {
-            return Opened {
-                verdict: Checked::Refused(Refusal::CutShort(at)),
-                stack,
-                depth,
-            };
+            return Err(Refusal::CutShort(at));
         }
         let h = records::whole_at(document, at);
-        let turn = accept(document, at, h, &mut stack, depth);
-        match turn {
-            Turn::Open(d) => {
-                depth = d;
-            }
-            Turn::Refused(r) => {
-                return Opened {
-                    verdict: Checked::Refused(r),
-                    stack,
-                    depth,
-                };
-            }
-        }
+        accept(document, at, h, &mut blocks)?;
         at = h.next;
     }
-    Opened {
-        verdict: Checked::Accepted,
-        stack,
-        depth,
-    }
+    Ok(blocks)
 }
 
 // Refusals 1 to 8 of a document.
-pub fn check(document: &[u8]) -> Checked
+pub fn check(document: &[u8]) -> Result<(), Refusal>
     ensures { verdict_of result [] ≡ check document.now }
 {
     if MAX_BYTES < document.len() {
-        return Checked::Refused(Refusal::TooLong);
+        return Err(Refusal::TooLong);
     }
-    let o = open_blocks(document);
-    let verdict = o.verdict;
-    let depth = o.depth;
-    match verdict {
-        Checked::Accepted => {
-            if depth == 0 {
-                return Checked::Accepted;
-            }
-            Checked::Refused(Refusal::LeftOpen(document.len()))
-        }
-        Checked::Refused(r) => Checked::Refused(r),
+    let blocks = open_blocks(document)?;
+    if blocks.depth() != 0 {
+        return Err(Refusal::LeftOpen(document.len()));
     }
+    Ok(())
 }

@@ -1,15 +1,13 @@
 -- Documents added by a draft. Assumes nothing.
 use Rattle.draft.proofs.Names.{ℕ, ◌+◌, ◌-◌, Bool, ◌≡◌, refl, sym, ap, ◌∙◌, subst, List, [], ◌++◌, append_assoc, length, take, length-append, arith}
-use Rattle.draft.proofs.Names.{Result, gives, ◌>>=◌, measured, bind_gives, stored, start, end, around, kind_closes, reads, open_blocks, check}
-use Rattle.draft.proofs.Names.{check-gives, Refusal, add, adds_as, built_as, kept, Built, length-stored, so_far-on, says_same, Ready, Joins, made_of}
-use Rattle.draft.proofs.Names.{fit_gives, Nested, around_leaves, around_front, made_nested, Last, Opens, Holds, Does, Draft}
+use Rattle.draft.proofs.Names.{gives, ◌>>=◌, bind_gives, stored, start, end, around, kind_closes, reads, open_blocks, check}
+use Rattle.draft.proofs.Names.{check-gives, Refusal, add, adds_as, Follows, kept, length-stored, so_far-on, follows_same, Ready, Joins, made_of}
+use Rattle.draft.proofs.Names.{fit_gives, Nested, around_leaves, around_front, made_nested, Last, Opens, Holds, Calls, Draft, Answer, Ok}
 use Rattle.records.specs.declared.Block.TheVariants as block
 use Rattle.records.specs.declared.Kind.TheVariants as kind
-use Rattle.buffer.specs.declared.Built.TheVariants as built
-use Rattle.draft.specs.declared.Drafted.TheVariants as drafted
 use Rattle.draft.proofs.Packing.{opens-length, opens-same}
 use Rattle.draft.proofs.Holding.{so_far_held, holds_kept, ends_one, one_accepted, stored_one, stored_is}
-use Rattle.draft.proofs.Calls.{built_refused, built_length}
+use Rattle.draft.proofs.Calls.{built_length}
 
 module _ {d : Draft} {room : List ℕ} (o : Holds d room) (x records : List ℕ) where
   adds_on : adds_as room d.length x records
@@ -44,21 +42,16 @@ module _ {d : Draft} {room : List ℕ} (o : Holds d room) (x records : List ℕ)
             (stored_is 0x0208 [] (omega arith) (omega arith) ∙ kind_closes block.InlineBlock) (omega arith) c);
       }) (omega (arith, ap length q.0, q.1))
 
-module _ {d : Draft} {room : List ℕ} (o : Holds d room) (x : List ℕ) (em : Bool) (new : List ℕ) (b : Built)
+module _ {d : Draft} {room : List ℕ} (x : List ℕ) (em : Bool) {new : List ℕ} {b : Answer ℕ Refusal}
     (p : Ready room d.length d.depth → Joins x (made_of em x) d.length d.depth room new b) where
-  abbrev Rule : Result (List ℕ)
-  Rule = adds_as room d.length x (made_of em x)
-
-  said : (built_as b ≡ measured Rule) × (new ≡ kept room Rule)
-  said =
+  pub doc-said : Holds d room → Follows (adds_as room d.length x (made_of em x)) room new b
+  doc-said o =
       let ready : Ready room d.length d.depth = record { inside = o.inside; small = o.small; shallow = o.of.opens.shallow } in
-      says_same room new (sym (adds_on o x (made_of em x))) ((p ready).does o.of.stack (opens-length o.of.opens))
+      follows_same (sym (adds_on o x (made_of em x))) ((p ready).does o.of.stack (opens-length o.of.opens))
 
-  pub doc_refused : {a : Refusal} → b ≡ built.Refused a → Does Rule room new (drafted.Refused a)
-  doc_refused e = built_refused room new b said e
-
-  pub doc_given : {n at : ℕ} → b ≡ built.Length n → at ≡ n - 6
-      → Does Rule room new (drafted.Next (record { length = n; last = at; style = 0; depth = d.depth; inner = d.inner; outer = d.outer }))
+  pub doc_given : {n at : ℕ} → b ≡ Ok n → at ≡ n - 6
+      → Calls (Holds d room) (adds_as room d.length x (made_of em x)) room new
+      (Ok (record { length = n; last = at; style = 0; depth = d.depth; inner = d.inner; outer = d.outer }))
   doc_given e f =
-      built_length room new b said e refl (λ y g l.
+      built_length e doc-said refl (λ o y g l.
       of_around o x (made_of em x) y (made_nested em x) g l (f ∙ ap (λ (m : ℕ). m - 6) l) refl refl refl refl)

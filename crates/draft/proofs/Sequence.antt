@@ -1,7 +1,7 @@
 -- A page that is built through a draft from nothing is the page that the builder's own calls build, call by call, refusals too. Assumes nothing.
 use Rattle.draft.proofs.Names.{ℕ, ◌≡◌, refl, sym, ap, ◌∙◌, subst, List, [], ◌∷◌, Result, gives, refused, measured, refused-gives, Style, Block}
-use Rattle.draft.proofs.Names.{writes, opens_block, closes_block, adds_doc, adds_em_doc, kept, arith, Holds, Sound, Does, Draft, Drafted}
-use Rattle.draft.specs.declared.Drafted.TheVariants as drafted
+use Rattle.draft.proofs.Names.{writes, opens_block, closes_block, adds_doc, adds_em_doc, kept, arith, Holds, Sound, Does, Draft, Answer, Ok, Err}
+use Rattle.refusal.specs.declared.Refusal.{Refusal}
 use Rattle.draft.proofs.Holding.{Nothing, of_none}
 
 -- a call of the builder, and its rule
@@ -37,23 +37,23 @@ built [] s = s
 built (c ∷ cs) s = built cs (after c s)
 
 -- the same calls by a draft, each with what its function promises; a refused call leaves the draft as it was
-abbrev pub draft_after : Draft → Drafted → Draft
-draft_after d (drafted.Next e) = e
-draft_after d (drafted.Refused a) = d
+abbrev pub draft_after : Draft → Answer Draft Refusal → Draft
+draft_after d (Ok e) = e
+draft_after d (Err a) = d
 
 pub data Drafted-by : List Call → List ℕ → Draft → List ℕ → Draft → Type 0 where
   done : {room : List ℕ} {d : Draft} → Drafted-by [] room d room d
-  then : {c : Call} {cs : List Call} {room mid new : List ℕ} {d e : Draft} (r : Drafted) → (Sound room d → Does (rule_of c room d.length) room mid r)
+  then : {c : Call} {cs : List Call} {room mid new : List ℕ} {d e : Draft} (r : Answer Draft Refusal) → (Sound room d → Does (rule_of c room d.length) room mid r)
       → Drafted-by cs mid (draft_after d r) new e → Drafted-by (c ∷ cs) room d new e
 
 same-state : {a b : List ℕ} {m n : ℕ} → a ≡ b → m ≡ n → ◌≡◌ {A = State} (record { room = a; length = m }) (record { room = b; length = n })
 same-state e f = λ i. record { room = e i; length = f i }
 
-one-call : (room mid : List ℕ) (d : Draft) (rule : Result (List ℕ)) (r : Drafted) → Holds d room → Does rule room mid r
+one-call : (room mid : List ℕ) (d : Draft) (rule : Result (List ℕ)) (r : Answer Draft Refusal) → Holds d room → Does rule room mid r
     → ((draft_after d r).length ≡ length_after d.length (measured rule)) × Holds (draft_after d r) mid
-one-call room mid d rule (drafted.Next e) h s = (ap (length_after d.length) s.answer, s.holds)
-one-call room mid d (gives x) (drafted.Refused a) h s = absurd (refused-gives s.answer)
-one-call room mid d (refused n p) (drafted.Refused a) h s = (refl, subst (Holds d) (sym s.room) h)
+one-call room mid d rule (Ok e) h s = (ap (length_after d.length) s.answer, s.holds)
+one-call room mid d (gives x) (Err a) h s = absurd (refused-gives s.answer)
+one-call room mid d (refused n p) (Err a) h s = (refl, subst (Holds d) (sym s.room) h)
 
 pub call-by-call : {cs : List Call} {room new : List ℕ} {d e : Draft} → Holds d room → Drafted-by cs room d new e
     → (built cs (record { room = room; length = d.length }) ≡ record { room = new; length = e.length }) × Holds e new

@@ -1,6 +1,6 @@
 -- A draft: what a check would find out about the document that stands in the first bytes of a room, carried from call to call of the
 -- builder, so that no call reads the document anew.
-use Rattle.std.specs.Prelude.{ℕ, zero, suc, ◌+◌, ◌*◌, ◌/◌, ◌%◌, ◌^◌, ◌≤◌, ◌<◌, ◌≡◌, Bool, true, ◌&&◌, List, [], leb, eqb, length, take, drop, get_or}
+use Rattle.std.specs.Prelude.{ℕ, zero, suc, ◌+◌, ◌*◌, ◌/◌, ◌%◌, ◌^◌, ◌≤◌, ◌<◌, ◌≡◌, Bool, true, ◌&&◌, List, [], leb, eqb, length, take, drop, get_or, Result as Answer, Ok, Err}
 use Rattle.base.specs.Choice.{when◌then◌else◌}
 use Rattle.base.specs.Result.{Result, gives, refused, ◌>>=◌, measured}
 use Rattle.base.specs.Stack.{pushed}
@@ -9,11 +9,10 @@ use Rattle.records.specs.declared.Kind.{Kind}
 use Rattle.records.specs.declared.Kind.TheVariants as kind
 use Rattle.document.specs.Document.{open_blocks, max_bytes, max_open}
 use Rattle.refusal.specs.Numbers.{refusal_number, refusal_place}
+use Rattle.refusal.specs.declared.Refusal.{Refusal}
 use Rattle.buffer.specs.Builder.{so_far}
-use Rattle.buffer.specs.Answers.{kept}
+use Rattle.buffer.specs.Answers.{kept, Of01}
 use Rattle.draft.specs.declared.Draft.{Draft}
-use Rattle.draft.specs.declared.Drafted.{Drafted}
-use Rattle.draft.specs.declared.Drafted.TheVariants as drafted
 
 -- the draft in eight words, of which the last two say nothing: '`uint64_t draft[8]`'
 abbrev pub draft_in : List ℕ → Draft
@@ -83,23 +82,28 @@ abbrev pub Sound : List ℕ → Draft → Type 0
 Sound room d = plausible room d ≡ true → Holds d room
 
 -- the answer: the new length, or the refusal's number and place
-abbrev pub drafted_as : Drafted → Result ℕ
-drafted_as (drafted.Next d) = gives d.length
-drafted_as (drafted.Refused r) = refused (refusal_number r) (refusal_place r)
+abbrev pub drafted_as : Answer Draft Refusal → Result ℕ
+drafted_as (Ok d) = gives d.length
+drafted_as (Err r) = refused (refusal_number r) (refusal_place r)
 
 -- the new draft holds of the room as it is then
-abbrev pub HoldsAfter : List ℕ → Drafted → Type 0
-HoldsAfter room (drafted.Next d) = Holds d room
-HoldsAfter room (drafted.Refused r) = Unit {0}
+abbrev pub HoldsAfter : List ℕ → Answer Draft Refusal → Type 0
+HoldsAfter room (Ok d) = Holds d room
+HoldsAfter room (Err r) = Unit {0}
 
 -- 'one check: 13, 1, 2 to 7': the draft of the document in the first n bytes of a room, or the document's refusal
-abbrev pub Resumed : List ℕ → ℕ → Drafted → Type 0
-Resumed room n (drafted.Next d) = (d.length ≡ n) × Holds d room
-Resumed room n (drafted.Refused r) = (so_far room n >>= open_blocks) ≡ refused (refusal_number r) (refusal_place r)
+abbrev pub Resumed : List ℕ → ℕ → Answer Draft Refusal → Type 0
+Resumed room n (Ok d) = (d.length ≡ n) × Holds d room
+Resumed room n (Err r) = (so_far room n >>= open_blocks) ≡ refused (refusal_number r) (refusal_place r)
 
 -- a call does what a rule of the builder says: 'the answer, its place and every byte of the room are exactly today's builder's', and the
 -- new draft holds
-pub record Does (rule : Result (List ℕ)) (old new : List ℕ) (r : Drafted) : Type 0 where
+pub record Does (rule : Result (List ℕ)) (old new : List ℕ) (r : Answer Draft Refusal) : Type 0 where
   pub answer : drafted_as r ≡ measured rule
   pub room : new ≡ kept old rule
   pub holds : HoldsAfter new r
+
+-- a call through a draft: it is refused only with numbers of 01, and where the draft is ready for it, it does what the rule says
+pub record Calls (ready : Type 0) (rule : Result (List ℕ)) (old new : List ℕ) (r : Answer Draft Refusal) : Type 0 where
+  pub numbers : Of01 (drafted_as r)
+  pub does : ready → Does rule old new r

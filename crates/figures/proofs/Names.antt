@@ -9,7 +9,7 @@ unfoldable pub use Rattle.base.specs.Stack.{popped, pushed, top}
 unfoldable pub use Rattle.console_rules.specs.Console.{console}
 pub use Rattle.figures.specs.Bundle.{accepts, figures_of, prints, refuses, shelf}
 unfoldable pub use Rattle.figures.specs.Bundle.{document, documents, documents_from, figures, full_text, total}
-pub use Rattle.figures.specs.InnerParts.{Bounded, Few, lent, nothing, plus, printed_as, printed_of}
+pub use Rattle.figures.specs.InnerParts.{Bounded, Few, lent, nothing, plus, printed_of}
 unfoldable pub use Rattle.figures.specs.InnerParts.{from}
 pub use Rattle.records.specs.Records.{Token, is_end, is_start}
 unfoldable pub use Rattle.records.specs.Records.{blocks, joined, kind_of, little, record_fits, size, styles, token_at, tokens}

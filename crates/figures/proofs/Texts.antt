@@ -1,6 +1,7 @@
 -- A document's text in a room: the console's answer, and how many characters it prints. Assumes nothing.
 use Rattle.figures.proofs.Names.{ℕ, ◌+◌, ◌-◌, ◌≤◌, ◌≡◌, refl, sym, ap, ◌∙◌, true, List, [], ◌∷◌, length, take, drop, length-take, length-drop, arith}
-use Rattle.figures.proofs.Names.{Result, gives, refused, measured, part, pick, if_true, console, shelf, full_text, printed_of, printed_as, Few, lent}
+use Rattle.figures.proofs.Names.{Result, gives, refused, measured, part, pick, if_true, console, shelf, full_text, printed_of, Few, lent}
+use Rattle.std.specs.Prelude.{Result as Answer, Ok, Err}
 use native.Mathlib.Nat.{sub-zero}
 use Rattle.base.proofs.Results.{refused-gives, gives_same}
 use Rattle.utf8.specs.Utf8.{continues, utf8, decode, characters}
@@ -8,12 +9,8 @@ use Rattle.utf8.proofs.Text.{count_is}
 use Rattle.white.specs.White.{white, unblank, printing, printing_count}
 use Rattle.refusal.specs.Numbers.{refusal_number, refusal_place}
 use Rattle.refusal.specs.declared.Refusal.{Refusal}
-use Rattle.renderer.specs.Rendered.{answered}
-use Rattle.renderer.specs.declared.Rendered.{Rendered}
-use Rattle.renderer.specs.declared.Rendered.TheVariants as rendered
+use Rattle.refusal.specs.Answers.{answered}
 use Rattle.console.specs.Answers.{Demand3}
-use Rattle.figures.specs.declared.Printed.{Printed}
-use Rattle.figures.specs.declared.Printed.TheVariants as printed
 use Rattle.figures.proofs.Lent.{same_when_lent}
 
 -- a text prints no more characters than it has bytes
@@ -46,7 +43,7 @@ text_of : (r : Result (List ℕ)) (n : ℕ) → gives n ≡ measured r → (x : 
 text_of (gives x) n e = (x, refl, gives_same e)
 text_of (refused k p) n e = absurd (refused-gives (sym e))
 
-module _ (d room after : List ℕ) (a : Rendered) (n : ℕ) (t : a ≡ rendered.Text n) (e : answered a ≡ measured (console shelf (length room) d))
+module _ (d room after : List ℕ) (a : Answer ℕ Refusal) (n : ℕ) (t : a ≡ Ok n) (e : answered a ≡ measured (console shelf (length room) d))
     (k : Demand3 shelf d room after (answered a)) where
   found : (x : List ℕ) × (console shelf (length room) d ≡ gives x) × (n ≡ length x)
   found = text_of (console shelf (length room) d) n (sym (ap answered t) ∙ e)
@@ -70,23 +67,23 @@ module _ (d room after : List ℕ) (a : Rendered) (n : ℕ) (t : a ≡ rendered.
     pub text_few : c ≤ length after
     text_few = omega (arith, front, printing-short (take n after), length-take n after)
 
-pub none-printed : (r : Result (List ℕ)) (x : Rendered) (a : Refusal) → x ≡ rendered.Refused a → answered x ≡ measured r
-    → printed_as (printed.Refused a) ≡ printed_of r
+pub none-printed : (r : Result (List ℕ)) (x : Answer ℕ Refusal) (a : Refusal) → x ≡ Err a → answered x ≡ measured r
+    → refused (refusal_number a) (refusal_place a) ≡ printed_of r
 none-printed (gives y) x a t e = absurd (refused-gives (sym (ap answered t) ∙ e))
 none-printed (refused n q) x a t e = sym (ap answered t) ∙ e
 
 -- what was counted of a document in the part of the room that it is lent
-module _ (room d : List ℕ) (p : Printed) (size : length room ≡ lent (length d)) (e : printed_as p ≡ printed_of (console shelf (length room) d)) where
-  in_room : printed_as p ≡ printed_of (full_text d)
+module _ (room d : List ℕ) (p : Answer ℕ Refusal) (size : length room ≡ lent (length d)) (e : answered p ≡ printed_of (console shelf (length room) d)) where
+  in_room : answered p ≡ printed_of (full_text d)
   in_room = e ∙ ap (λ (k : ℕ). printed_of (console shelf k d)) size ∙ ap printed_of (same_when_lent d)
 
-  pub some-counted : (n : ℕ) → p ≡ printed.Characters n → gives n ≡ printed_of (full_text d)
-  some-counted n t = sym (ap printed_as t) ∙ in_room
+  pub some-counted : (n : ℕ) → p ≡ Ok n → gives n ≡ printed_of (full_text d)
+  some-counted n t = sym (ap answered t) ∙ in_room
 
-  pub none-counted : (a : Refusal) → p ≡ printed.Refused a → refused (refusal_number a) (refusal_place a) ≡ printed_of (full_text d)
-  none-counted a t = sym (ap printed_as t) ∙ in_room
+  pub none-counted : (a : Refusal) → p ≡ Err a → refused (refusal_number a) (refusal_place a) ≡ printed_of (full_text d)
+  none-counted a t = sym (ap answered t) ∙ in_room
 
-pub few_at_most : (most : ℕ) (p : Printed) (n : ℕ) → p ≡ printed.Characters n → Few most p → n ≤ most
+pub few_at_most : (most : ℕ) (p : Answer ℕ Refusal) (n : ℕ) → p ≡ Ok n → Few most p → n ≤ most
 few_at_most most p n t h = rw t at h
 
 -- the part of a room that is lent, and a document's size

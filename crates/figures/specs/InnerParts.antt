@@ -1,26 +1,20 @@
 -- What the functions inside this crate promise each other; no rule of 02 stands here.
-use Rattle.std.specs.Prelude.{ℕ, ◌+◌, ◌*◌, ◌≤◌, min, List, length, drop}
+use Rattle.std.specs.Prelude.{ℕ, ◌+◌, ◌*◌, ◌≤◌, min, List, length, drop, Result as Answer, Ok, Err}
 use Rattle.base.specs.Result.{Result, gives, refused, ◌>>=◌}
 use Rattle.white.specs.White.{printing}
-use Rattle.refusal.specs.Numbers.{refusal_number, refusal_place}
+use Rattle.refusal.specs.declared.Refusal.{Refusal}
 use Rattle.figures.specs.Bundle.{documents_from, accepts, refuses, prints, total}
 use Rattle.figures.specs.declared.Figures.{Figures}
-use Rattle.figures.specs.declared.Printed.{Printed}
-use Rattle.figures.specs.declared.Printed.TheVariants as printed
 
 -- how many characters a text prints, or its refusal
 abbrev pub printed_of : Result (List ℕ) → Result ℕ
 printed_of (gives x) = gives (length (printing x))
 printed_of (refused n p) = refused n p
 
-abbrev pub printed_as : Printed → Result ℕ
-printed_as (printed.Characters n) = gives n
-printed_as (printed.Refused a) = refused (refusal_number a) (refusal_place a)
-
 -- they are at most so many
-abbrev pub Few : ℕ → Printed → Type 0
-Few most (printed.Characters n) = n ≤ most
-Few most (printed.Refused a) = Unit {0}
+abbrev pub Few : ℕ → Answer ℕ Refusal → Type 0
+Few most (Ok n) = n ≤ most
+Few most (Err a) = Unit {0}
 
 -- how much of a room of 65,536 bytes is lent for a document of so many bytes: 54 times as many and one, or all of it
 abbrev pub lent : ℕ → ℕ

@@ -1,4 +1,3 @@
 pub mod Bundle
-pub mod Answers
 pub mod InnerParts
 pub mod Samples

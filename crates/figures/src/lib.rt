@@ -5,11 +5,10 @@
 ghost use Rattle.std.specs.Prelude.{◌≡◌, [], ◌∷◌, ◌≤◌, ◌+◌, length};
 ghost use Rattle.console_rules.specs.Console.{console};
 ghost use Rattle.figures.specs.Bundle.{shelf, full_text, figures};
-ghost use Rattle.figures.specs.Answers.{answered};
-ghost use Rattle.figures.specs.InnerParts.{printed_as, printed_of, plus, nothing, Few, Bounded, from};
+ghost use Rattle.refusal.specs.Answers.{answered};
+ghost use Rattle.figures.specs.InnerParts.{printed_of, plus, nothing, Few, Bounded, from};
 
 use refusal::Refusal;
-use renderer::Rendered;
 
 // Bodies seen, those with a text, the others, and the printing characters of the texts.
 #[derive(Clone, Copy)]
@@ -20,30 +19,13 @@ pub struct Figures {
     pub characters: usize,
 }
 
-// The figures of a bundle, or its refusal.
-#[derive(Clone, Copy)]
-pub enum Shelf {
-    Counted(Figures),
-    Refused(Refusal),
-}
-
-// How many characters a text prints, or its refusal.
-#[derive(Clone, Copy)]
-enum Printed {
-    Characters(usize),
-    Refused(Refusal),
-}
-
 // How many characters the text of a document prints that is written in a room, or its refusal.
-fn count_text(document: &[u8], room: &mut [u8]) -> Printed
-    ensures result_value { printed_as result ≡ printed_of (console shelf (length room.old) document.now) }
+fn count_text(document: &[u8], room: &mut [u8]) -> Result<usize, Refusal>
+    ensures result_value { answered result ≡ printed_of (console shelf (length room.old) document.now) }
     ensures few { Few (length room.old) result }
 {
-    let answer = console::monochrome(document, true, room);
-    match answer {
-        Rendered::Text(n) => Printed::Characters(printing::count(&room[0..n])),
-        Rendered::Refused(a) => Printed::Refused(a),
-    }
+    let n = console::monochrome(document, true, room)?;
+    Ok(printing::count(&room[0..n]))
 }
 
 // Some figures, with those of one document more. Its text takes at most 54 bytes for each of the document's and 1 (02, point 10): no more of
@@ -54,26 +36,24 @@ fn with_document(f: Figures, document: &[u8], room: &mut [u8]) -> Figures
     ensures bounded { (result.documents ≡ f.documents + 1) × Bounded result }
 {
     let documents = f.documents + 1;
-    let most = base::min(65_536, 54 * document.len() + 1);
-    let printed = count_text(document, &mut room[0..most]);
-    match printed {
-        Printed::Characters(n) => Figures {
+    let most = 65_536usize.min(54 * document.len() + 1);
+    match count_text(document, &mut room[0..most]) {
+        Ok(n) => Figures {
             documents,
             accepted: f.accepted + 1,
-            refused: f.refused,
             characters: f.characters + n,
+            ..f
         },
-        Printed::Refused(_) => Figures {
+        Err(_) => Figures {
             documents,
-            accepted: f.accepted,
             refused: f.refused + 1,
-            characters: f.characters,
+            ..f
         },
     }
 }
 
 // The figures of a bundle, document by document: 15, then 14, at each record.
-fn count_all(bundle: &[u8], room: &mut [u8]) -> Shelf
+fn count_all(bundle: &[u8], room: &mut [u8]) -> Result<Figures, Refusal>
     requires { (length bundle.now ≤ 65_536) × (length room.old ≡ 65_536) }
     ensures { answered result ≡ from bundle.now 0 nothing }
 {
@@ -86,25 +66,25 @@ fn count_all(bundle: &[u8], room: &mut [u8]) -> Shelf
     let mut at: usize = 0;
     while at < bundle.len() {
         if !records::fits_at(bundle, at) {
-            return Shelf::Refused(Refusal::BundleCutShort(at));
+            return Err(Refusal::BundleCutShort(at));
         }
         if records::two(bundle, at + 4) != 0x0300 {
-            return Shelf::Refused(Refusal::BundleKind(at));
+            return Err(Refusal::BundleKind(at));
         }
         let start = at + 6;
         let stop = start + records::four(bundle, at);
         f = with_document(f, &bundle[start..stop], room);
         at = stop;
     }
-    Shelf::Counted(f)
+    Ok(f)
 }
 
 // The figures of a bundle, or its refusal: 16 first.
-pub fn figures_of(bundle: &[u8]) -> Shelf
+pub fn figures_of(bundle: &[u8]) -> Result<Figures, Refusal>
     ensures { answered result ≡ figures bundle.now }
 {
     if 65_536 < bundle.len() {
-        return Shelf::Refused(Refusal::BundleTooLong);
+        return Err(Refusal::BundleTooLong);
     }
     let mut room = [0u8; 65536];
     count_all(bundle, &mut room)

@@ -1,16 +1,19 @@
 // Reads a document from standard input and prints its full console text for width 100, or one refusal line.
 #![tactic(auto)]
 
-use program::Input;
-use renderer::Rendered;
+use refusal::Refusal;
 use std::io;
 use std::io::Write;
 
 // Prints the answer. An `Err` says that not all of it was written.
-fn print_answer<W: Write>(writer: &mut W, answer: Rendered, room: &[u8]) -> io::Result<()> {
+fn print_answer<W: Write>(
+    writer: &mut W,
+    answer: Result<usize, Refusal>,
+    room: &[u8],
+) -> io::Result<()> {
     match answer {
-        Rendered::Text(n) => writer.write_all(base::get(room, 0, n)),
-        Rendered::Refused(a) => program::print_refusal(writer, a),
+        Ok(n) => writer.write_all(base::get(room, 0, n)),
+        Err(a) => program::print_refusal(writer, a),
     }
 }
 
@@ -30,12 +33,11 @@ fn show(rt: &HostRuntime, document: &[u8]) -> io::Result<()> {
 // One byte more than a document may have is read, so that a longer one is refused.
 fn main(rt: HostRuntime) -> io::Result<()> {
     let mut space = [0u8; 32769];
-    let input = program::read_input(&mut rt.stdin(), &mut space);
-    match input {
-        Input::Bytes(n) => show(&rt, base::get(&space, 0, n)),
-        Input::Failed => program::complain(
+    let Ok(n) = program::read_input(&mut rt.stdin(), &mut space) else {
+        return program::complain(
             &mut rt.stderr(),
             b"help_text: reading standard input failed\n",
-        ),
-    }
+        );
+    };
+    show(&rt, &space[..n])
 }

@@ -11,7 +11,7 @@ pub use Rattle.html_rules.specs.Html.{State, br, closing, end_tag, escaped, in_l
 unfoldable pub use Rattle.html_rules.specs.Html.{blank_line, change, chunk, css, enter, finish, html, leave, tagged, turn}
 pub use Rattle.html_rules.specs.declared.Html.{Html}
 pub use Rattle.html_tags.specs.InnerParts.{chunk_text, closed}
-unfoldable pub use Rattle.html_tags.specs.InnerParts.{block_text, headed, tags}
+unfoldable pub use Rattle.html_tags.specs.InnerParts.{block_text, headed}
 pub use Rattle.records.specs.Answers.{Read}
 pub use Rattle.records.specs.Records.{Token, index, record_fits, tokens, tokens_from}
 pub use Rattle.records.specs.declared.Block.{Block}

@@ -22,36 +22,32 @@ pub enum Escape {
 fn put_entity(room: &mut [u8], len: usize, byte: u8) -> usize
     ensures { seen room.new result ≡ bind (seen room.old len) (extended (length room.old) (entity false byte)) }
 {
-    if byte == b'<' {
-        return room::put_all(room, len, b"&lt;");
+    match byte {
+        b'<' => room::put_all(room, len, b"&lt;"),
+        b'>' => room::put_all(room, len, b"&gt;"),
+        _ => room::put(room, len, byte),
     }
-    if byte == b'>' {
-        return room::put_all(room, len, b"&gt;");
-    }
-    room::put(room, len, byte)
 }
 
 // A byte as strict HTML.
 fn put_strict(room: &mut [u8], len: usize, byte: u8) -> usize
     ensures { seen room.new result ≡ bind (seen room.old len) (extended (length room.old) (entity true byte)) }
 {
-    if byte == b'&' {
-        return room::put_all(room, len, b"&amp;");
+    match byte {
+        b'&' => room::put_all(room, len, b"&amp;"),
+        _ => put_entity(room, len, byte),
     }
-    put_entity(room, len, byte)
 }
 
 // A byte as Markdown inside Mono.
 fn put_bracket(room: &mut [u8], len: usize, byte: u8) -> usize
     ensures { seen room.new result ≡ bind (seen room.old len) (extended (length room.old) (bracket byte)) }
 {
-    if byte == b'[' {
-        return room::put_all(room, len, b"\\[");
+    match byte {
+        b'[' => room::put_all(room, len, b"\\["),
+        b']' => room::put_all(room, len, b"\\]"),
+        _ => room::put(room, len, byte),
     }
-    if byte == b']' {
-        return room::put_all(room, len, b"\\]");
-    }
-    room::put(room, len, byte)
 }
 
 // A byte of a chunk.
@@ -70,10 +66,8 @@ pub fn put_escaped(room: &mut [u8], len: usize, text: &[u8], how: Escape) -> usi
     ensures { seen room.new result ≡ bind (seen room.old len) (extended (length room.old) (escaped_by (entity_of how) text.now)) }
 {
     let mut n = len;
-    let mut i: usize = 0;
-    while i < text.len() {
-        n = put_escape(room, n, text[i], how);
-        i += 1;
+    for &byte in text {
+        n = put_escape(room, n, byte, how);
     }
     n
 }

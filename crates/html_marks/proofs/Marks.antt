@@ -1,9 +1,8 @@
--- Texts of a table, the test for Meta, and a line of its own. Assumes nothing.
+-- A line of its own. Assumes nothing.
 use Prim.Native.Nat.{ℕ, ◌≤◌}
 use mathlib.Core.Path.{◌≡◌, refl, sym, ◌∙◌}
 use mathlib.Core.Bool.{Bool, true, false, ◌||◌}
-use mathlib.Core.List.{List, [], ◌∷◌, ◌++◌}
-use lib.Dec.{eqb}
+use mathlib.Core.List.{List, [], ◌∷◌}
 use lib.ListN.{length, take}
 use lib.Seq.{length-take-le}
 use native.Mathlib.Omega.{arith}
@@ -14,26 +13,9 @@ use Rattle.base.proofs.Choice.{if_true, if_false}
 use Rattle.base.proofs.Results.{bind_end}
 use Rattle.room.specs.Room.{extended, seen}
 use Rattle.room.proofs.Laws.{seen_in}
-use Rattle.records.specs.Records.{index}
-use Rattle.records.specs.declared.Block.{Block}
-use Rattle.records.specs.declared.Kind.{Kind}
-use Rattle.records.specs.declared.Kind.TheVariants as kind
 use Rattle.renderer.specs.Walk.{empty}
 use Rattle.html_rules.specs.Marks.{separated}
-use Rattle.html_marks.specs.InnerParts.{spanned, is_meta}
-use Rattle.html_marks.specs.declared.Span.{Span}
 use Rattle.html_rules.proofs.Writes.{seen_then}
-
--- two texts of a table
-pub both_spans : (table tags x y : List ℕ) (a b : Span) → table ≡ tags → spanned tags a ≡ x → spanned tags b ≡ y → spanned table a ++ spanned table b ≡ x ++ y
-both_spans table tags x y a b e f g = rw (e, f, g)
-
--- the start and the end of a block
-pub start_meta : (k : Kind) {b : Block} (i : ℕ) → k ≡ kind.Start b → i ≡ index b → eqb i 10 ≡ is_meta k
-start_meta k i e f = rw (e, f)
-
-pub end_meta : (k : Kind) {b : Block} (i : ℕ) → k ≡ kind.End b → i ≡ index b → eqb i 10 ≡ is_meta k
-end_meta k i e f = rw (e, f)
 
 not-empty : (x : List ℕ) → 1 ≤ length x → empty x ≡ false
 unfolding empty

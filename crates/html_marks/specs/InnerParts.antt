@@ -1,14 +1,8 @@
 -- What the functions of HTML and Markdown promise each other; no rule of 01 stands here.
-use Rattle.std.specs.Prelude.{ℕ, Bool, false, List, eqb}
-use Rattle.base.specs.Bytes.{part}
+use Rattle.std.specs.Prelude.{Bool, false, eqb}
 use Rattle.records.specs.Records.{index}
 use Rattle.records.specs.declared.Kind.{Kind}
 use Rattle.records.specs.declared.Kind.TheVariants as kind
-use Rattle.html_marks.specs.declared.Span.{Span}
-
--- a text out of a table
-abbrev pub spanned : List ℕ → Span → List ℕ
-spanned table s = part table s.0 s.1
 
 -- a record is the start or the end of a Meta
 abbrev pub is_meta : Kind → Bool

@@ -3,19 +3,20 @@
 #![tactic(auto)]
 
 use records::Style;
+use skip::Skip;
 
 // What HTML keeps from one record to the next, beside the text and the open blocks: the open style, and the skip counter.
 #[derive(Clone, Copy)]
 pub struct Html {
     pub style: Style,
-    pub skip: usize,
+    pub skip: Skip,
 }
 
 // What Markdown keeps from one record to the next, beside the text.
 #[derive(Clone, Copy)]
 pub struct Markdown {
     pub style: Style,
-    pub skip: usize,
+    pub skip: Skip,
     // the last start of a Section4 or ItemTerm was followed at once by an ItemTerm's end: the source's `empty_term`
     pub bare: bool,
     // how many Mono blocks are open

@@ -4,9 +4,8 @@ unfoldable pub use Rattle.base.specs.Choice.{when◌then◌else◌}
 pub use Rattle.html_rules.proofs.Writes.{wrote_same, wrote_then}
 pub use Rattle.html_rules.specs.Html.{closing, end_tag, escaped, in_list, opening, start_tag}
 unfoldable pub use Rattle.html_rules.specs.Html.{br, entity}
-unfoldable pub use Rattle.html_tags.specs.InnerParts.{tags}
 unfoldable pub use Rattle.utf8.specs.Utf8.{bytes, encode}
 pub use borrow.Author.Rules.{rules}
-pub use mathlib.Core.Bool.{Bool, false, true}
+pub use mathlib.Core.Bool.{◌&&◌, Bool, false, true}
 pub use mathlib.Core.List.{List, [], ◌∷◌}
 pub use mathlib.Core.Path.{◌∙◌, ◌≡◌, ap, refl, subst, sym}

@@ -2,7 +2,6 @@
 use Rattle.std.specs.Prelude.{ℕ, Bool, List, ◌++◌, eqb}
 use Rattle.base.specs.Choice.{when◌then◌else◌}
 use Rattle.base.specs.Result.{Result, gives, ◌>>=◌}
-use Rattle.utf8.specs.Utf8.{bytes}
 use Rattle.room.specs.Room.{extended}
 use Rattle.records.specs.Records.{index}
 use Rattle.records.specs.declared.Style.{Style}
@@ -11,10 +10,6 @@ use Rattle.records.specs.declared.Block.{Block}
 use Rattle.splitter.specs.Split.{Chunk, raw, paragraph, line_break}
 use Rattle.html_rules.specs.Marks.{separated}
 use Rattle.html_rules.specs.Html.{opening, closing, escaped, br}
-
--- all tags in one text
-unfoldable pub tags : List ℕ
-tags = bytes "<tt><b><tt><i></b></tt></i></tt># <div>\n<div style='padding-left: 0.5em'><dt><dd><li><dl><p></div></dt>\n</dd>\n</li>\n</dl>\n</p>"
 
 -- what a chunk writes, where it does not end the walk of its body
 abbrev pub chunk_text : Bool → Chunk → List ℕ

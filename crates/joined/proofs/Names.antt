@@ -10,7 +10,7 @@ pub use Rattle.document.specs.Document.{check}
 pub use Rattle.joined_rules.proofs.Cut.{cut-some, heads_next, heads_none}
 pub use Rattle.joined_rules.proofs.Heads.{size-take}
 pub use Rattle.joined_rules.specs.Joined.{check_joined, heads_from}
-unfoldable pub use Rattle.joined_rules.specs.Joined.{concat, cut, heads_in, heads_of, records_at, unjoined}
+unfoldable pub use Rattle.joined_rules.specs.Joined.{cut, heads_in, heads_of, records_at, unjoined}
 pub use Rattle.records.specs.Records.{little, tokens_from}
 unfoldable pub use Rattle.records.specs.Records.{document_text, joined, size}
 unfoldable pub use Rattle.records.specs.Stored.{head, little_bytes}
@@ -24,7 +24,8 @@ pub use borrow.Author.Tests.{le-leb, leb-true, lt-leb}
 pub use lib.Dec.{leb}
 pub use lib.ListN.{drop, drop_of_length-le, length, length-append, length-drop, length-take, set, take}
 pub use lib.Seq.{drop_at, drop-drop, length-take-le, take-append-add}
-pub use mathlib.Core.List.{List, [], ◌++◌, append_assoc, append-nil}
+pub use mathlib.Core.List.{List, [], ◌++◌, ◌∷◌, append_assoc, append-nil}
 pub use mathlib.Core.Logic.{⊎_elim}
 pub use mathlib.Core.Path.{◌∙◌, ◌≡◌, ap, ap₂, refl, subst, sym}
 pub use native.Mathlib.Omega.{arith}
+pub use Rattle.std.specs.List.{concat}

@@ -2,7 +2,7 @@
 use Rattle.joined.proofs.Names.{ℕ, ◌+◌, ◌-◌, ◌≤◌, ◌<◌, ◌≡◌, refl, sym, ap, ap₂, ◌∙◌, subst, ⊎_elim, List, [], ◌++◌, append-nil, length, take, drop}
 use Rattle.joined.proofs.Names.{length-take, length-drop, drop_of_length-le, drop-drop, arith, part, Result, gives, ◌>>=◌, le_or_lt, bind_assoc}
 use Rattle.joined.proofs.Names.{bind_same, extended, seen, seen_in, seen-out, extended_in, extended_twice, little, size, tokens_from, joined}
-use Rattle.joined.proofs.Names.{little_bytes, head, check, AcceptedAt, accepted_at_0, open_whole, open_next, cut, concat, heads_from, heads_in}
+use Rattle.joined.proofs.Names.{little_bytes, check, AcceptedAt, accepted_at_0, open_whole, open_next, cut, concat, heads_from, heads_in}
 use Rattle.joined.proofs.Names.{records_at, unjoined, check_joined, cut-some, heads_next, heads_none, size-take}
 use Rattle.records.specs.Answers.{Read}
 use Rattle.records.specs.declared.Head.{Head}
@@ -10,9 +10,11 @@ use Rattle.records.proofs.Tokens.{tokens-end}
 use Rattle.records.proofs.Reading.{read_next}
 use Rattle.joined_rules.specs.Joined.{text_in, records}
 use Rattle.joined_rules.proofs.Moves.{Shared}
-use Rattle.joined_rules.proofs.Forms.{joined_shared, check_joined-gives}
+use Rattle.joined_rules.proofs.Forms.{joined_shared, check_joined-gives, text-length}
 use Rattle.joined_rules.proofs.Exactly.{shared_first}
-use Rattle.joined_check.proofs.Checking.{has-gives, text-part, part_length, part-share, part-after}
+use Rattle.std.specs.Int.{to_le_bytes}
+use Rattle.std.proofs.Math.Nat.{div-div-eq-div-mul}
+use Rattle.std.specs.Int.{w64}
 
 -- A room that held some bytes up to `len` is to hold `all` after them; `rest` of it is left to write, from `to` on.
 pub record Putting (old : List ℕ) (len : ℕ) (all rest room : List ℕ) (to : ℕ) : Type 0 where
@@ -52,10 +54,10 @@ pub putting_done : {old : List ℕ} {len : ℕ} {all left room : List ℕ} {to :
 putting_done {old} {room} {to} w e =
     sym (extended_none room to) ∙ ap₂ (λ (n : ℕ) (x : List ℕ). seen room to >>= extended n x) w.same (sym e) ∙ w.leads
 
--- a number's bytes are the first four of a record whose length it is
-pub four_bytes : (n : ℕ) {h : List ℕ} → h ≡ head n 0 → take 4 h ≡ little_bytes 4 n
-unfolding head little_bytes
-four_bytes n e = ap (take 4) e
+-- the four lowest bytes of a number
+pub four_bytes : (n : ℕ) → take 4 (to_le_bytes w64 n) ≡ little_bytes 4 n
+unfolding little_bytes
+four_bytes n = rw (div-div-eq-div-mul n 256 256, div-div-eq-div-mul n 65536 256) refl
 
 -- Bodies
 
@@ -81,7 +83,7 @@ pub going_start : {d : List ℕ} → check d ≡ gives [] → Going d 0
 going_start {d} e = record { stack = []; here = accepted_at_0 d [] e }
 
 pub firsts_end : (d : List ℕ) (at : ℕ) → length d ≤ at → concat (cut size 0 (drop at d)) ≡ []
-unfolding concat cut
+unfolding cut
 firsts_end d at h = ap (λ (s : List ℕ). concat (cut size 0 s)) (drop_of_length-le d h)
 
 module _ {d : List ℕ} {at : ℕ} {h : Head} (w : Going d at) (r : Read d at h) (l : at < length d) where
@@ -92,7 +94,6 @@ module _ {d : List ℕ} {at : ℕ} {h : Head} (w : Going d at) (r : Read d at h)
   going_six = omega (arith, (open_whole w.here r l).0, r.order, r.high)
 
   pub firsts_step : concat (cut size 0 (drop at d)) ≡ part d at (at + 6) ++ concat (cut size 0 (drop h.next d))
-  unfolding concat
   firsts_step =
       ap concat (cut-some size (drop at d) (omega (arith, length-drop at d)))
       ∙ ap₂ (λ (n : ℕ) (s : List ℕ). take n (drop at d) ++ concat (cut size 0 s)) (let z : 6 ≡ at + 6 - at = omega arith in z)
@@ -100,46 +101,38 @@ module _ {d : List ℕ} {at : ℕ} {h : Head} (w : Going d at) (r : Read d at h)
 
 -- Records of a joined form
 
--- The text from `from` to `to` is left for the records from `at` on.
-pub record Sharing (j : List ℕ) (to from at : ℕ) : Type 0 where
-  pub order : from ≤ to
-  pub behind : to ≤ at
-  pub near : at ≤ length j
-  pub shared : Shared (part j from to) (heads_from j at)
+-- some text is left for the records from `at` on
+pub record Sharing (j text : List ℕ) (at : ℕ) : Type 0 where
+  pub shared : Shared text (heads_from j at)
 
 -- what is left to write
-abbrev pub unjoined_from : List ℕ → ℕ → ℕ → ℕ → List ℕ
-unjoined_from j to from at = records (part j from to) (heads_from j at)
+abbrev pub unjoined_from : List ℕ → List ℕ → ℕ → List ℕ
+unjoined_from j text at = records text (heads_from j at)
 
-module _ (j : List ℕ) (e : check_joined j ≡ gives []) (n : ℕ) (f : n ≡ little (take 4 j)) where
-  pub sharing_start : Sharing j (4 + n) 4 (4 + n)
-  unfolding heads_in records_at size
-  sharing_start = record {
-    order = omega arith;
-    behind = omega arith;
-    near = omega (arith, (has-gives j (check_joined-gives j [] e).1).1);
-    shared = subst (λ (x : List ℕ). Shared x (heads_from j (4 + n))) (sym (text-part j n f))
-        (subst (λ (m : ℕ). Shared (text_in j) (heads_from j (4 + m))) (sym f) (joined_shared j [] e));
-  }
+module _ (j text : List ℕ) (e : check_joined j ≡ gives []) (f : text ≡ text_in j) where
+  start : 4 + length text ≡ records_at j
+  unfolding records_at
+  start = rw (f, text-length j (check_joined-gives j [] e).1)
 
-  pub unjoined-start : unjoined_from j (4 + n) 4 (4 + n) ≡ unjoined j
-  unfolding unjoined heads_in records_at size
-  unjoined-start = ap₂ (λ (x : List ℕ) (m : ℕ). records x (heads_from j (4 + m))) (text-part j n f) f
+  pub sharing_start : Sharing j text (4 + length text)
+  unfolding heads_in
+  sharing_start = record { shared = rw (start, f) (joined_shared j [] e) }
 
-module _ {j : List ℕ} {to from at : ℕ} (w : Sharing j to from at) where
-  pub unjoined-end : length j ≤ at → unjoined_from j to from at ≡ []
+  pub unjoined-start : unjoined_from j text (4 + length text) ≡ unjoined j
+  unfolding unjoined heads_in
+  unjoined-start = rw (start, f)
+
+module _ {j text : List ℕ} {at : ℕ} (w : Sharing j text at) where
+  pub unjoined-end : length j ≤ at → unjoined_from j text at ≡ []
   unfolding records
-  unjoined-end h = ap (records (part j from to)) (heads_none j at h)
+  unjoined-end h = ap (records text) (heads_none j at h)
 
   module _ (l : at < length j) where
-    inside : to ≤ length j
-    inside = omega (arith, w.behind, w.near)
-
     abbrev six : List ℕ
     six = take 6 (drop at j)
 
-    first : (length six ≡ 6) × (size six ≤ length (part j from to)) × Shared (drop (size six) (part j from to)) (heads_from j (at + 6))
-    first = shared_first (subst (Shared (part j from to)) (heads_next j at l) w.shared)
+    first : (length six ≡ 6) × (size six ≤ length text) × Shared (drop (size six) text) (heads_from j (at + 6))
+    first = shared_first (subst (Shared text) (heads_next j at l) w.shared)
 
     pub sharing_six : at + 6 ≤ length j
     sharing_six = omega (arith, first.0, length-take 6 (drop at j), length-drop at j)
@@ -149,34 +142,22 @@ module _ {j : List ℕ} {to from at : ℕ} (w : Sharing j to from at) where
       unfolding size
       size_is = size-take (drop at j) ∙ sym e
 
-      pub sharing_fits : n ≤ to - from
-      sharing_fits = omega (arith, first.1, size_is, part_length j from to w.order inside)
+      pub sharing_fits : n ≤ length text
+      sharing_fits = omega (arith, first.1, size_is)
 
-      after : drop (size six) (part j from to) ≡ part j (from + n) to
-      after = ap (λ (k : ℕ). drop k (part j from to)) size_is ∙ part-after j from to w.order inside n sharing_fits
-
-      pub sharing_next : Sharing j to (from + n) (at + 6)
-      sharing_next = record {
-        order = omega (arith, sharing_fits, w.order);
-        behind = omega (arith, w.behind);
-        near = sharing_six;
-        shared = subst (λ (x : List ℕ). Shared x (heads_from j (at + 6))) after first.2;
-      }
-
-      share-is : take (size six) (part j from to) ≡ part j from (from + n)
-      share-is = ap (λ (k : ℕ). take k (part j from to)) size_is ∙ part-share j from to w.order inside n sharing_fits
+      pub sharing_next : Sharing j (drop n text) (at + 6)
+      sharing_next = record { shared = rw (← size_is) first.2 }
 
       -- its first bytes and its share, then the others
-      pub unjoined-step : unjoined_from j to from at ≡ part j at (at + 6) ++ (part j from (from + n) ++ unjoined_from j to (from + n) (at + 6))
+      pub unjoined-step : unjoined_from j text at ≡ part j at (at + 6) ++ (take n text ++ unjoined_from j (drop n text) (at + 6))
       unfolding records
       unjoined-step =
-          ap (records (part j from to)) (heads_next j at l)
-          ∙ ap₂ (λ (x : List ℕ) (y : List ℕ). six ++ (x ++ records y (heads_from j (at + 6)))) share-is after
-          ∙ ap (λ (k : ℕ). take k (drop at j) ++ (part j from (from + n) ++ unjoined_from j to (from + n) (at + 6)))
-          (let z : 6 ≡ at + 6 - at = omega arith in z)
+          ap (records text) (heads_next j at l)
+          ∙ ap (λ (m : ℕ). six ++ (take m text ++ records (drop m text) (heads_from j (at + 6)))) size_is
+          ∙ ap (λ (k : ℕ). take k (drop at j) ++ (take n text ++ unjoined_from j (drop n text) (at + 6))) (let z : 6 ≡ at + 6 - at = omega arith in z)
 
 -- no record is left
-pub records_done : {j old room : List ℕ} {len to from at reached : ℕ} → Sharing j to from at
-    → Putting old len (unjoined j) (unjoined_from j to from at) room reached → length j ≤ at
+pub records_done : {j text old room : List ℕ} {len at reached : ℕ} → Sharing j text at
+    → Putting old len (unjoined j) (unjoined_from j text at) room reached → length j ≤ at
     → seen room reached ≡ (seen old len >>= extended (length old) (unjoined j))
 records_done w p h = putting_done p (unjoined-end w h)

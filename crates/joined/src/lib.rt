@@ -2,36 +2,37 @@
 
 #![tactic(auto)]
 
-ghost use Rattle.std.specs.Prelude.{◌≡◌, [], ◌≤◌, length};
+ghost use Rattle.std.specs.Prelude.{◌≡◌, [], length};
+ghost use Rattle.std.specs.List.{concat};
 ghost use Rattle.base.specs.Bytes.{overwritten};
 ghost use Rattle.base.specs.Result.{gives, measured, ◌>>=◌ as bind};
 ghost use Rattle.records.specs.Records.{document_text};
 ghost use Rattle.records.specs.Stored.{little_bytes};
 ghost use Rattle.document.specs.Document.{check as check_of};
 ghost use Rattle.room.specs.Room.{extended, seen};
-ghost use Rattle.renderer.specs.Rendered.{answered, standing, Inside, filled};
-ghost use Rattle.joined_rules.specs.Joined.{heads_of, concat, unjoined, check_joined, joins_into, unjoins_into};
+ghost use Rattle.refusal.specs.Answers.{answered};
+ghost use Rattle.renderer.specs.Rendered.{standing, Inside, filled};
+ghost use Rattle.joined_rules.specs.Joined.{heads_of, unjoined, check_joined, joins_into, unjoins_into};
 ghost use Rattle.joined_rules.specs.Places.{place_in, byte_in};
 
-use document::Checked;
 use records::{four, record_at};
-use renderer::Rendered;
+use refusal::Refusal;
 
 // A number in four bytes more.
 fn put_four(room: &mut [u8], len: usize, n: usize) -> usize
     ensures { seen room.new result ≡ bind (seen room.old len) (extended (length room.old) (little_bytes 4 n)) }
 {
-    let head = record_writer::head_of(n, 0);
-    room::put_all(room, len, base::get(&head, 0, 4))
+    room::put_all(room, len, &n.to_le_bytes()[..4])
 }
 
 // A number in the first four bytes of a room; a smaller room stays as it was.
 fn set_four(room: &mut [u8], n: usize)
     ensures { room.new ≡ overwritten room.old 0 (little_bytes 4 n) }
 {
-    let head = record_writer::head_of(n, 0);
-    base::copy_from_slice(room, 0, base::get(&head, 0, 4))
+    base::copy_from_slice(room, 0, &n.to_le_bytes()[..4])
 }
+
+// The two passes stay apart: one function of both would take the part of a record that it writes as a closure, and its contract would speak of that.
 
 // The bodies of a document's records.
 fn put_bodies(document: &[u8], room: &mut [u8], len: usize) -> usize
@@ -66,25 +67,20 @@ fn put_heads(document: &[u8], room: &mut [u8], len: usize) -> usize
 }
 
 // Refusals 1 to 8, then the joined form; the text's length is known and set once the text is written.
-fn joined_into(document: &[u8], room: &mut [u8]) -> Rendered
+fn joined_into(document: &[u8], room: &mut [u8]) -> Result<usize, Refusal>
     ensures text { standing room.new result ≡ joins_into (length room.old) document.now }
     ensures inside { Inside (length room.old) result }
 {
-    let verdict = document::check(document);
-    match verdict {
-        Checked::Refused(r) => Rendered::Refused(r),
-        Checked::Accepted => {
-            let text = put_four(room, 0, 0);
-            let heads = put_bodies(document, room, text);
-            let end = put_heads(document, room, heads);
-            set_four(room, base::saturating_sub(heads, text));
-            renderer::answer(room, end)
-        }
-    }
+    document::check(document)?;
+    let text = put_four(room, 0, 0);
+    let heads = put_bodies(document, room, text);
+    let end = put_heads(document, room, heads);
+    set_four(room, heads.saturating_sub(text));
+    renderer::answer(room, end)
 }
 
 // A document into the joined form. The room is 0 beyond it, and all 0 after a refusal.
-pub fn join(document: &[u8], room: &mut [u8]) -> Rendered
+pub fn join(document: &[u8], room: &mut [u8]) -> Result<usize, Refusal>
     ensures answer { answered result ≡ measured (joins_into (length room.old) document.now) }
     ensures room { room.new ≡ filled (length room.old) (joins_into (length room.old) document.now) }
 {
@@ -100,37 +96,31 @@ fn put_records(joined: &[u8], room: &mut [u8], len: usize) -> usize
     ensures { seen room.new result ≡ bind (seen room.old len) (extended (length room.old) (unjoined joined.now)) }
 {
     let mut reached = len;
-    let to = 4 + four(joined, 0);
-    let mut from: usize = 4;
-    let mut at = to;
+    let mut text = joined_check::text_in(joined);
+    let mut at = 4 + text.len();
     while at < joined.len() {
         let next = at + 6;
-        let end = from + four(joined, at);
+        let (share, rest) = text.split_at(four(joined, at));
         reached = room::put_all(room, reached, &joined[at..next]);
-        reached = room::put_all(room, reached, base::get(joined, from, end));
-        from = end;
+        reached = room::put_all(room, reached, share);
+        text = rest;
         at = next;
     }
     reached
 }
 
 // Refusals 1, 17, 2 to 8 and 18, then the document.
-fn unjoined_into(joined: &[u8], room: &mut [u8]) -> Rendered
+fn unjoined_into(joined: &[u8], room: &mut [u8]) -> Result<usize, Refusal>
     ensures text { standing room.new result ≡ unjoins_into (length room.old) joined.now }
     ensures inside { Inside (length room.old) result }
 {
-    let verdict = joined_check::check(joined);
-    match verdict {
-        Checked::Refused(r) => Rendered::Refused(r),
-        Checked::Accepted => {
-            let end = put_records(joined, room, 0);
-            renderer::answer(room, end)
-        }
-    }
+    joined_check::check(joined)?;
+    let end = put_records(joined, room, 0);
+    renderer::answer(room, end)
 }
 
 // A joined form into a document. The room is 0 beyond it, and all 0 after a refusal.
-pub fn unjoin(joined: &[u8], room: &mut [u8]) -> Rendered
+pub fn unjoin(joined: &[u8], room: &mut [u8]) -> Result<usize, Refusal>
     ensures answer { answered result ≡ measured (unjoins_into (length room.old) joined.now) }
     ensures room { room.new ≡ filled (length room.old) (unjoins_into (length room.old) joined.now) }
 {
@@ -138,40 +128,34 @@ pub fn unjoin(joined: &[u8], room: &mut [u8]) -> Rendered
     renderer::clear_after(room, answer);
     answer
 }
-// Where the record stands that the document has at place `p`. It says nothing of more than 32,772 bytes.
+// Where the record stands that the document has at place `p`.
 pub fn place_in(joined: &[u8], p: usize) -> usize
-    ensures { length joined.now ≤ 32_772 → result ≡ place_in joined.now p }
+    ensures { result ≡ place_in joined.now p }
 {
-    if 32772 < joined.len() {
-        return 0;
-    }
     let mut q = 4 + four(joined, 0);
     let mut at: usize = 0;
     while q < joined.len() {
         if p <= at {
             return q;
         }
-        at += 6 + four(joined, q);
+        at = at.saturating_add(6 + four(joined, q));
         q += 6;
     }
     q
 }
 
-// Where the byte of a body stands, or the body's end, that the document has at place `p`. It says nothing of more than 32,772 bytes.
+// Where the byte of a body stands, or the body's end, that the document has at place `p`.
 pub fn byte_in(joined: &[u8], p: usize) -> usize
-    ensures { length joined.now ≤ 32_772 → result ≡ byte_in joined.now p }
+    ensures { result ≡ byte_in joined.now p }
 {
-    if 32772 < joined.len() {
-        return 0;
-    }
     let mut q = 4 + four(joined, 0);
     let mut at: usize = 0;
     let mut from: usize = 4;
     while q < joined.len() {
         let size = four(joined, q);
-        let next = at + (6 + size);
+        let next = at.saturating_add(6 + size);
         if p <= next {
-            return from + base::saturating_sub(p, at + 6);
+            return from + (p - at).saturating_sub(6);
         }
         from += size;
         at = next;

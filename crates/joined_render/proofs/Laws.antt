@@ -1,24 +1,23 @@
 -- A joined form that is moved into a buffer, rendered from there, and the place of a refusal. Assumes nothing.
 use Rattle.joined_render.proofs.Names.{ℕ, ◌+◌, ◌-◌, ◌≤◌, ◌<◌, ◌≡◌, refl, sym, ap, ap₂, ◌∙◌, length, take, replicate, take_at, length-take-le, arith}
-use Rattle.joined_render.proofs.Names.{le-ltb, lt-ltb, leb-true, extended_in, length-padded}
+use Rattle.joined_render.proofs.Names.{le-ltb, lt-ltb, extended_in, length-padded}
 use mathlib.Core.Bool.{true, false, false≢true}
 use mathlib.Core.List.{List, []}
-use lib.Dec.{leb}
 use Rattle.base.specs.Choice.{when◌then◌else◌}
 use Rattle.base.specs.Result.{Result, gives, refused, measured, ◌>>=◌}
-use Rattle.base.proofs.Choice.{and_left}
 use Rattle.base.proofs.Results.{refused-gives, gives_same}
 use Rattle.room.specs.Room.{padded}
 use Rattle.refusal.specs.Numbers.{refusal_number, refusal_place}
 use Rattle.refusal.specs.declared.Refusal.{Refusal}
-use Rattle.renderer.specs.Rendered.{answered, filled}
-use Rattle.renderer.specs.declared.Rendered.{Rendered}
-use Rattle.renderer.specs.declared.Rendered.TheVariants as rendered
+use Rattle.std.specs.Prelude.{Result as Answer, Ok, Err}
+use Rattle.refusal.specs.Answers.{answered}
+use Rattle.renderer.specs.Rendered.{filled}
 use Rattle.console_rules.specs.Console.{measure_of, narrow, console}
 use Rattle.console_rules.specs.declared.Settings.{Settings}
-use Rattle.joined_rules.specs.Joined.{has_text, short_joined, whole_text, reads_joined, check_joined, unjoined, unjoins, unjoins_into}
+use Rattle.joined_rules.specs.Joined.{has_text, short_joined, whole_text, check_joined, unjoined, unjoins, unjoins_into}
 use Rattle.joined_rules.specs.Places.{back_in, relocated}
 use Rattle.joined_rules.proofs.Forms.{joined-none, unjoined-length}
+use Rattle.joined_check.proofs.Checking.{check_long, check-textless, check-reads}
 use Rattle.joined_render_rules.specs.Render.{joined_console_by, joined_console, joined_html, joined_markdown, joined_roff}
 use Rattle.joined_render_rules.proofs.Laws.{from-joined}
 use Rattle.any_renderer.specs.InnerRenders.{renders, too_wide}
@@ -48,13 +47,13 @@ pub part_takes : (j buffer : List ℕ) → length j - 4 ≤ length buffer → le
 part_takes j buffer l = omega (arith, length-take-le (length j - 4) buffer l)
 
 -- what moving answered, and left in the buffer
-module _ (j buffer new : List ℕ) (m : Rendered) (l : length j ≤ length buffer + 4)
+module _ (j buffer new : List ℕ) (m : Answer ℕ Refusal) (l : length j ≤ length buffer + 4)
     (a : answered m ≡ measured (unjoins_into (length buffer) j)) (b : new ≡ filled (length buffer) (unjoins_into (length buffer) j)) where
   by-check : (r : Result (List ℕ)) → check_joined j ≡ r
       → (answered m ≡ measured (r >>= λ _. gives (unjoined j))) × (new ≡ filled (length buffer) (r >>= λ _. gives (unjoined j)))
   by-check r e = let q = fits_buffer j (length buffer) l r e in (a ∙ ap measured q, b ∙ ap (filled (length buffer)) q)
 
-  pub moved_refused : {f : Refusal} → m ≡ rendered.Refused f → check_joined j ≡ refused (refusal_number f) (refusal_place f)
+  pub moved_refused : {f : Refusal} → m ≡ Err f → check_joined j ≡ refused (refusal_number f) (refusal_place f)
   unfolding ◌>>=◌
   moved_refused {f} e = go (check_joined j) refl
     where
@@ -62,7 +61,7 @@ module _ (j buffer new : List ℕ) (m : Rendered) (l : length j ≤ length buffe
       go (gives x) g = absurd (refused-gives (sym (ap answered e) ∙ (by-check (gives x) g).0))
       go (refused n p) g = g ∙ same-refusal (sym (by-check (refused n p) g).0 ∙ ap answered e)
 
-  pub moved_text : {n : ℕ} → m ≡ rendered.Text n → (check_joined j ≡ gives []) × (take n new ≡ unjoined j) × (n ≤ length new)
+  pub moved_text : {n : ℕ} → m ≡ Ok n → (check_joined j ≡ gives []) × (take n new ≡ unjoined j) × (n ≤ length new)
   unfolding ◌>>=◌ padded
   moved_text {n} e = go (check_joined j) refl
     where
@@ -79,23 +78,6 @@ module _ (j buffer new : List ℕ) (m : Rendered) (l : length j ≤ length buffe
 
 -- 1, 17 and 9 come before
 
-check_long : (j : List ℕ) → 32_772 < length j → check_joined j ≡ refused 1 0
-unfolding check_joined short_joined when◌then◌else◌ ◌>>=◌
-check_long j h = rw (lt-ltb 32_772 (length j) h)
-
-check-textless : (j : List ℕ) → length j ≤ 32_772 → has_text j ≡ false → check_joined j ≡ refused 17 0
-unfolding check_joined short_joined whole_text when◌then◌else◌ ◌>>=◌
-check-textless j few e = rw (le-ltb 32_772 (length j) few, e)
-
--- four bytes stand where 17 does not arise
-pub text-four : (j : List ℕ) → has_text j ≡ true → 4 ≤ length j
-unfolding has_text
-text-four j e = leb-true 4 (length j) (and_left (leb 4 (length j)) _ e)
-
-check-reads : (j : List ℕ) → length j ≤ 32_772 → has_text j ≡ true → reads_joined j ≡ check_joined j
-unfolding check_joined short_joined whole_text when◌then◌else◌ ◌>>=◌
-check-reads j few e = rw (le-ltb 32_772 (length j) few, e)
-
 module _ (room : ℕ) (j : List ℕ) where
   -- the check's refusal, where the console has it too
   checked_refused : {n p : ℕ} → check_joined j ≡ refused n p → (a : Asked)
@@ -109,12 +91,12 @@ module _ (room : ℕ) (j : List ℕ) where
 
   pub joined_long : (a : Asked) → 32_772 < length j → renders_joined a room j ≡ refused 1 0
   unfolding joined_console joined_console_by short_joined when◌then◌else◌ ◌>>=◌
-  joined_long a h = checked_refused (check_long j h) a λ set e. rw (lt-ltb 32_772 (length j) h)
+  joined_long a h = checked_refused (sym (check_long j h)) a λ set e. rw (lt-ltb 32_772 (length j) h)
 
   module _ (few : length j ≤ 32_772) where
     pub joined-textless : (a : Asked) → has_text j ≡ false → renders_joined a room j ≡ refused 17 0
     unfolding joined_console joined_console_by short_joined whole_text when◌then◌else◌ ◌>>=◌
-    joined-textless a e = checked_refused (check-textless j few e) a λ set _. rw (le-ltb 32_772 (length j) few, e)
+    joined-textless a e = checked_refused (sym (check-textless j few e)) a λ set _. rw (le-ltb 32_772 (length j) few, e)
 
     module _ (e : has_text j ≡ true) where
       pub joined-wide : (a : Asked) → too_wide a ≡ true → renders_joined a room j ≡ refused 9 0
@@ -155,7 +137,7 @@ relocated-filled back room (gives x) = refl
 relocated-filled back room (refused n p) = refl
 
 -- the document was rendered, and its answer got the place in the joined form
-pub rendered_both : (a : Asked) (room : ℕ) (j doc new : List ℕ) (m r : Rendered) → check_joined j ≡ gives [] → doc ≡ unjoined j
+pub rendered_both : (a : Asked) (room : ℕ) (j doc new : List ℕ) (m r : Answer ℕ Refusal) → check_joined j ≡ gives [] → doc ≡ unjoined j
     → answered r ≡ measured (renders a room doc) → new ≡ filled room (renders a room doc) → answered m ≡ relocated (back_in j) (answered r)
     → (answered m ≡ measured (renders_joined a room j)) × (new ≡ filled room (renders_joined a room j))
 rendered_both a room j doc new m r e d f g q =

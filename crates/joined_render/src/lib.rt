@@ -6,7 +6,8 @@
 ghost use Rattle.std.specs.Prelude.{◌≡◌, true, false, ◌+◌, ◌≤◌, length, replicate};
 ghost use Rattle.base.specs.Result.{refused, measured};
 ghost use Rattle.refusal.specs.Numbers.{refusal_number, refusal_place};
-ghost use Rattle.renderer.specs.Rendered.{answered, filled};
+ghost use Rattle.refusal.specs.Answers.{answered};
+ghost use Rattle.renderer.specs.Rendered.{filled};
 ghost use Rattle.any_renderer.specs.InnerRenders.{too_wide};
 ghost use Rattle.joined_rules.specs.Joined.{has_text};
 ghost use Rattle.joined_render_rules.specs.Render.{joined_console, joined_html, joined_markdown, joined_roff};
@@ -16,27 +17,30 @@ use any_renderer::Asked;
 use console_rules::Settings;
 use document::MAX_BYTES;
 use refusal::Refusal;
-use renderer::Rendered;
 
 // A refusal, and an empty room.
-fn refuse(room: &mut [u8], a: Refusal) -> Rendered
+fn refuse(room: &mut [u8], a: Refusal) -> Result<usize, Refusal>
     ensures answer { answered result ≡ refused (refusal_number a) (refusal_place a) }
     ensures room { room.new ≡ replicate (length room.old) 0 }
 {
     room::clear_from(room, 0);
-    Rendered::Refused(a)
+    Err(a)
 }
 
 // What is asked for of a joined form, through a buffer that takes the document: what follows 1, 17 and 9.
-fn through(joined: &[u8], asked: Asked, buffer: &mut [u8], room: &mut [u8]) -> Rendered
+fn through(
+    joined: &[u8],
+    asked: Asked,
+    buffer: &mut [u8],
+    room: &mut [u8],
+) -> Result<usize, Refusal>
     requires { (length joined.now ≤ 32_772) × (has_text joined.now ≡ true) × (too_wide asked ≡ false) × (length joined.now ≤ length buffer.old + 4) }
     ensures answer { answered result ≡ measured (renders_joined asked (length room.old) joined.now) }
     ensures room { room.new ≡ filled (length room.old) (renders_joined asked (length room.old) joined.now) }
 {
-    let moved = joined::unjoin(joined, buffer);
-    match moved {
-        Rendered::Refused(a) => refuse(room, a),
-        Rendered::Text(n) => {
+    match joined::unjoin(joined, buffer) {
+        Err(a) => refuse(room, a),
+        Ok(n) => {
             let answer = any_renderer::render_any(&buffer[..n], asked, room);
             joined_places::placed(joined, answer)
         }
@@ -44,11 +48,11 @@ fn through(joined: &[u8], asked: Asked, buffer: &mut [u8], room: &mut [u8]) -> R
 }
 
 // What is asked for of a joined form, or its refusal: 1, 17, 9, then the rest.
-fn render(joined: &[u8], asked: Asked, room: &mut [u8]) -> Rendered
+fn render(joined: &[u8], asked: Asked, room: &mut [u8]) -> Result<usize, Refusal>
     ensures answer { answered result ≡ measured (renders_joined asked (length room.old) joined.now) }
     ensures room { room.new ≡ filled (length room.old) (renders_joined asked (length room.old) joined.now) }
 {
-    if 32_772 < joined.len() {
+    if joined_check::MAX_BYTES < joined.len() {
         return refuse(room, Refusal::TooLong);
     }
     if !joined_check::has_text(joined) {
@@ -67,7 +71,7 @@ fn render(joined: &[u8], asked: Asked, room: &mut [u8]) -> Rendered
 }
 
 // The console text of a joined form. As with a document the room is 0 beyond the text, and all 0 after a refusal; so with the others.
-pub fn joined_console(joined: &[u8], set: Settings, room: &mut [u8]) -> Rendered
+pub fn joined_console(joined: &[u8], set: Settings, room: &mut [u8]) -> Result<usize, Refusal>
     ensures answer { answered result ≡ measured (joined_console set (length room.old) joined.now) }
     ensures room { room.new ≡ filled (length room.old) (joined_console set (length room.old) joined.now) }
 {
@@ -75,31 +79,36 @@ pub fn joined_console(joined: &[u8], set: Settings, room: &mut [u8]) -> Rendered
 }
 
 // Its HTML.
-pub fn joined_html(joined: &[u8], full: bool, css: bool, room: &mut [u8]) -> Rendered
+pub fn joined_html(joined: &[u8], full: bool, css: bool, room: &mut [u8]) -> Result<usize, Refusal>
     ensures answer { answered result ≡ measured (joined_html (length room.old) false full css joined.now) }
     ensures room { room.new ≡ filled (length room.old) (joined_html (length room.old) false full css joined.now) }
 {
-    render(joined, Asked::Html(full, css), room)
+    render(joined, Asked::Html { full, css }, room)
 }
 
 // Its strict HTML.
-pub fn joined_html_strict(joined: &[u8], full: bool, css: bool, room: &mut [u8]) -> Rendered
+pub fn joined_html_strict(
+    joined: &[u8],
+    full: bool,
+    css: bool,
+    room: &mut [u8],
+) -> Result<usize, Refusal>
     ensures answer { answered result ≡ measured (joined_html (length room.old) true full css joined.now) }
     ensures room { room.new ≡ filled (length room.old) (joined_html (length room.old) true full css joined.now) }
 {
-    render(joined, Asked::StrictHtml(full, css), room)
+    render(joined, Asked::StrictHtml { full, css }, room)
 }
 
 // Its Markdown.
-pub fn joined_markdown(joined: &[u8], full: bool, room: &mut [u8]) -> Rendered
+pub fn joined_markdown(joined: &[u8], full: bool, room: &mut [u8]) -> Result<usize, Refusal>
     ensures answer { answered result ≡ measured (joined_markdown (length room.old) full joined.now) }
     ensures room { room.new ≡ filled (length room.old) (joined_markdown (length room.old) full joined.now) }
 {
-    render(joined, Asked::Markdown(full), room)
+    render(joined, Asked::Markdown { full }, room)
 }
 
 // Its roff.
-pub fn joined_roff(joined: &[u8], room: &mut [u8]) -> Rendered
+pub fn joined_roff(joined: &[u8], room: &mut [u8]) -> Result<usize, Refusal>
     ensures answer { answered result ≡ measured (joined_roff (length room.old) joined.now) }
     ensures room { room.new ≡ filled (length room.old) (joined_roff (length room.old) joined.now) }
 {

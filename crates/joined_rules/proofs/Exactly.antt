@@ -1,9 +1,10 @@
 -- A document in the joined form is accepted exactly where the document is, whatever its bytes are. Assumes nothing.
+use Rattle.std.specs.List.{concat}
 use Rattle.joined_rules.proofs.Names.{ℕ, zero, suc, ◌+◌, ◌-◌, ◌≤◌, ◌<◌, ◌≡◌, refl, sym, ap, ap₂, ◌∙◌, subst, true, ⊎_elim, List, [], ◌∷◌, append-nil}
 use Rattle.joined_rules.proofs.Names.{length, take, drop, length-append, length-take, length-drop, drop_of_length-le, take_all, drop_at, arith}
 use Rattle.joined_rules.proofs.Names.{le-leb, gives, and_both, le_or_lt, size, token_at, tokens, record_fits, joined, document_text, drop_past, check}
 use mathlib.Core.Path.{subst₂}
-use Rattle.joined_rules.specs.Joined.{cut, concat, heads_of, joined_form, records, check_joined}
+use Rattle.joined_rules.specs.Joined.{cut, heads_of, joined_form, records, check_joined}
 use Rattle.joined_rules.proofs.Cut.{cut-some}
 use Rattle.joined_rules.proofs.Heads.{cut-plain, size-take}
 use Rattle.joined_rules.proofs.Moves.{Shared, body, body-length, first-whole}
@@ -38,7 +39,7 @@ cut_regular (b ∷ s) zero =
     (le_or_lt 6 (length (b ∷ s)))
 
 regular_cut : {hs : List (List ℕ)} → Regular hs → cut (λ _. 0) 0 (concat hs) ≡ hs
-unfolding concat cut
+unfolding cut
 regular_cut done = refl
 regular_cut (last {h} l m) =
     ap (cut (λ _. 0) 0) (append-nil h) ∙ cut-some (λ _. 0) h l

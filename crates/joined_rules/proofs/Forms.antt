@@ -1,11 +1,12 @@
 -- Over and back: 'Moving an accepted old document over and back yields its bytes, and the same from the new side'. Assumes nothing.
+use Rattle.std.specs.List.{concat}
 use Rattle.joined_rules.proofs.Names.{ℕ, zero, suc, ◌+◌, ◌-◌, ◌*◌, ◌/◌, ◌%◌, ◌≤◌, ◌<◌, ◌≡◌, refl, sym, ap, ap₂, ◌∙◌, true, List, [], ◌∷◌, ◌++◌, leb}
 use Rattle.joined_rules.proofs.Names.{ltb, length, take, drop, get_or, length-append, length-drop, take-append-drop, take_at, drop_at, length-take-le}
 use Rattle.joined_rules.proofs.Names.{drop-drop, arith, le-leb, leb-true, ltb-false, le-ltb, when◌then◌else◌, Result, gives, ◌>>=◌, if_true, if_false}
 use Rattle.joined_rules.proofs.Names.{and_left, and_right, and_both, gives_same, bind_gives, if_gives, else_gives, little, size, document_text}
 use Rattle.joined_rules.proofs.Names.{little_bytes, reads, open_blocks, short, closed, check, check-gives}
 use native.Mathlib.Nat.{div-add-mod'}
-use Rattle.joined_rules.specs.Joined.{cut, concat, has_text, text_in, records_at, heads_in, short_joined, whole_text, reads_shares, reads_joined, check_joined}
+use Rattle.joined_rules.specs.Joined.{cut, has_text, text_in, records_at, heads_in, short_joined, whole_text, reads_shares, reads_joined, check_joined}
 use Rattle.joined_rules.specs.Joined.{heads_of, joined_form, records, unjoined, joins, unjoins}
 use Rattle.joined_rules.proofs.Moves.{Shared, cut_small, reads_shared, shares_accepted, document_accepted, records-cut, records-text, concat-cut}
 use Rattle.joined_rules.proofs.Moves.{records-length}
@@ -147,8 +148,20 @@ check_joined-gives j x e =
     let t : g.0 ≡ f.0 = gives_same b.1 in
     (ltb-false 32_772 (length j) a.0, ap has_text s ∙ b.0, ap reads_joined (s ∙ t) ∙ f.2)
 
+-- its text lies in it
+
+pub has-gives : (j : List ℕ) → has_text j ≡ true → (4 ≤ length j) × (4 + size j ≤ length j)
+unfolding has_text
+has-gives j e =
+    let a = leb-true 4 (length j) (and_left _ (leb (size j) (length j - 4)) e) in
+    (a, omega (arith, leb-true (size j) (length j - 4) (and_right (leb 4 (length j)) _ e)))
+
+pub text-length : (j : List ℕ) → has_text j ≡ true → length (text_in j) ≡ size j
+unfolding text_in
+text-length j e = length-take-le (size j) (drop 4 j) (omega (arith, length-drop 4 j, (has-gives j e).1))
+
 concat-plain : (s : List ℕ) (pass : ℕ) → concat (cut (λ _. 0) pass s) ≡ drop pass s
-unfolding cut concat
+unfolding cut
 concat-plain [] zero = refl
 concat-plain [] (suc pass) = refl
 concat-plain (b ∷ s) (suc pass) = concat-plain s pass
@@ -165,15 +178,8 @@ module _ (j x : List ℕ) (e : check_joined j ≡ gives x) where
   pub joined-none : x ≡ []
   joined-none = ran.0
 
-  text_fits : (4 ≤ length j) × (size j ≤ length j - 4)
-  unfolding has_text
-  text_fits =
-      let h = (check_joined-gives j x e).1 in
-      (leb-true 4 (length j) (and_left _ (leb (size j) (length j - 4)) h), leb-true (size j) (length j - 4) (and_right (leb 4 (length j)) _ h))
-
-  text-length : length (text_in j) ≡ size j
-  unfolding text_in
-  text-length = length-take-le (size j) (drop 4 j) (omega (arith, length-drop 4 j, text_fits))
+  text_fits : (4 ≤ length j) × (4 + size j ≤ length j)
+  text_fits = has-gives j (check_joined-gives j x e).1
 
   heads_length : length (concat (heads_in j)) ≡ length j - (4 + size j)
   unfolding heads_in records_at
@@ -182,7 +188,7 @@ module _ (j x : List ℕ) (e : check_joined j ≡ gives x) where
   -- four bytes less
   pub unjoined-length : length (unjoined j) + 4 ≡ length j
   unfolding unjoined
-  unjoined-length = omega (arith, records-length joined_shared, text-length, heads_length, text_fits)
+  unjoined-length = omega (arith, records-length joined_shared, text-length j (check_joined-gives j x e).1, heads_length, text_fits)
 
   -- its text is the document's
   pub unjoined-text : document_text (unjoined j) ≡ text_in j
@@ -196,7 +202,8 @@ module _ (j x : List ℕ) (e : check_joined j ≡ gives x) where
   front : Bytes j → little_bytes 4 (length (text_in j)) ≡ take 4 j
   unfolding size
   front b =
-      ap (little_bytes 4) text-length ∙ ap (λ (n : ℕ). little_bytes n (little (take 4 j))) (sym (length-take-le 4 j text_fits.0))
+      ap (little_bytes 4) (text-length j (check_joined-gives j x e).1)
+      ∙ ap (λ (n : ℕ). little_bytes n (little (take 4 j))) (sym (length-take-le 4 j text_fits.0))
       ∙ bytes-little (take 4 j) (bytes_take 4 j b)
 
   behind : text_in j ++ concat (heads_in j) ≡ drop 4 j

@@ -1,4 +1,6 @@
 -- Moving over and back. Assumes nothing.
+use Rattle.std.specs.List.{concat}
+use Rattle.std.proofs.lemmas.List.{nil_from_length}
 use Rattle.joined_rules.proofs.Names.{ℕ, zero, suc, ◌+◌, ◌≤◌, ◌≡◌, refl, sym, ap, ap₂, ◌∙◌, true, List, [], ◌∷◌, ◌++◌, leb, eqb, length, take, drop}
 use Rattle.joined_rules.proofs.Names.{length-append, length-take, length-drop, take-append-drop, take_at, drop_at, length-take-le, drop-drop, arith}
 use Rattle.joined_rules.proofs.Names.{le-leb, leb-true, eqb-true, eq-eqb, when◌then◌else◌, Result, gives, ◌>>=◌, popped, if_true, if_false}
@@ -7,7 +9,7 @@ use Rattle.joined_rules.proofs.Names.{Kind, drop_past, opens, closes, bodiless, 
 use Rattle.utf8.specs.Utf8.{utf8}
 use Rattle.records.specs.declared.Kind.TheVariants as kind
 use Rattle.records.proofs.Reading.{fits_room}
-use Rattle.joined_rules.specs.Joined.{cut, concat, head_kind, lengthless, shares, accept_share, first_share, used, reads_shares, records}
+use Rattle.joined_rules.specs.Joined.{cut, head_kind, lengthless, shares, accept_share, first_share, used, reads_shares, records}
 use Rattle.joined_rules.proofs.Heads.{size-take, cut-plain, tokens-here, cut-here, reads_here}
 
 -- Each record has six bytes and its share of the text, and no text is left over.
@@ -92,10 +94,6 @@ bodiless-none : (p : ℕ) (x : List ℕ) (r : Result (List ℕ)) → x ≡ [] �
 unfolding bodiless
 bodiless-none p x r e = rw e
 
-none_left : (x : List ℕ) → length x ≡ 0 → x ≡ []
-none_left [] e = refl
-none_left (b ∷ x) e = let z : ⊥ = omega arith in absurd z
-
 module _ (p q : ℕ) (n : ℕ) (text stack after : List ℕ) where
   -- from the joined form
   pub accept-body : (k : Kind) → accept_share q k n text stack ≡ gives after → (n ≤ length text) × (accept p k (take n text) stack ≡ gives after)
@@ -130,12 +128,12 @@ closed-gives : (p : ℕ) (stack x : List ℕ) → closed p stack ≡ gives x →
 unfolding closed
 closed-gives p stack x e =
     let f = if_gives (eqb (length stack) 0) (gives stack) _ _ x e in
-    let z = none_left stack (eqb-true (length stack) 0 f.0) in (z, sym (gives_same f.1) ∙ z)
+    let z = nil_from_length stack (eqb-true (length stack) 0 f.0) in (z, sym (gives_same f.1) ∙ z)
 
 used-gives : (p : ℕ) (text stack x : List ℕ) → used p text stack ≡ gives x → (text ≡ []) × (x ≡ stack)
 unfolding used
 used-gives p text stack x e =
-    let f = if_gives (eqb (length text) 0) (gives stack) _ _ x e in (none_left text (eqb-true (length text) 0 f.0), sym (gives_same f.1))
+    let f = if_gives (eqb (length text) 0) (gives stack) _ _ x e in (nil_from_length text (eqb-true (length text) 0 f.0), sym (gives_same f.1))
 
 -- All records
 
@@ -194,13 +192,13 @@ records-text (more {h} {text} {hs} six l w) p =
     ∙ ap (λ (t : List ℕ). take (size h) text ++ t) (records-text w (p + (6 + length (take (size h) text)))) ∙ take-append-drop (size h) text
 
 pub concat-cut : {text : List ℕ} {hs : List (List ℕ)} → Shared text hs → cut (λ _. 0) 0 (concat hs) ≡ hs
-unfolding concat cut
+unfolding cut
 concat-cut none = refl
 concat-cut (more {h} {text} {hs} six l w) = cut-plain h six (concat hs) ∙ ap (λ (t : List (List ℕ)). h ∷ t) (concat-cut w)
 
 -- how long a document is
 pub records-length : {text : List ℕ} {hs : List (List ℕ)} → Shared text hs → length (records text hs) ≡ length text + length (concat hs)
-unfolding records concat
+unfolding records
 records-length none = refl
 records-length (more {h} {text} {hs} six l w) =
     let x = take (size h) text in

@@ -1,6 +1,7 @@
 -- The joined form (02, point 7): 'four-byte length of the text, the text, then for each old record its four-byte length and two-byte kind,
 -- bodies taken out'. Its refusals, its records, and moving over and back.
 use Rattle.std.specs.Prelude.{ℕ, zero, suc, ◌+◌, ◌-◌, Bool, ◌&&◌, List, [], ◌∷◌, ◌++◌, leb, ltb, eqb, length, take, drop}
+use Rattle.std.specs.List.{concat}
 use Rattle.base.specs.Choice.{when◌then◌else◌}
 use Rattle.base.specs.Result.{Result, gives, refused, ◌>>=◌}
 use Rattle.utf8.specs.Utf8.{utf8}
@@ -19,10 +20,6 @@ unfoldable pub cut : (List ℕ → ℕ) → ℕ → List ℕ → List (List ℕ)
 cut after pass [] = []
 cut after (suc pass) (b ∷ s) = cut after pass s
 cut after zero (b ∷ s) = take 6 (b ∷ s) ∷ cut after (5 + after (b ∷ s)) s
-
-unfoldable pub concat : List (List ℕ) → List ℕ
-concat [] = []
-concat (x ∷ xs) = x ++ concat xs
 
 -- a record's kind, by its first six bytes; `size` is its length
 unfoldable pub head_kind : List ℕ → Kind

@@ -1,9 +1,9 @@
 -- Small joined forms with what is answered on them, each refusal in its case; the rules give these by computation (`samples_hold`).
 use Rattle.std.specs.Prelude.{ℕ, List, [], ◌∷◌, ◌++◌, length, replicate}
+use Rattle.std.specs.List.{concat}
 use Rattle.base.specs.Result.{Result, gives, refused}
 use Rattle.utf8.specs.Utf8.{bytes}
 use Rattle.records.specs.Stored.{little_bytes, head}
-use Rattle.joined_rules.specs.Joined.{concat}
 
 -- a joined form: its text, and the lengths and kinds of its records
 pub record Sample : Type 0 where

@@ -1,29 +1,64 @@
 -- What a block's start or end pushes, and what it does to capture. Assumes nothing.
 use Rattle.manpage.proofs.Names.{ℕ, ◌≡◌, refl, sym, Bool, true, false, false≢true, List, [], eqb, when◌then◌else◌, gives}
 use Rattle.manpage.proofs.Names.{refused, if_true, if_false, bytes, index, Block, Style, Roff, Piece, Followed, pushed_none, Locals, Outcome}
-use Rattle.manpage.proofs.Names.{subsection, heading, started, ended, locals, Follows, is_heading, is_term_ref, opening, closing, closed}
+use Rattle.manpage.proofs.Names.{subsection, heading, started, ended, locals, Follows, is_heading, is_term_ref, opening, closing, closed, opened, shut}
+use Rattle.std.specs.Prelude.{Option, Some, None, is_some, unwrap_or}
 use Rattle.records.specs.declared.Block.TheVariants as block
 use Rattle.records.specs.declared.Kind.TheVariants as kind
 use Rattle.records.specs.declared.Style.TheVariants as style
 
 -- Capture
 
-module _ (b : Block) (on : Bool) where
-  pub opens-heading : is_heading b ≡ true → true ≡ opening b on
-  unfolding opening
-  opens-heading e = sym (if_true _ _ e)
+module _ (b : Block) (captured : Option ℕ) where
+  module _ (from : ℕ) where
+    pub opened-heading : is_heading b ≡ true → Some from ≡ opened b captured from
+    unfolding opened
+    opened-heading e = sym (if_true _ _ e)
 
-  pub opens-other : is_heading b ≡ false → on ≡ opening b on
-  unfolding opening
-  opens-other e = sym (if_false _ _ e)
+    pub opened-other : is_heading b ≡ false → captured ≡ opened b captured from
+    unfolding opened
+    opened-other e = sym (if_false _ _ e)
 
-  pub ends_heading : is_heading b ≡ true → false ≡ closing b on
-  unfolding closing
-  ends_heading e = sym (if_true _ _ e)
+    -- whether it is on then, and from where
+    pub opened-on : is_some (opened b captured from) ≡ opening b (is_some captured)
+    unfolding opened opening when◌then◌else◌
+    opened-on = go (is_heading b)
+      where
+        go : (c : Bool) → is_some (when c then Some from else captured) ≡ (when c then true else is_some captured)
+        go true = refl
+        go false = refl
 
-  pub ends_other : is_heading b ≡ false → on ≡ closing b on
-  unfolding closing
-  ends_other e = sym (if_false _ _ e)
+    pub opened-from : unwrap_or captured from ≡ from → unwrap_or (opened b captured from) from ≡ from
+    unfolding opened when◌then◌else◌
+    opened-from e = go (is_heading b)
+      where
+        go : (c : Bool) → unwrap_or (when c then Some from else captured) from ≡ from
+        go true = refl
+        go false = e
+
+  pub shut-heading : is_heading b ≡ true → None ≡ shut b captured
+  unfolding shut
+  shut-heading e = sym (if_true _ _ e)
+
+  pub shut-other : is_heading b ≡ false → captured ≡ shut b captured
+  unfolding shut
+  shut-other e = sym (if_false _ _ e)
+
+  pub shut-on : is_some (shut b captured) ≡ closing b (is_some captured)
+  unfolding shut closing when◌then◌else◌
+  shut-on = go (is_heading b)
+    where
+      go : (c : Bool) → is_some (when c then None else captured) ≡ (when c then false else is_some captured)
+      go true = refl
+      go false = refl
+
+  pub shut-from : (from : ℕ) → unwrap_or captured from ≡ from → unwrap_or (shut b captured) from ≡ from
+  unfolding shut when◌then◌else◌
+  shut-from from e = go (is_heading b)
+    where
+      go : (c : Bool) → unwrap_or (when c then None else captured) from ≡ from
+      go true = refl
+      go false = e
 
 -- What is pushed
 

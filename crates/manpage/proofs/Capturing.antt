@@ -4,7 +4,7 @@ use Rattle.manpage.proofs.Names.{◌++◌, ltb, length, drop, get_or, drop_of_le
 use Rattle.manpage.proofs.Names.{when◌then◌else◌, ◌>>=◌, if_true, if_false, pick, and_left, and_right, le_or_lt, part_none, Token, token_at, tokens_from}
 use Rattle.manpage.proofs.Names.{Read, Head, Kind, read_next, empty, seen, extended, utf8, encode, bytes, Valid, valid_both, upper, upper-none}
 use Rattle.manpage.proofs.Names.{upper_both, upper_ascii, upper-empty, Roff, escape, line_start, piece, escape_all, line_after, argument, Pushed, puts}
-use Rattle.manpage.proofs.Names.{piece-put, pushed_then, pushed-same, argument_pieces, is_text, record_text, texts_valid, text_to, between, beginning}
+use Rattle.manpage.proofs.Names.{piece-put, pushed_then, pushed-same, argument_pieces, is_text, record_text, texts_valid, text_to, between}
 use Rattle.records.specs.declared.Kind.TheVariants as kind
 use Rattle.records.proofs.Tokens.{tokens_at, tokens-end}
 use Rattle.utf8.proofs.Laws.{one_at}
@@ -31,14 +31,6 @@ pub upper-end : (s : List ℕ) (i : ℕ) → length s ≤ i → upper (drop i s)
 upper-end s i h = ap upper (drop_of_length-le s h) ∙ upper-none
 
 -- Where capture began
-
-pub begins-before : (c : Bool) (from here : ℕ) → c ≡ true → from ≡ beginning c from here
-unfolding beginning when◌then◌else◌
-begins-before c from here e = rw e
-
-pub begins-here : (c : Bool) (from here : ℕ) → c ≡ false → here ≡ beginning c from here
-unfolding beginning when◌then◌else◌
-begins-here c from here e = rw e
 
 -- Text between two places
 

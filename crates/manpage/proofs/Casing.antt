@@ -1,6 +1,6 @@
 -- A heading's text that goes out in parts: ASCII as far as it goes, then by the table. Assumes nothing.
-use Rattle.manpage.proofs.Names.{ℕ, ◌≤◌, ◌≡◌, refl, sym, ap, ap₂, subst, ◌∙◌, Bool, List, [], ◌++◌, append-nil, length, take, drop, Result, ◌>>=◌}
-use Rattle.manpage.proofs.Names.{part_none, part_end, bind_same, bind_assoc, seen, extended, extended_twice, upper, upper-none, escape, line_start}
+use Rattle.manpage.proofs.Names.{drop_of_length-le, ℕ, ◌≤◌, ◌≡◌, refl, sym, ap, ap₂, subst, ◌∙◌, Bool, List, [], ◌++◌, append-nil, length, drop, Result, ◌>>=◌}
+use Rattle.manpage.proofs.Names.{bind_same, bind_assoc, seen, extended, extended_twice, upper, upper-none, escape, line_start}
 use Rattle.manpage.proofs.Names.{escape-append, line-append, Escaped, escaped-part, escaped-end, CasedTo}
 use Rattle.roff_escape.specs.declared.escape.Escape.TheVariants as mode
 use Rattle.manpage.specs.declared.Cased.{Cased}
@@ -44,11 +44,10 @@ module _ {start : Bool} {x old : List ℕ} {len : ℕ} {room : List ℕ} {n : �
   pub further-out : {y z : List ℕ} → y ≡ z → Escaped mode.Spaces start x old len room n fresh y → Escaped mode.Spaces start x old len room n fresh z
   further-out e s = subst (Escaped mode.Spaces start x old len room n fresh) e s
 
-  -- of a text of k bytes nothing is left
-  pub escaped_all : (k i : ℕ) (l q : List ℕ) → k ≤ i → Escaped mode.Spaces start x old len room n fresh (upper (drop i (take k l)) ++ q)
+  -- nothing is left of a text
+  pub escaped_all : (i : ℕ) (l q : List ℕ) → length l ≤ i → Escaped mode.Spaces start x old len room n fresh (upper (drop i l) ++ q)
       → Escaped mode.Spaces start x old len room n fresh q
-  escaped_all k i l q h s =
-      further-out (ap (λ (y : List ℕ). upper y ++ q) (sym (part_end k i l) ∙ part_none l i k h) ∙ ap (λ (y : List ℕ). y ++ q) upper-none) s
+  escaped_all i l q h s = further-out (ap (λ (y : List ℕ). upper y ++ q) (drop_of_length-le l h) ∙ ap (λ (y : List ℕ). y ++ q) upper-none) s
 
   -- all that is left goes out at once
   pub escaped-rest : {y : List ℕ} (new : List ℕ) (r : ℕ) {f : Bool} → Escaped mode.Spaces start x old len room n fresh y → length new ≡ length room

@@ -10,7 +10,7 @@ unfoldable pub use Rattle.base.specs.Result.{◌>>=◌}
 pub use Rattle.document.proofs.Walks.{Sane, Sanes, also, check-gives, done, open_sane, verdict_gives, verdict_refused}
 pub use Rattle.document.specs.Document.{check}
 pub use Rattle.manpage.specs.InnerParts.{CasedTo, Follows, between, is_heading, is_term_ref, is_text, locals, record_text}
-unfoldable pub use Rattle.manpage.specs.InnerParts.{argument_pieces, beginning, closed, closing, opening, text_to, texts_valid}
+unfoldable pub use Rattle.manpage.specs.InnerParts.{argument_pieces, beginning, closed, closing, opened, opening, shut, text_to, texts_valid}
 pub use Rattle.manpage.specs.Roff.{Locals, Outcome, State, font_of, initial, roff_on, state}
 unfoldable pub use Rattle.manpage.specs.Roff.{captures, ended, heading, roff, started, subsection, token, turn}
 pub use Rattle.records.proofs.Reading.{read_next, read-on}

@@ -10,8 +10,7 @@ use native.Mathlib.Nat.{le_refl}
 use Rattle.refusal.specs.Numbers.{refusal_number, refusal_place}
 use Rattle.records.specs.declared.Kind.TheVariants as kind
 use Rattle.refusal.specs.declared.Refusal.{Refusal}
-use Rattle.renderer.specs.declared.Rendered.{Rendered}
-use Rattle.renderer.specs.declared.Rendered.TheVariants as rendered
+use Rattle.std.specs.Prelude.{Result as Answer, Ok, Err, Option, Some, None, is_some, unwrap_or}
 use Rattle.renderer.proofs.Leads.{Leads, leads-on, leads-out, leads-refused, leads-end, records, turned, walk_record, walk_end}
 use Rattle.manpage.proofs.Capturing.{between_record, valid_record, between_none}
 use Rattle.manpage.proofs.Blocks.{started-gives, ended-gives, started-refused, ended-refused}
@@ -118,12 +117,12 @@ abbrev pub whole : ℕ → List ℕ → Result State
 whole limit document = begun limit >>= λ w. walk (turn limit) (tokens 0 0 document) (state initial w)
 
 -- an answer, and the room it speaks of
-pub record Answered (limit : ℕ) (document room : List ℕ) (a : Rendered) : Type 0 where
+pub record Answered (limit : ℕ) (document room : List ℕ) (a : Answer ℕ Refusal) : Type 0 where
   pub stands : standing room a ≡ roff_on limit (tokens 0 0 document)
   pub inside : Inside (length room) a
 
 pub answer-refused : (limit : ℕ) (document room : List ℕ) (a : Refusal) → whole limit document ≡ refused (refusal_number a) (refusal_place a)
-    → (n : ℕ) → limit ≡ n → Answered n document room (rendered.Refused a)
+    → (n : ℕ) → limit ≡ n → Answered n document room (Err a)
 unfolding ◌>>=◌
 answer-refused limit document room a e n k = record {
   stands = subst (λ (n : ℕ). refused (refusal_number a) (refusal_place a) ≡ roff_on n (tokens 0 0 document)) k
@@ -302,7 +301,7 @@ module _ {limit : ℕ} {document room : List ℕ} {m : Roff} {on : Bool} {from a
       leads-out (whole limit document) (records (turn limit) document at) (marked room m now-locals) o.leads 13 0
       (marked-out room m now-locals h)
 
-  pub done : length document ≤ at → m.len ≤ length room → (n : ℕ) → limit ≡ n → Answered n document room (rendered.Text m.len)
+  pub done : length document ≤ at → m.len ≤ length room → (n : ℕ) → limit ≡ n → Answered n document room (Ok m.len)
   unfolding ◌>>=◌
   done h i n k = record {
     stands = subst (λ (n : ℕ). gives (take m.len room) ≡ roff_on n (tokens 0 0 document)) k
@@ -311,6 +310,24 @@ module _ {limit : ℕ} {document room : List ℕ} {m : Roff} {on : Bool} {from a
         ∙ marked_in room m now-locals i)));
     inside = i;
   }
+
+-- Where capture is on or off as an option says, what is captured begins at the place in it, or here.
+
+module _ {limit : ℕ} {document room : List ℕ} {m : Roff} where
+  pub by_captured : (captured : Option ℕ) (f at : ℕ) → unwrap_or captured f ≡ f → On limit document room m (is_some captured) f at
+      → On limit document room m (is_some captured) (unwrap_or captured at) at
+  unfolding beginning when◌then◌else◌
+  by_captured (Some x) f at e o = subst (λ (y : ℕ). On limit document room m true y at) (sym e) o
+  by_captured None f at e o = record { same = o.same; ahead = o.ahead; behind = o.behind; chain = o.chain; leads = o.leads }
+
+pub begins-at : (captured : Option ℕ) (at : ℕ) → unwrap_or captured at ≡ beginning (is_some captured) (unwrap_or captured at) at
+unfolding beginning when◌then◌else◌
+begins-at (Some x) at = refl
+begins-at None at = refl
+
+pub same-from : (captured : Option ℕ) (at : ℕ) → unwrap_or captured (unwrap_or captured at) ≡ unwrap_or captured at
+same-from (Some x) at = refl
+same-from None at = refl
 
 -- The document
 

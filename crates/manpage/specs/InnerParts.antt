@@ -1,5 +1,5 @@
 -- What the functions inside this crate promise each other; no rule of 01 stands here.
-use Rattle.std.specs.Prelude.{ℕ, ◌≤◌, ◌≡◌, Bool, true, false, ◌&&◌, List, [], ◌∷◌, ◌++◌, leb, ltb, eqb, length, drop}
+use Rattle.std.specs.Prelude.{Option, Some, None, ℕ, ◌≤◌, ◌≡◌, Bool, true, false, ◌&&◌, List, [], ◌∷◌, ◌++◌, leb, ltb, eqb, length, drop}
 use Rattle.base.specs.Choice.{when◌then◌else◌}
 use Rattle.base.specs.Result.{Result, gives, refused, ◌>>=◌}
 use Rattle.utf8.specs.Utf8.{utf8, bytes}
@@ -88,6 +88,13 @@ opening b capture = when is_heading b then true else capture
 
 unfoldable pub closing : Block → Bool → Bool
 closing b capture = when is_heading b then false else capture
+
+-- and from where on, if it is
+unfoldable pub opened : Block → Option ℕ → ℕ → Option ℕ
+opened b captured from = when is_heading b then Some from else captured
+
+unfoldable pub shut : Block → Option ℕ → Option ℕ
+shut b captured = when is_heading b then None else captured
 
 -- what is captured after a block's end
 unfoldable pub closed : Block → List ℕ → List ℕ

@@ -12,23 +12,23 @@ ghost use Rattle.records.specs.Records.{tokens, tokens_from};
 ghost use Rattle.records.specs.declared.Kind.TheVariants as kind;
 ghost use Rattle.room.specs.Room.{seen, extended};
 ghost use Rattle.renderer.specs.Walk.{empty};
-ghost use Rattle.renderer.specs.Rendered.{answered, standing, filled, Inside};
+ghost use Rattle.refusal.specs.Answers.{answered};
+ghost use Rattle.renderer.specs.Rendered.{standing, filled, Inside};
 ghost use Rattle.roff_escape.specs.declared.escape.Escape.TheVariants as mode;
 ghost use Rattle.roff_escape.specs.Escape.{escape, line_start};
 ghost use Rattle.roff_escape.specs.Composer.{control, text};
 ghost use Rattle.roff_escape.specs.InnerParts.{Pushed};
 ghost use Rattle.manpage.specs.Roff.{font_of, subsection, started, ended, roff_on, roff};
-ghost use Rattle.manpage.specs.InnerParts.{argument_pieces, locals, Follows, CasedTo, is_heading, is_text, is_term_ref, texts_valid, between, beginning, opening, closing};
+ghost use Rattle.manpage.specs.InnerParts.{argument_pieces, locals, Follows, CasedTo, is_heading, is_text, is_term_ref, texts_valid, between, opened, shut};
 
-use document::Checked;
 use records::{Block, Head, Kind, Style};
 use refusal::Refusal;
-use renderer::Rendered;
 use roff_escape::escape::{Escape, Payload};
 use roff_escape::roff::{Font, Roff};
 use roff_escape::{escape, roff};
 
-// The captured text as it was written: the length of the text then, whether a line starts there, and whether any was captured.
+// The captured text as it was written: the length of the text then, whether a line starts there, and whether any was captured. The length
+// stands also where none was, so no Option.
 #[derive(Clone, Copy)]
 struct Captured {
     len: usize,
@@ -61,42 +61,30 @@ fn font_of(style: Style) -> Font
 fn is_heading(b: Block) -> bool
     ensures { result ≡ is_heading b }
 {
-    records::index_of(b) <= 3
+    matches!(
+        b,
+        Block::Header | Block::Section2 | Block::Section3 | Block::Section4
+    )
 }
 
 // What roff has no form for: refusal 11.
 fn is_term_ref(kind: Kind) -> bool
     ensures { result ≡ is_term_ref kind }
 {
-    match kind {
-        Kind::Text(_) => false,
-        Kind::Start(b) => records::index_of(b) == 9,
-        Kind::End(b) => records::index_of(b) == 9,
-        Kind::Unknown => false,
-    }
+    matches!(
+        kind,
+        Kind::Start(Block::TermRef) | Kind::End(Block::TermRef)
+    )
 }
 
 // Whether a record holds text that is not empty.
 fn holds_text(h: Head) -> bool
     ensures { result ≡ (is_text h.kind && ltb h.start h.stop) }
 {
-    let kind = h.kind;
-    match kind {
-        Kind::Text(_) => h.start < h.stop,
-        Kind::Start(_) => false,
-        Kind::End(_) => false,
-        Kind::Unknown => false,
-    }
+    matches!(h.kind, Kind::Text(_)) && h.start < h.stop
 }
 
-// Where the text that is captured begins.
-fn begin_at(capture: bool, from: usize, here: usize) -> usize
-    ensures { result ≡ beginning capture from here }
-{
-    if capture { from } else { here }
-}
-
-// Text of a heading from a place on, in upper case by the table, of which two columns are lent.
+// Text of a heading from a place on, in upper case by the table, of which two columns are lent. The steps are whole characters, so no `for`.
 fn escape_mapped(
     room: &mut [u8],
     len: usize,
@@ -132,9 +120,7 @@ fn escape_upper(room: &mut [u8], len: usize, start: bool, bytes: &[u8]) -> Cased
 {
     let mut n = len;
     let mut fresh = start;
-    let mut i: usize = 0;
-    while i < bytes.len() {
-        let b = bytes[i];
+    for (i, &b) in bytes.iter().enumerate() {
         if 0x7F < b {
             return Cased {
                 len: n,
@@ -145,12 +131,11 @@ fn escape_upper(room: &mut [u8], len: usize, start: bool, bytes: &[u8]) -> Cased
         let c = upper::to_ascii_uppercase(b);
         n = escape::put_byte(room, n, Escape::Spaces, fresh, c);
         fresh = escape::starts_line(Escape::Spaces, c);
-        i += 1;
     }
     Cased {
         len: n,
         fresh,
-        next: i,
+        next: bytes.len(),
     }
 }
 
@@ -195,9 +180,6 @@ fn put_mapped(
     let mut at = from;
     while at < to {
         let h = records::record_at(document, at);
-        let begin = h.start;
-        let stop = h.stop;
-        let next = h.next;
         if holds_text(h) {
             let line = escape_cased(
                 room,
@@ -205,12 +187,12 @@ fn put_mapped(
                 fresh,
                 &characters,
                 &capitals,
-                &document[begin..stop],
+                &document[h.start..h.stop],
             );
             n = line.len;
             fresh = line.fresh;
         }
-        at = next;
+        at = h.next;
     }
     Payload { len: n, fresh }
 }
@@ -235,22 +217,11 @@ fn put_captured(
     let mut at = from;
     while at < to {
         let h = records::record_at(document, at);
-        let begin = h.start;
-        let stop = h.stop;
-        let next = h.next;
         if holds_text(h) {
-            let a = escape_upper(room, n, fresh, &document[begin..stop]);
-            if a.next < stop - begin {
-                let line = put_mapped(
-                    room,
-                    a.len,
-                    a.fresh,
-                    &document[begin..stop],
-                    a.next,
-                    document,
-                    next,
-                    to,
-                );
+            let body = &document[h.start..h.stop];
+            let a = escape_upper(room, n, fresh, body);
+            if a.next < body.len() {
+                let line = put_mapped(room, a.len, a.fresh, body, a.next, document, h.next, to);
                 return Captured {
                     len: line.len,
                     fresh: line.fresh,
@@ -261,7 +232,7 @@ fn put_captured(
             fresh = a.fresh;
             some = true;
         }
-        at = next;
+        at = h.next;
     }
     Captured {
         len: n,
@@ -364,83 +335,78 @@ fn ended(room: &mut [u8], m: Roff, b: Block, document: &[u8], from: usize, at: u
     left(room, m, b)
 }
 
-// Whether text is captured after a block's start.
-fn opens_capture(b: Block, capture: bool) -> bool
-    ensures { result ≡ opening b capture }
+// From where on text is captured after a block's start at a place, if it is.
+fn opens_capture(b: Block, captured: Option<usize>, from: usize) -> Option<usize>
+    ensures { result ≡ opened b captured from }
 {
-    if is_heading(b) { true } else { capture }
+    if is_heading(b) { Some(from) } else { captured }
 }
 
-// Whether text is captured after a block's end.
-fn ends_capture(b: Block, capture: bool) -> bool
-    ensures { result ≡ closing b capture }
+// And after a block's end.
+fn ends_capture(b: Block, captured: Option<usize>) -> Option<usize>
+    ensures { result ≡ shut b captured }
 {
-    if is_heading(b) { false } else { capture }
+    if is_heading(b) { None } else { captured }
 }
 
-// The walk over the records of a document. While text is captured, `from` is where that began; a heading's end reads the records from there
-// again. No record is captured by two headings, so each is read twice at most.
-fn walk(document: &[u8], room: &mut [u8]) -> Rendered
+// The walk over the records of a document. Text is captured from a place on, or not; a heading's end reads the records from there again. No
+// record is captured by two headings, so each is read twice at most.
+fn walk(document: &[u8], room: &mut [u8]) -> Result<usize, Refusal>
     requires { texts_valid (tokens 0 0 document.now) ≡ true }
     ensures text { standing room.new result ≡ roff_on (length room.old) (tokens 0 0 document.now) }
     ensures inside { Inside (length room.new) result }
 {
     let mut m = roff::put_preamble(room);
-    let mut capture = false;
-    let mut from: usize = 0;
+    let mut captured: Option<usize> = None;
     let mut at: usize = 0;
     loop {
         if room.len() < m.len {
-            return Rendered::Refused(Refusal::NoRoom);
+            return Err(Refusal::NoRoom);
         }
         if document.len() <= at {
-            return Rendered::Text(m.len);
+            return Ok(m.len);
         }
-        from = begin_at(capture, from, at);
+        let from = captured.unwrap_or(at);
         let h = records::record_at(document, at);
-        let start = h.start;
-        let stop = h.stop;
-        let next = h.next;
         let kind = h.kind;
         if is_term_ref(kind) {
-            return Rendered::Refused(Refusal::NoForm(at));
+            return Err(Refusal::NoForm(at));
         }
         match kind {
             Kind::Text(style) => {
-                if !capture {
-                    m = put_text(room, m, style, document, start, stop);
+                if captured.is_none() {
+                    m = put_text(room, m, style, document, h.start, h.stop);
                 }
             }
             Kind::Start(b) => {
                 m = started(room, m, b);
-                capture = opens_capture(b, capture);
+                captured = opens_capture(b, captured, from);
             }
             Kind::End(b) => {
                 m = ended(room, m, b, document, from, at);
-                capture = ends_capture(b, capture);
+                captured = ends_capture(b, captured);
             }
             Kind::Unknown => {}
         }
-        at = next;
+        at = h.next;
     }
 }
 
+// Refusals 1 to 8, and then the walk.
+fn rendered(document: &[u8], room: &mut [u8]) -> Result<usize, Refusal>
+    ensures text { standing room.new result ≡ roff (length room.old) document.now }
+    ensures inside { Inside (length room.old) result }
+{
+    document::check(document)?;
+    walk(document, room)
+}
+
 // `Doc::render_roff` given `Roff::new()`: the text stands in the room, with zeros beyond it; after a refusal the room is all zeros.
-pub fn render_roff(document: &[u8], room: &mut [u8]) -> Rendered
+pub fn render_roff(document: &[u8], room: &mut [u8]) -> Result<usize, Refusal>
     ensures answer { answered result ≡ measured (roff (length room.old) document.now) }
     ensures text { room.new ≡ filled (length room.old) (roff (length room.old) document.now) }
 {
-    let verdict = document::check(document);
-    match verdict {
-        Checked::Accepted => {
-            let answer = walk(document, room);
-            renderer::clear_after(room, answer);
-            answer
-        }
-        Checked::Refused(a) => {
-            let answer = Rendered::Refused(a);
-            renderer::clear_after(room, answer);
-            answer
-        }
-    }
+    let answer = rendered(document, room);
+    renderer::clear_after(room, answer);
+    answer
 }

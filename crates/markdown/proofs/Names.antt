@@ -9,7 +9,7 @@ pub use Rattle.document.specs.Document.{check}
 pub use Rattle.html_rules.specs.declared.Markdown.{Markdown}
 pub use Rattle.markdown_chunks.specs.InnerParts.{chunk_rule, fence_after}
 pub use Rattle.markdown_marks.specs.InnerParts.{closed, end_of, met_term, start_of}
-unfoldable pub use Rattle.markdown_marks.specs.InnerParts.{start_rule, tags}
+unfoldable pub use Rattle.markdown_marks.specs.InnerParts.{start_rule}
 pub use Rattle.records.specs.Answers.{Read}
 pub use Rattle.records.specs.Records.{Token, index, record_fits, tokens, tokens_from}
 pub use Rattle.records.specs.declared.Block.{Block}

@@ -3,7 +3,7 @@ use Rattle.markdown.proofs.Names.{ℕ, ◌+◌, ◌-◌, ◌≤◌, ◌<◌, ◌
 use Rattle.markdown.proofs.Names.{arith, Result, gives, refused, ◌>>=◌, bind_assoc, bind_same, bind_end, extended, seen, index, tokens, tokens_from}
 use Rattle.markdown.proofs.Names.{record_fits, check, Read, Style, Block, DeepAt, accepted_at_0, check-gives, deep-from, fits_here, open_next, split}
 use Rattle.markdown.proofs.Names.{chunk_of, placed_from, cursor, start, page, with_lay, write, shown, last, anywhere, walk, body, hides, skip_paragraph}
-use Rattle.markdown.proofs.Names.{Markdown, tags as all_tags, met_term, start_of, end_of, closed, start_rule, chunk_rule, fence_after}
+use Rattle.markdown.proofs.Names.{Markdown, met_term, start_of, end_of, closed, start_rule, chunk_rule, fence_after}
 use borrow.Author.Tests.{eqb-true, eqb-false}
 use Rattle.base.specs.Bytes.{part}
 use Rattle.records.specs.declared.Style.TheVariants as style
@@ -33,7 +33,7 @@ fence_any (Space at) y f = refl
 fence_any (Paragraph at) y f = refl
 fence_any (LineBreak at) y f = refl
 
-module _ (limit : ℕ) (full : Bool) (tags document : List ℕ) where
+module _ (limit : ℕ) (full : Bool) (document : List ℕ) where
   -- the records from a place on, and the end; after a body, its end first
   abbrev rest : ℕ → State → Result (List ℕ)
   rest = walking.rest (turn limit full) (finish limit) document
@@ -46,7 +46,6 @@ module _ (limit : ℕ) (full : Bool) (tags document : List ℕ) where
 
   -- where a record is read next
   pub record On (room : List ℕ) (at len : ℕ) (lay : Markdown) : Type 0 where
-    pub table : tags ≡ all_tags
     pub opened : DeepAt [] document at 0
     pub same : length room ≡ limit
     pub few : lay.skip ≤ at
@@ -54,9 +53,8 @@ module _ (limit : ℕ) (full : Bool) (tags document : List ℕ) where
     pub short : length document ≤ 32_768
     pub leads : Leads whole (rest at) (shown room len [] lay)
 
-  pub on-start : (room : List ℕ) → tags ≡ all_tags → length room ≡ limit → check document ≡ gives [] → On room 0 0 plain
-  on-start room t s e = record {
-    table = t;
+  pub on-start : (room : List ℕ) → length room ≡ limit → check document ≡ gives [] → On room 0 0 plain
+  on-start room s e = record {
     opened = deep-from 0 (accepted_at_0 document [] e) (omega arith);
     same = s;
     few = omega arith;
@@ -89,15 +87,15 @@ module _ (limit : ℕ) (full : Bool) (tags document : List ℕ) where
   -- a chunk that goes on
   pub body-on : {room : List ℕ} {at len : ℕ} {lay : Markdown} {y : List ℕ} {c : Cursor} → InBody room at len lay y c
       → {p : Piece} {d : Cursor} → Took y c p d → (new : List ℕ) (n : ℕ) (f : Bool) → length room ≡ limit → last full (chunk_of y p) ≡ false
-      → tags ≡ all_tags → (tags ≡ all_tags → seen new n ≡ (seen room len >>= chunk_rule (length room) lay (chunk_of y p)))
+      → (seen new n ≡ (seen room len >>= chunk_rule (length room) lay (chunk_of y p)))
       → f ≡ fence_after (chunk_of [] p) lay.fenced → InBody new at n (with_fenced f lay) y d
-  body-on {room} {at} {len} {lay} {y} {c} i {p} t new n f s e z w g = record {
+  body-on {room} {at} {len} {lay} {y} {c} i {p} t new n f s e w g = record {
     few = i.few;
     open_few = i.open_few;
     leads = chunks-on full (chunk limit full) (after at) whole y c (shown room len [] lay) i.leads t (shown new n [] (with_fenced f lay))
         (shown_by (with_lay (fencing (chunk_of y p))) [] [] lay (with_fenced f lay)
         (λ x. ap (λ (b : Bool). page [] (with_fenced b lay) x) (fence_any p y lay.fenced ∙ sym g))
-        (chunk_rule limit lay (chunk_of y p)) room new len n (w z ∙ ap (λ (m : ℕ). seen room len >>= chunk_rule m lay (chunk_of y p)) s)
+        (chunk_rule limit lay (chunk_of y p)) room new len n (w ∙ ap (λ (m : ℕ). seen room len >>= chunk_rule m lay (chunk_of y p)) s)
         ∙ sym (shown_then room len [] lay (chunk limit full (chunk_of y p)) _ (λ x. chunk-on limit (page [] lay x) full (chunk_of y p) e))) e;
   }
 
@@ -107,12 +105,12 @@ module _ (limit : ℕ) (full : Bool) (tags document : List ℕ) where
     on_out h = walking.rest_out (turn limit full) (finish limit) document whole at room len [] lay o.leads h
 
     -- no record is left
-    pub on-end : (text : Result (List ℕ)) → length document ≤ at → (tags ≡ all_tags → text ≡ (seen room len >>= closed (length room) lay.style))
+    pub on-end : (text : Result (List ℕ)) → length document ≤ at → (text ≡ (seen room len >>= closed (length room) lay.style))
         → text ≡ whole
     on-end text h w =
         walking.rest_end (turn limit full) (finish limit) document whole at room len [] lay o.leads text (closed limit lay.style) h
         (λ x. finish-is limit full at at [] [] [] lay x)
-        (w o.table ∙ ap (λ (m : ℕ). seen room len >>= closed m lay.style) o.same)
+        (w ∙ ap (λ (m : ℕ). seen room len >>= closed m lay.style) o.same)
 
     -- the record that was read without a look at the document's end: it lies whole there
     pub on_read : {h : Head} → at < length document → (record_fits (drop at document) ≡ true → Read document at h) → Read document at h
@@ -143,7 +141,6 @@ module _ (limit : ℕ) (full : Bool) (tags document : List ℕ) where
       passes : ((x : List ℕ) → Turned (page [] lay x) ≡ gives (page [] lay x)) → On room h.next len lay
       unfolding ◌>>=◌
       passes t = record {
-        table = o.table;
         opened = opened_next;
         same = o.same;
         few = omega (arith, o.few, further);
@@ -157,13 +154,13 @@ module _ (limit : ℕ) (full : Bool) (tags document : List ℕ) where
 
       -- Meta
       meta : (text : Result (List ℕ)) → ((x : List ℕ) → Turned (page [] lay x) ≡ (closed limit lay.style x >>= λ _. refused 11 at))
-          → (tags ≡ all_tags → text ≡ (seen room len >>= λ x. closed (length room) lay.style x >>= λ _. refused 11 at)) → text ≡ whole
+          → (text ≡ (seen room len >>= λ x. closed (length room) lay.style x >>= λ _. refused 11 at)) → text ≡ whole
       meta text t w =
           walking.turn-refuses (turn limit full) (finish limit) document whole at room len [] lay o.leads r l (closed limit lay.style) text t
-          (w o.table ∙ ap (λ (c : ℕ). seen room len >>= λ x. closed c lay.style x >>= λ _. refused 11 at) o.same)
+          (w ∙ ap (λ (c : ℕ). seen room len >>= λ x. closed c lay.style x >>= λ _. refused 11 at) o.same)
 
       pub on_meta : (text : Result (List ℕ)) → is_meta h.kind ≡ true
-          → (tags ≡ all_tags → text ≡ (seen room len >>= λ x. closed (length room) lay.style x >>= λ _. refused 11 at)) → text ≡ whole
+          → (text ≡ (seen room len >>= λ x. closed (length room) lay.style x >>= λ _. refused 11 at)) → text ≡ whole
       on_meta text t w = go h.kind refl t
         where
           go : (k : Kind) → h.kind ≡ k → is_meta k ≡ true → text ≡ whole
@@ -181,7 +178,7 @@ module _ (limit : ℕ) (full : Bool) (tags document : List ℕ) where
       module _ {b : Block} (new : List ℕ) (k : ℕ) (lay' : Markdown) where
         -- another block starts
         pub on-started : (met : Markdown) → h.kind ≡ kind.Start b → is_meta h.kind ≡ false → length new ≡ length room → met ≡ met_term b empty lay
-            → (tags ≡ all_tags → seen new k ≡ (seen room len >>= started_text (length room) met b))
+            → (seen new k ≡ (seen room len >>= started_text (length room) met b))
             → (Few met → lay' ≡ (start_of (with_style style.Text met) b).after) → On new h.next k lay'
         on-started met e m s t w f =
             let few : Few lay = record { skipped = omega (arith, o.few, o.short); opened = omega (arith, o.open_few, o.short) } in
@@ -195,7 +192,6 @@ module _ (limit : ℕ) (full : Bool) (tags document : List ℕ) where
             let y₁ = ap (λ (l : Markdown). l.skip) z in
             let y₂ = ap (λ (l : Markdown). l.mono) z in
             record {
-              table = o.table;
               opened = opened_next;
               same = s ∙ o.same;
               few = omega (arith, o.few, further);
@@ -204,21 +200,20 @@ module _ (limit : ℕ) (full : Bool) (tags document : List ℕ) where
               leads = rw (z, u)
                   (turn-leads (λ x. closed limit lay.style x >>= start_rule limit (met_term b empty (with_style style.Text lay)) b) new k _
                   (λ x. by_kind (kind.Start b) e (page [] lay x) ∙ start_is limit full at _ _ _ [] lay x b (eqb-false (index b) 10 (ap is_meta (sym e) ∙ m)))
-                  (w o.table ∙ ap (λ (c : ℕ). seen room len >>= started_text c met b) o.same
+                  (w ∙ ap (λ (c : ℕ). seen room len >>= started_text c met b) o.same
                   ∙ ap (λ (st : Style). seen room len >>= λ x. closed limit st x >>= start_rule limit (with_style style.Text met) b) v
                   ∙ ap (λ (l : Markdown). seen room len >>= λ x. closed limit lay.style x >>= start_rule limit l b) u));
             }
 
         -- it ends
         pub on-ended : h.kind ≡ kind.End b → is_meta h.kind ≡ false → length new ≡ length room
-            → (tags ≡ all_tags → seen new k ≡ (seen room len >>= ended_text (length room) lay b)) → lay' ≡ (end_of (with_style style.Text lay) b).after
+            → (seen new k ≡ (seen room len >>= ended_text (length room) lay b)) → lay' ≡ (end_of (with_style style.Text lay) b).after
             → On new h.next k lay'
         on-ended e m s w f =
             let x = end_few b (with_style style.Text lay) in
             let y₁ = ap (λ (l : Markdown). l.skip) f in
             let y₂ = ap (λ (l : Markdown). l.mono) f in
             record {
-              table = o.table;
               opened = opened_next;
               same = s ∙ o.same;
               few = omega (arith, o.few, further);
@@ -227,7 +222,7 @@ module _ (limit : ℕ) (full : Bool) (tags document : List ℕ) where
               leads = rw f
                   (turn-leads (ended_text limit lay b) new k _
                   (λ x. by_kind (kind.End b) e (page [] lay x) ∙ end_is limit full at _ _ _ [] lay x b (eqb-false (index b) 10 (ap is_meta (sym e) ∙ m)))
-                  (w o.table ∙ ap (λ (c : ℕ). seen room len >>= ended_text c lay b) o.same));
+                  (w ∙ ap (λ (c : ℕ). seen room len >>= ended_text c lay b) o.same));
             }
 
       -- text
@@ -237,7 +232,7 @@ module _ (limit : ℕ) (full : Bool) (tags document : List ℕ) where
 
         -- the style has changed, and the chunks of the body are left
         pub on-body : (y new : List ℕ) (n : ℕ) (lay' : Markdown) → y ≡ part document h.start h.stop → hides lay.skip ≡ false
-            → (tags ≡ all_tags → seen new n ≡ (seen room len >>= extended (length room) (closing lay.style ++ opening st))) → lay' ≡ with_style st lay
+            → (seen new n ≡ (seen room len >>= extended (length room) (closing lay.style ++ opening st))) → lay' ≡ with_style st lay
             → InBody new h.next n lay' y start
         unfolding change split
         on-body y new n lay' b z w g =
@@ -256,7 +251,7 @@ module _ (limit : ℕ) (full : Bool) (tags document : List ℕ) where
                   ∙ sym (bind_assoc (change limit st (page [] lay x) >>= body full (anywhere (chunk limit full)) (split y)) (body_ends limit) (rest h.next))
                   ∙ sym (bind_assoc (change limit st (page [] lay x)) (body full (anywhere (chunk limit full)) (split y)) (after h.next)))
                   (shown-write (with_lay (with_style st)) [] [] lay (with_style st lay) (λ x. refl) limit room new len n (closing lay.style ++ opening st)
-                  (w o.table ∙ ap (λ (c : ℕ). seen room len >>= extended c (closing lay.style ++ opening st)) o.same)
+                  (w ∙ ap (λ (c : ℕ). seen room len >>= extended c (closing lay.style ++ opening st)) o.same)
                   ∙ sym (shown_then room len [] lay (change limit st) (λ s. write limit (closing lay.style ++ opening st) (with_lay (with_style st) s))
                   (λ x. refl))));
             }
@@ -264,20 +259,19 @@ module _ (limit : ℕ) (full : Bool) (tags document : List ℕ) where
         -- the chunks are done, or one ended the walk of the body; the code lines end
         module _ {y old : List ℕ} {k : ℕ} {l₁ : Markdown} {c : Cursor} (s : length old ≡ limit) (i : InBody old h.next k l₁ y c)
             (new : List ℕ) (n : ℕ) (u : length new ≡ length old)
-            (w : tags ≡ all_tags → seen new n ≡ (seen old k >>= extended (length old) (code_ends l₁))) where
+            (w : seen new n ≡ (seen old k >>= extended (length old) (code_ends l₁))) where
           ends : (l₂ : Markdown) → l₂.fenced ≡ l₁.fenced → Leads whole (after h.next) (shown old k [] l₂)
               → Leads whole (rest h.next) (shown new n [] (with_fenced false l₂))
           unfolding body_ends
           ends l₂ f g =
               leads-on whole (after h.next) (shown old k [] l₂) g (body_ends limit) (rest h.next) (shown new n [] (with_fenced false l₂)) (λ s. refl)
               (shown-write (with_lay (with_fenced false)) [] [] l₂ (with_fenced false l₂) (λ x. refl) limit old new k n (code_ends l₂)
-              (w o.table ∙ ap (λ (m : ℕ). seen old k >>= extended m (code_ends l₁)) s
+              (w ∙ ap (λ (m : ℕ). seen old k >>= extended m (code_ends l₁)) s
               ∙ ap (λ (y : List ℕ). seen old k >>= extended limit y) (ap (λ (b : Bool). code_ends (with_fenced b l₂)) (sym f)))
               ∙ sym (shown_then old k [] l₂ (body_ends limit) (λ s. write limit (code_ends l₂) (with_lay (with_fenced false) s)) (λ x. refl)))
 
           pub on-done : placed_from y c ≡ [] → On new h.next n (with_fenced false l₁)
           on-done f = record {
-            table = o.table;
             opened = opened_next;
             same = u ∙ s;
             few = i.few;
@@ -289,7 +283,6 @@ module _ (limit : ℕ) (full : Bool) (tags document : List ℕ) where
           pub on_stopped : {p : Piece} {d : Cursor} → Took y c p d → last full (chunk_of y p) ≡ true
               → (j : ℕ) → j ≡ skip_paragraph l₁.skip → On new h.next n (with_fenced false (with_skip j l₁))
           on_stopped {p} q f j g = record {
-            table = o.table;
             opened = opened_next;
             same = u ∙ s;
             few = omega (arith, further, g);
@@ -305,6 +298,6 @@ pub body_few : (document y : List ℕ) (from to : ℕ) → y ≡ part document f
 body_few document y from to e h k = omega (arith, ap length e, length-take (to - from) (drop from document))
 
 -- the same for a room that has kept its length
-pub body_at : {limit m : ℕ} {full : Bool} {tags document room : List ℕ} {at len : ℕ} {lay : Markdown} {y : List ℕ} {c : Cursor} → m ≡ limit
-    → InBody limit full tags document room at len lay y c → InBody m full tags document room at len lay y c
+pub body_at : {limit m : ℕ} {full : Bool} {document room : List ℕ} {at len : ℕ} {lay : Markdown} {y : List ℕ} {c : Cursor} → m ≡ limit
+    → InBody limit full document room at len lay y c → InBody m full document room at len lay y c
 body_at e i = rw e i

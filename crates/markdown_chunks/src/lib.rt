@@ -1,5 +1,4 @@
-// The chunks of Markdown (src/buffer/html.rs): lines in ticks and code lines, words, and words that go out as they stand. What is promised
-// of a text out of the table holds where the lent table is that of the marks.
+// The chunks of Markdown (src/buffer/html.rs): lines in ticks and code lines, words, and words that go out as they stand.
 
 #![tactic(auto)]
 
@@ -8,13 +7,10 @@ ghost use Rattle.base.specs.Result.{◌>>=◌ as bind};
 ghost use Rattle.room.specs.Room.{seen, extended};
 ghost use Rattle.splitter.specs.Answers.{chunk_of};
 ghost use Rattle.html_rules.specs.Markdown.{code_begins, code_stops, code_ends, line_text, word_text, paragraph_text};
-ghost use Rattle.html_marks.specs.InnerParts.{spanned};
-ghost use Rattle.markdown_marks.specs.InnerParts.{tags as all_tags};
 ghost use Rattle.markdown_chunks.specs.InnerParts.{raw_rule, chunk_rule, fence_after};
 ghost use Rattle.markdown_chunks.specs.InnerAdvance.{MarkdownAdvance, Ahead, Moves};
 
 use html_escape::Escape;
-use html_marks::Span;
 use html_rules::Markdown;
 use splitter::{CODE, Code, Piece, TICKED_CODE};
 
@@ -28,8 +24,8 @@ fn put_line(room: &mut [u8], len: usize, text: &[u8]) -> usize
 }
 
 // A word.
-fn put_word(room: &mut [u8], len: usize, text: &[u8], l: Markdown) -> usize
-    ensures { seen room.new result ≡ bind (seen room.old len) (extended (length room.old) (word_text l text.now)) }
+fn put_word(room: &mut [u8], len: usize, text: &[u8], l: &Markdown) -> usize
+    ensures { seen room.new result ≡ bind (seen room.old len) (extended (length room.old) (word_text l.now text.now)) }
 {
     if 0 < l.mono {
         return html_escape::put_escaped(room, len, text, Escape::Mono);
@@ -37,80 +33,68 @@ fn put_word(room: &mut [u8], len: usize, text: &[u8], l: Markdown) -> usize
     room::put_all(room, len, text)
 }
 
-// Where the text stands that begins code lines, that stops them before a word, and that ends them after the last chunk.
-fn begins_span(l: Markdown) -> Span
-    ensures { spanned all_tags result ≡ code_begins l }
+// The text that begins code lines, that stops them before a word, and that ends them after the last chunk.
+fn begins(l: &Markdown) -> &'static [u8]
+    ensures { result.now ≡ code_begins l.now }
 {
-    if l.fenced { Span(0, 0) } else { Span(14, 26) }
+    if l.fenced { b"" } else { b"\n\n  ```text\n" }
 }
 
-fn stops_span(l: Markdown) -> Span
-    ensures { spanned all_tags result ≡ code_stops l }
+fn stops(l: &Markdown) -> &'static [u8]
+    ensures { result.now ≡ code_stops l.now }
 {
-    if l.fenced { Span(26, 33) } else { Span(0, 0) }
+    if l.fenced { b"\n  ```\n" } else { b"" }
 }
 
-fn ends_span(l: Markdown) -> Span
-    ensures { spanned all_tags result ≡ code_ends l }
+fn ends(l: &Markdown) -> &'static [u8]
+    ensures { result.now ≡ code_ends l.now }
 {
-    if l.fenced { Span(27, 33) } else { Span(0, 0) }
+    if l.fenced { b"  ```\n" } else { b"" }
 }
 
-fn paragraph_span(l: Markdown) -> Span
-    ensures { spanned all_tags result ≡ paragraph_text l }
+fn paragraph(l: &Markdown) -> &'static [u8]
+    ensures { result.now ≡ paragraph_text l.now }
 {
-    if l.listed { Span(14, 18) } else { Span(14, 16) }
+    if l.listed { b"\n\n  " } else { b"\n\n" }
 }
 
 // A text with its width.
-fn put_raw(
-    room: &mut [u8],
-    len: usize,
-    tags: &[u8],
-    text: &[u8],
-    width: usize,
-    l: Markdown,
-) -> usize
-    ensures { tags.now ≡ all_tags → seen room.new result ≡ bind (seen room.old len) (raw_rule (length room.old) l text.now width) }
+fn put_raw(room: &mut [u8], len: usize, text: &[u8], width: usize, l: &Markdown) -> usize
+    ensures { seen room.new result ≡ bind (seen room.old len) (raw_rule (length room.old) l.now text.now width) }
 {
-    if width == TICKED_CODE {
-        let n = html_marks::separate(room, len, b"\n");
-        return put_line(room, n, text);
+    match width {
+        TICKED_CODE => {
+            let n = html_marks::separate(room, len, b"\n");
+            put_line(room, n, text)
+        }
+        CODE => {
+            let n = room::put_all(room, len, begins(l));
+            put_line(room, n, text)
+        }
+        _ => {
+            let n = room::put_all(room, len, stops(l));
+            put_word(room, n, text, l)
+        }
     }
-    if width == CODE {
-        let n = html_marks::put_span(room, len, tags, begins_span(l));
-        return put_line(room, n, text);
-    }
-    let n = html_marks::put_span(room, len, tags, stops_span(l));
-    put_word(room, n, text, l)
 }
 
 // A chunk that does not end the walk of its body.
-pub fn put_chunk(
-    room: &mut [u8],
-    len: usize,
-    tags: &[u8],
-    body: &[u8],
-    piece: Piece,
-    l: Markdown,
-) -> usize
-    ensures { tags.now ≡ all_tags → seen room.new result ≡ bind (seen room.old len) (chunk_rule (length room.old) l (chunk_of body.now piece)) }
+pub fn put_chunk(room: &mut [u8], len: usize, body: &[u8], piece: Piece, l: &Markdown) -> usize
+    ensures { seen room.new result ≡ bind (seen room.old len) (chunk_rule (length room.old) l.now (chunk_of body.now piece)) }
 {
     match piece {
-        Piece::Raw(_, _, width) => {
-            put_raw(room, len, tags, splitter::text_of(body, piece), width, l)
-        }
-        Piece::Space(_) => put_raw(room, len, tags, b" ", 1, l),
-        Piece::Paragraph(_) => html_marks::put_span(room, len, tags, paragraph_span(l)),
+        Piece::Raw(_, _, width) => put_raw(room, len, splitter::text_of(body, piece), width, l),
+        Piece::Space(_) => put_raw(room, len, b" ", 1, l),
+        Piece::Paragraph(_) => room::put_all(room, len, paragraph(l)),
         Piece::LineBreak(_) => room::put(room, len, b'\n'),
     }
 }
 
 // After the last chunk of a body: code lines end.
-pub fn end_code(room: &mut [u8], len: usize, tags: &[u8], l: Markdown) -> usize
-    ensures { tags.now ≡ all_tags → seen room.new result ≡ bind (seen room.old len) (extended (length room.old) (code_ends l)) }
+pub fn end_code(room: &mut [u8], len: usize, l: &Markdown) -> usize
+    ensures { seen room.new result ≡ bind (seen room.old len) (extended (length room.old) (code_ends l.now)) }
 {
-    html_marks::put_span(room, len, tags, ends_span(l))
+    room::put_all(room, len, ends(l))
 }
 
 // Whether code lines are being written after a chunk.
@@ -120,13 +104,13 @@ pub fn fence_after(piece: Piece, fenced: bool) -> bool
     match piece {
         Piece::Raw(_, _, width) => {
             if width == TICKED_CODE {
-                return fenced;
+                fenced
+            } else {
+                width == CODE
             }
-            width == CODE
         }
         Piece::Space(_) => false,
-        Piece::Paragraph(_) => fenced,
-        Piece::LineBreak(_) => fenced,
+        Piece::Paragraph(_) | Piece::LineBreak(_) => fenced,
     }
 }
 
@@ -156,13 +140,10 @@ fn put_words(room: &mut [u8], len: usize, body: &[u8], from: usize) -> Run
 }
 
 // Whether words go out as they stand: outside ticks, Mono and code lines.
-fn is_plain(l: Markdown, code: Code) -> bool
-    ensures { Ahead l code result }
+fn is_plain(l: &Markdown, code: Code) -> bool
+    ensures { Ahead l.now code result }
 {
-    if 0 < l.mono {
-        return false;
-    }
-    if l.fenced {
+    if 0 < l.mono || l.fenced {
         return false;
     }
     match code {
@@ -179,9 +160,9 @@ pub fn put_plain(
     body: &[u8],
     from: usize,
     code: Code,
-    l: Markdown,
+    l: &Markdown,
 ) -> Run
-    ensures { Moves l body.now code room.old len from room.new result.len result.at }
+    ensures { Moves l.now body.now code room.old len from room.new result.len result.at }
 {
     if is_plain(l, code) {
         return put_words(room, len, body, from);

@@ -1,19 +1,20 @@
 -- The numbers and flags of Markdown after a block. Assumes nothing.
-use Rattle.markdown_marks.proofs.Names.{ℕ, ◌+◌, ◌≤◌, ◌<◌, ◌≡◌, refl, sym, ap, ◌∙◌, List, length, arith, ne_eqb, lt-ltb, when◌then◌else◌, gives, refused}
+use Rattle.markdown_marks.proofs.Names.{ℕ, min, ◌+◌, ◌≤◌, ◌<◌, ◌≡◌, refl, sym, ap, ◌∙◌, List, length, arith, lt-ltb, when◌then◌else◌, gives, refused}
 use Rattle.markdown_marks.proofs.Names.{Block, with_style, with_skip, with_bare, with_mono, term_ends, started, ended, Markdown, start_of, end_of}
 use mathlib.Core.Bool.{Bool, true, false, ◌||◌}
-use mathlib.Core.Logic.{⊎_elim}
+use mathlib.Core.Logic.{◌⊎◌, ⊎_elim}
 use lib.Dec.{eqb}
-use Rattle.base.proofs.Choice.{if_true, eq_or_not}
+use Rattle.base.proofs.Choice.{if_true}
 use Rattle.records.specs.Records.{index, tokens_from, is_end}
 use Rattle.records.specs.Answers.{Read}
 use Rattle.records.specs.declared.Style.{Style}
 use Rattle.records.specs.declared.Block.TheVariants as block
 use Rattle.records.specs.declared.Head.{Head}
+use Rattle.records.proofs.Tables.{index-apart}
 use Rattle.records.proofs.Tokens.{tokens-end}
-use Rattle.skip.specs.Counter.{skip_start, skip_end}
+use Rattle.skip.specs.Counter.{skip_start}
 use Rattle.skip.specs.Answers.{new_if_fits}
-use Rattle.skip.proofs.Counter.{new_fits, old_stays, skip-start_most, skip-end_most}
+use Rattle.skip.proofs.Counter.{new_fits, skip-start_most, skip-end_most}
 use Rattle.markdown_marks.specs.InnerParts.{met_term, Few}
 
 module _ (document : List ℕ) (at : ℕ) where
@@ -25,33 +26,57 @@ module _ (document : List ℕ) (at : ℕ) where
   unfolding term_ends
   next-term h r d l e = e ∙ sym (ap term_ends (d.listed ∙ if_true _ _ (lt-ltb at (length document) l)))
 
-module _ (b : Block) (empty : Bool) (l : Markdown) (i : ℕ) (is : i ≡ index b) where
-  pub no_item : (i ≡ 3 → ⊥) → (i ≡ 4 → ⊥) → l ≡ met_term b empty l
+-- an ItemTerm or a Section4 meets a term, the others do not
+module _ (b : Block) (empty : Bool) (l : Markdown) where
+  pub item : (b ≡ block.Section4) ⊎ (b ≡ block.ItemTerm) → (r : Bool) → r ≡ empty → with_bare r l ≡ met_term b empty l
   unfolding met_term when◌then◌else◌
-  no_item n m = rw (← is, ne_eqb i 3 n, ne_eqb i 4 m)
+  item = ⊎_elim (λ e r f. rw (e, f)) (λ e r f. rw (e, f))
 
-  pub item : 3 ≤ i → i ≤ 4 → (r : Bool) → r ≡ empty → with_bare r l ≡ met_term b empty l
-  unfolding met_term
-  item h k r e = ap (λ (x : Bool). with_bare x l) e ∙ sym (if_true _ _ (rw (← is) (either (omega arith))))
-    where
-      either : ((i ≡ 3 → ⊥) → i ≡ 4) → (eqb i 3 || eqb i 4) ≡ true
-      either f = ⊎_elim (λ (e : i ≡ 3). rw e) (λ (n : i ≡ 3 → ⊥). rw (f n)) (eq_or_not i 3)
+  pub no_item : (b ≡ block.Section4 → ⊥) → (b ≡ block.ItemTerm → ⊥) → l ≡ met_term b empty l
+  unfolding met_term when◌then◌else◌
+  no_item n m = rw (index-apart b block.Section4 n, index-apart b block.ItemTerm m)
+
+-- the other blocks change nothing
+pub start-same : (b : Block) (l : Markdown) → (b ≡ block.Header → ⊥) → (b ≡ block.DefinitionList → ⊥) → (b ≡ block.InlineBlock → ⊥) → (b ≡ block.Mono → ⊥) → l ≡ (start_of l b).after
+unfolding start_of started
+start-same block.Header l n _ _ _ = absurd (n refl)
+start-same block.Section2 l _ _ _ _ = refl
+start-same block.Section3 l _ _ _ _ = refl
+start-same block.Section4 l _ _ _ _ = refl
+start-same block.ItemTerm l _ _ _ _ = refl
+start-same block.ItemBody l _ _ _ _ = refl
+start-same block.DefinitionList l _ n _ _ = absurd (n refl)
+start-same block.Block l _ _ _ _ = refl
+start-same block.InlineBlock l _ _ n _ = absurd (n refl)
+start-same block.TermRef l _ _ _ _ = refl
+start-same block.Meta l _ _ _ _ = refl
+start-same block.Mono l _ _ _ n = absurd (n refl)
+
+pub end-same : (b : Block) (l : Markdown) → (b ≡ block.DefinitionList → ⊥) → (b ≡ block.InlineBlock → ⊥) → (b ≡ block.Mono → ⊥) → l ≡ (end_of l b).after
+unfolding end_of ended
+end-same block.Header l _ _ _ = refl
+end-same block.Section2 l _ _ _ = refl
+end-same block.Section3 l _ _ _ = refl
+end-same block.Section4 l _ _ _ = refl
+end-same block.ItemTerm l _ _ _ = refl
+end-same block.ItemBody l _ _ _ = refl
+end-same block.DefinitionList l n _ _ = absurd (n refl)
+end-same block.Block l _ _ _ = refl
+end-same block.InlineBlock l _ n _ = absurd (n refl)
+end-same block.TermRef l _ _ _ = refl
+end-same block.Meta l _ _ _ = refl
+end-same block.Mono l _ _ n = absurd (n refl)
 
 module _ (b : Block) (l : Markdown) (few : Few l) (k : ℕ) where
-  pub inline-start : b ≡ block.InlineBlock → k ≡ new_if_fits l.skip (skip_start b l.skip) → with_skip k l ≡ (start_of l b).after
+  pub inline-start : b ≡ block.InlineBlock → k ≡ new_if_fits l.skip (skip_start block.InlineBlock l.skip) → with_skip k l ≡ (start_of l b).after
   unfolding start_of started
   inline-start e f =
       rw e (ap (λ (n : ℕ). with_skip n l)
-      (f ∙ new_fits l.skip (skip_start b l.skip) (omega (arith, few.skipped, skip-start_most b l.skip)) ∙ ap (λ (c : Block). skip_start c l.skip)
-      e))
+      (f ∙ new_fits l.skip (skip_start block.InlineBlock l.skip) (omega (arith, few.skipped, skip-start_most block.InlineBlock l.skip))))
 
-  pub mono-start : b ≡ block.Mono → k ≡ new_if_fits l.mono (l.mono + 1) → with_mono k l ≡ (start_of l b).after
+  pub mono-start : b ≡ block.Mono → k ≡ min (l.mono + 1) 0xFFFF_FFFF_FFFF_FFFF → with_mono k l ≡ (start_of l b).after
   unfolding start_of started
-  mono-start e f = rw e (ap (λ (n : ℕ). with_mono n l) (f ∙ new_fits l.mono (l.mono + 1) (omega (arith, few.opened))))
-
-pub inline-end : (b : Block) (l : Markdown) (k : ℕ) → b ≡ block.InlineBlock → k ≡ skip_end b l.skip → with_skip k l ≡ (end_of l b).after
-unfolding end_of ended
-inline-end b l k e f = rw e (ap (λ (n : ℕ). with_skip n l) (f ∙ ap (λ (c : Block). skip_end c l.skip) e))
+  mono-start e f = let g : k ≡ l.mono + 1 = omega (arith, f, few.opened) in rw e (ap (λ (n : ℕ). with_mono n l) g)
 
 -- of a block's start and end the rules refuse Meta's
 pub start_told : (p : ℕ) (b : Block) (empty : Bool) (l : Markdown) → started p b empty l
@@ -145,10 +170,3 @@ module _ (b : Block) (empty : Bool) (l : Markdown) where
       go : (t : Bool) → (when t then with_bare empty (with_style st l) else with_style st l) ≡ with_style st (when t then with_bare empty l else l)
       go true = refl
       go false = refl
-
--- one more, as the code holds it
-pub one_more : (n : ℕ) → n < 0xFFFF_FFFF_FFFF_FFFF → n + 1 ≡ new_if_fits n (n + 1)
-one_more n h = sym (new_fits n (n + 1) (omega arith))
-
-pub no_more : (n : ℕ) → 0xFFFF_FFFF_FFFF_FFFF ≤ n → n ≡ new_if_fits n (n + 1)
-no_more n h = sym (old_stays n (n + 1) (omega arith))

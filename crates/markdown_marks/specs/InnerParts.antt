@@ -2,7 +2,6 @@
 use Rattle.std.specs.Prelude.{ℕ, ◌≤◌, Bool, ◌||◌, List, [], ◌++◌, eqb}
 use Rattle.base.specs.Choice.{when◌then◌else◌}
 use Rattle.base.specs.Result.{Result, gives, refused, ◌>>=◌}
-use Rattle.utf8.specs.Utf8.{bytes}
 use Rattle.room.specs.Room.{extended}
 use Rattle.records.specs.Records.{index}
 use Rattle.records.specs.declared.Style.{Style}
@@ -12,10 +11,6 @@ use Rattle.html_rules.specs.Marks.{separated}
 use Rattle.html_rules.specs.Markdown.{AtStart, AtEnd, started, ended, with_style, with_bare, opening, closing}
 use Rattle.html_rules.specs.declared.Markdown.{Markdown}
 use Rattle.document.specs.Document.{max_bytes}
-
--- all marks in one text
-unfoldable pub tags : List ℕ
-tags = bytes "**`**_`_### - \n\n  ```text\n\n  ```\n &mdash; "
 
 -- `empty_term = ..` at an ItemTerm or a Section4, before its text
 unfoldable pub met_term : Block → Bool → Markdown → Markdown

@@ -1,199 +1,138 @@
-// The marks of Markdown (src/buffer/html.rs): those of styles and blocks out of one table, and the numbers and flags after a block. The
-// table is lent, since a constant that is named here would be built anew at each call; what is promised of a mark holds where the lent
-// table is that of the marks.
+// The marks of Markdown (src/buffer/html.rs): those of styles and blocks, and the numbers and flags after a block.
 
 #![tactic(auto)]
 
-ghost use Rattle.std.specs.Prelude.{◌≡◌, ◌++◌, ◌+◌, length};
+ghost use Rattle.std.specs.Prelude.{◌≡◌, ◌++◌, length};
 ghost use Rattle.base.specs.Result.{refused, ◌>>=◌ as bind};
 ghost use Rattle.room.specs.Room.{seen, extended};
-ghost use Rattle.records.specs.Records.{tokens_from};
+ghost use Rattle.records.specs.Records.{tokens_from, is_end};
+ghost use Rattle.records.specs.declared.Style.{Style};
 ghost use Rattle.records.specs.declared.Style.TheVariants as style;
-ghost use Rattle.skip.specs.Answers.{new_if_fits};
 ghost use Rattle.renderer.specs.Rendered.{standing, Inside};
 ghost use Rattle.html_rules.specs.Markdown.{with_style, opening, closing, term_ends};
 ghost use Rattle.html_rules.specs.declared.Markdown.{Markdown as State};
-ghost use Rattle.html_marks.specs.InnerParts.{spanned};
-ghost use Rattle.markdown_marks.specs.InnerParts.{tags as all_tags, met_term, start_of, end_of, closed, start_rule, started_text, ended_text, Few};
+ghost use Rattle.markdown_marks.specs.InnerParts.{met_term, start_of, end_of, closed, started_text, ended_text, Few};
 
-use html_marks::Span;
 use html_rules::Markdown;
-use records::{Block, Style};
-use renderer::Rendered;
+use records::{Block, Kind, Style};
+use refusal::Refusal;
 
-// Where the marks that open a style stand.
-fn opening_span(st: Style) -> Span
-    ensures { spanned all_tags result ≡ opening st }
+// The marks that open a style.
+fn opening(st: Style) -> &'static [u8]
+    ensures { result.now ≡ opening st }
 {
     match st {
-        Style::Text => Span(0, 0),
-        Style::Emphasis => Span(0, 2),
-        Style::Literal => Span(0, 3),
-        Style::Metavar => Span(5, 7),
-        Style::Invalid => Span(0, 2),
+        Style::Text => b"",
+        Style::Emphasis => b"**",
+        Style::Literal => b"**`",
+        Style::Metavar => b"_`",
+        Style::Invalid => b"**",
     }
 }
 
-// Where the marks that close a style stand.
-fn closing_span(st: Style) -> Span
-    ensures { spanned all_tags result ≡ closing st }
+// The marks that close a style.
+fn closing(st: Style) -> &'static [u8]
+    ensures { result.now ≡ closing st }
 {
     match st {
-        Style::Text => Span(0, 0),
-        Style::Emphasis => Span(0, 2),
-        Style::Literal => Span(2, 5),
-        Style::Metavar => Span(6, 8),
-        Style::Invalid => Span(0, 2),
+        Style::Text => b"",
+        Style::Emphasis => b"**",
+        Style::Literal => b"`**",
+        Style::Metavar => b"`_",
+        Style::Invalid => b"**",
     }
 }
 
 // The open style is closed, and another opened.
-pub fn change_to_markdown_style(
-    room: &mut [u8],
-    len: usize,
-    tags: &[u8],
-    l: Markdown,
-    new: Style,
-) -> usize
-    ensures { tags.now ≡ all_tags → seen room.new result ≡ bind (seen room.old len) (extended (length room.old) (closing l.style ++ opening new)) }
+pub fn change_to_markdown_style(room: &mut [u8], len: usize, old: Style, new: Style) -> usize
+    ensures { seen room.new result ≡ bind (seen room.old len) (extended (length room.old) (closing old ++ opening new)) }
 {
-    let old = l.style;
-    html_marks::put_spans(room, len, tags, closing_span(old), opening_span(new))
+    html_marks::put_both(room, len, closing(old), opening(new))
 }
 
-// The same state with another style open.
-pub fn styled(l: Markdown, st: Style) -> Markdown
-    ensures { result ≡ with_style st l }
-{
-    Markdown {
-        style: st,
-        skip: l.skip,
-        bare: l.bare,
-        mono: l.mono,
-        listed: l.listed,
-        fenced: l.fenced,
-        titled: l.titled,
-    }
-}
-
-// Where the text stands that goes out at a block's start at once.
-fn lead_span(b: Block, l: Markdown) -> Span
-    ensures { spanned all_tags result ≡ (start_of l b).lead }
+// The text that goes out at a block's start at once, whatever style is open.
+fn lead(b: Block, l: &Markdown) -> &'static [u8]
+    ensures { (st : Style) → result.now ≡ (start_of (with_style st l.now) b).lead }
 {
     match b {
-        Block::Header => Span(0, 0),
-        Block::Section2 => Span(0, 0),
-        Block::Section3 => Span(0, 0),
-        Block::Section4 => Span(0, 0),
-        Block::ItemTerm => Span(0, 0),
         Block::ItemBody => {
             if !l.listed {
-                return Span(0, 0);
+                return b"";
             }
-            if l.bare { Span(16, 17) } else { Span(33, 42) }
+            if l.bare { b" " } else { b" &mdash; " }
         }
-        Block::DefinitionList => Span(0, 0),
-        Block::Block => Span(0, 0),
-        Block::InlineBlock => Span(0, 0),
-        Block::TermRef => Span(0, 0),
-        Block::Meta => Span(0, 0),
-        Block::Mono => Span(0, 0),
+        _ => b"",
     }
 }
 
-// Where the mark of its own line stands.
-fn line_span(b: Block) -> Span
-    ensures { (l : State) → spanned all_tags result ≡ (start_of l b).line }
+// The mark of its own line.
+fn line(b: Block) -> &'static [u8]
+    ensures { (l : State) → result.now ≡ (start_of l b).line }
 {
     match b {
-        Block::Header => Span(14, 16),
-        Block::Section2 => Span(0, 0),
-        Block::Section3 => Span(0, 0),
-        Block::Section4 => Span(14, 15),
-        Block::ItemTerm => Span(14, 15),
-        Block::ItemBody => Span(14, 15),
-        Block::DefinitionList => Span(0, 0),
-        Block::Block => Span(0, 0),
-        Block::InlineBlock => Span(0, 0),
-        Block::TermRef => Span(0, 0),
-        Block::Meta => Span(0, 0),
-        Block::Mono => Span(0, 0),
+        Block::Header => b"\n\n",
+        Block::Section4 | Block::ItemTerm | Block::ItemBody => b"\n",
+        _ => b"",
     }
 }
 
 // And the text after that.
-fn text_span(b: Block, l: Markdown) -> Span
-    ensures { spanned all_tags result ≡ (start_of l b).text }
+fn text(b: Block, l: &Markdown) -> &'static [u8]
+    ensures { (st : Style) → result.now ≡ (start_of (with_style st l.now) b).text }
 {
     match b {
-        Block::Header => if l.titled { Span(9, 12) } else { Span(10, 12) },
-        Block::Section2 => Span(0, 0),
-        Block::Section3 => Span(8, 12),
-        Block::Section4 => if l.bare { Span(16, 18) } else { Span(12, 14) },
-        Block::ItemTerm => if l.bare { Span(16, 18) } else { Span(12, 14) },
-        Block::ItemBody => Span(16, 18),
-        Block::DefinitionList => Span(0, 0),
-        Block::Block => Span(14, 15),
-        Block::InlineBlock => Span(0, 0),
-        Block::TermRef => Span(0, 0),
-        Block::Meta => Span(0, 0),
-        Block::Mono => Span(0, 0),
+        Block::Header => { if l.titled { b"## " } else { b"# " } }
+        Block::Section3 => b"### ",
+        Block::Section4 | Block::ItemTerm => { if l.bare { b"  " } else { b"- " } }
+        Block::ItemBody => b"  ",
+        Block::Block => b"\n",
+        _ => b"",
     }
 }
 
-// The three texts of a block's start.
-fn put_texts(room: &mut [u8], len: usize, tags: &[u8], l: Markdown, b: Block) -> usize
-    ensures { tags.now ≡ all_tags → seen room.new result ≡ bind (seen room.old len) (start_rule (length room.old) l b) }
-{
-    let n = html_marks::put_span(room, len, tags, lead_span(b, l));
-    let k = html_marks::separate_span(room, n, tags, line_span(b));
-    html_marks::put_span(room, k, tags, text_span(b, l))
-}
-
 // A block's start that is not Meta's: the style is closed, and its texts follow.
-pub fn put_start(room: &mut [u8], len: usize, tags: &[u8], l: Markdown, b: Block) -> usize
-    ensures { tags.now ≡ all_tags → seen room.new result ≡ bind (seen room.old len) (started_text (length room.old) l b) }
+pub fn put_start(room: &mut [u8], len: usize, l: &Markdown, b: Block) -> usize
+    ensures { seen room.new result ≡ bind (seen room.old len) (started_text (length room.old) l.now b) }
 {
-    let n = change_to_markdown_style(room, len, tags, l, Style::Text);
-    put_texts(room, n, tags, styled(l, Style::Text), b)
+    let n = change_to_markdown_style(room, len, l.style, Style::Text);
+    let i = room::put_all(room, n, lead(b, l));
+    let j = html_marks::separate(room, i, line(b));
+    room::put_all(room, j, text(b, l))
 }
 
-// Where the text of a block's end stands.
-fn end_span(b: Block, l: Markdown) -> Span
-    ensures { spanned all_tags result ≡ (end_of l b).text }
+// The text of a block's end, whatever style is open.
+fn end(b: Block, l: &Markdown) -> &'static [u8]
+    ensures { (st : Style) → result.now ≡ (end_of (with_style st l.now) b).text }
 {
     match b {
-        Block::Header => Span(14, 15),
-        Block::Section2 => Span(14, 15),
-        Block::Section3 => Span(14, 15),
-        Block::Section4 => Span(14, 15),
-        Block::ItemTerm => Span(0, 0),
-        Block::ItemBody => { if l.listed { Span(14, 15) } else { Span(0, 0) } }
-        Block::DefinitionList => Span(14, 15),
-        Block::Block => Span(14, 15),
-        Block::InlineBlock => Span(0, 0),
-        Block::TermRef => Span(0, 0),
-        Block::Meta => Span(0, 0),
-        Block::Mono => Span(0, 0),
+        Block::ItemBody => { if l.listed { b"\n" } else { b"" } }
+        Block::ItemTerm | Block::InlineBlock | Block::TermRef | Block::Meta | Block::Mono => b"",
+        _ => b"\n",
     }
 }
 
 // A block's end that is not Meta's: the style is closed, and its text follows.
-pub fn put_end(room: &mut [u8], len: usize, tags: &[u8], l: Markdown, b: Block) -> usize
-    ensures { tags.now ≡ all_tags → seen room.new result ≡ bind (seen room.old len) (ended_text (length room.old) l b) }
+pub fn put_end(room: &mut [u8], len: usize, l: &Markdown, b: Block) -> usize
+    ensures { seen room.new result ≡ bind (seen room.old len) (ended_text (length room.old) l.now b) }
 {
-    let n = change_to_markdown_style(room, len, tags, l, Style::Text);
-    let m = styled(l, Style::Text);
-    html_marks::put_span(room, n, tags, end_span(b, m))
+    let n = change_to_markdown_style(room, len, l.style, Style::Text);
+    room::put_all(room, n, end(b, l))
 }
 
 // Meta: the style is closed, and then 11 is met.
-pub fn meet_meta(room: &mut [u8], len: usize, tags: &[u8], l: Markdown, at: usize) -> Rendered
-    ensures text { tags.now ≡ all_tags → standing room.new result ≡ bind (seen room.old len) (λ x. bind (closed (length room.old) l.style x) (λ _. refused 11 at)) }
+pub fn meet_meta(room: &mut [u8], len: usize, st: Style, at: usize) -> Result<usize, Refusal>
+    ensures text { standing room.new result ≡ bind (seen room.old len) (λ x. bind (closed (length room.old) st x) (λ _. refused 11 at)) }
     ensures inside { Inside (length room.old) result }
 {
-    let n = change_to_markdown_style(room, len, tags, l, Style::Text);
+    let n = change_to_markdown_style(room, len, st, Style::Text);
     renderer::no_form(room, n, at)
+}
+
+// Whether a record is the end of a term.
+fn is_term_end(kind: Kind) -> bool
+    ensures { result ≡ is_end 4 kind }
+{
+    matches!(kind, Kind::End(Block::ItemTerm))
 }
 
 // Whether the record at a place is the end of a term.
@@ -203,105 +142,42 @@ fn term_ends(document: &[u8], at: usize) -> bool
     if document.len() <= at {
         return false;
     }
-    let h = records::record_at(document, at);
-    let kind = h.kind;
-    records::is_end(kind, 4)
+    is_term_end(records::record_at(document, at).kind)
 }
 
 // At the start of an ItemTerm or a Section4: whether its term is empty.
-pub fn met_term(document: &[u8], next: usize, b: Block, l: Markdown) -> Markdown
-    ensures { result ≡ met_term b (term_ends (tokens_from document.now next)) l }
+pub fn met_term(l: &mut Markdown, document: &[u8], next: usize, b: Block)
+    ensures { l.new ≡ met_term b (term_ends (tokens_from document.now next)) l.old }
 {
-    let i = records::index_of(b);
-    if i < 3 {
-        return l;
-    }
-    if 4 < i {
-        return l;
-    }
-    let mut m = l;
-    m.bare = term_ends(document, next);
-    m
-}
-
-// One more, where that fits.
-fn one_more(n: usize) -> usize
-    ensures { result ≡ new_if_fits n (n + 1) }
-{
-    if n < 0xFFFF_FFFF_FFFF_FFFF {
-        return n + 1;
-    }
-    n
-}
-
-// The numbers and flags after a block's start.
-fn start_lay(b: Block, l: Markdown) -> Markdown
-    ensures { Few l → result ≡ (start_of l b).after }
-{
-    let mut m = l;
     match b {
-        Block::Header => {
-            m.titled = true;
-        }
-        Block::Section2 => {}
-        Block::Section3 => {}
-        Block::Section4 => {}
-        Block::ItemTerm => {}
-        Block::ItemBody => {}
-        Block::DefinitionList => {
-            m.listed = true;
-        }
-        Block::Block => {}
-        Block::InlineBlock => {
-            m.skip = skip::skip_start(b, l.skip);
-        }
-        Block::TermRef => {}
-        Block::Meta => {}
-        Block::Mono => {
-            m.mono = one_more(l.mono);
-        }
+        Block::Section4 | Block::ItemTerm => l.bare = term_ends(document, next),
+        _ => {}
     }
-    m
 }
 
-// The state after a block's start, of which the style is closed.
-pub fn after_start(b: Block, l: Markdown) -> Markdown
-    ensures { Few l → result ≡ (start_of (with_style style.Text l) b).after }
+// After a block's start: the style is closed, and the numbers and flags change.
+pub fn after_start(l: &mut Markdown, b: Block)
+    ensures { Few l.old → l.new ≡ (start_of (with_style style.Text l.old) b).after }
 {
-    start_lay(b, styled(l, Style::Text))
-}
-
-// The numbers and flags after a block's end.
-fn end_lay(b: Block, l: Markdown) -> Markdown
-    ensures { result ≡ (end_of l b).after }
-{
-    let mut m = l;
+    l.style = Style::Text;
     match b {
-        Block::Header => {}
-        Block::Section2 => {}
-        Block::Section3 => {}
-        Block::Section4 => {}
-        Block::ItemTerm => {}
-        Block::ItemBody => {}
-        Block::DefinitionList => {
-            m.listed = false;
-        }
-        Block::Block => {}
-        Block::InlineBlock => {
-            m.skip = skip::skip_end(b, l.skip);
-        }
-        Block::TermRef => {}
-        Block::Meta => {}
-        Block::Mono => {
-            m.mono = base::saturating_sub(l.mono, 1);
-        }
+        Block::Header => l.titled = true,
+        Block::DefinitionList => l.listed = true,
+        Block::InlineBlock => l.skip.push(),
+        Block::Mono => l.mono = l.mono.saturating_add(1),
+        _ => {}
     }
-    m
 }
 
-// The state after a block's end, of which the style is closed.
-pub fn after_end(b: Block, l: Markdown) -> Markdown
-    ensures { result ≡ (end_of (with_style style.Text l) b).after }
+// And after its end.
+pub fn after_end(l: &mut Markdown, b: Block)
+    ensures { l.new ≡ (end_of (with_style style.Text l.old) b).after }
 {
-    end_lay(b, styled(l, Style::Text))
+    l.style = Style::Text;
+    match b {
+        Block::DefinitionList => l.listed = false,
+        Block::InlineBlock => l.skip.pop(),
+        Block::Mono => l.mono = l.mono.saturating_sub(1),
+        _ => {}
+    }
 }

@@ -5,8 +5,8 @@ use Rattle.base.specs.Bytes.{part}
 use Rattle.records.specs.Stored.{start, end}
 use Rattle.records.specs.declared.Block.TheVariants as block
 use Rattle.merge_rules.specs.Merge.{compared, Item, key, records, all_records, list_of, Lists, merged}
-use Rattle.merge_rules.specs.declared.Order.{Order}
-use Rattle.merge_rules.specs.declared.Order.TheVariants as order
+use Rattle.std.specs.declared.cmp.Ordering.{Ordering}
+use Rattle.std.specs.declared.cmp.Ordering.TheVariants.{Less, Equal, Greater}
 use Rattle.merge_rules.proofs.Whole.{around_alone}
 use Rattle.merge_rules.proofs.Merged.{next_less, next-same, next_more, merged-left, merged-right}
 use Rattle.merge_rules.proofs.Ends.{one_list}
@@ -68,7 +68,7 @@ module _ {s t : List ℕ} {limit : ℕ} {room text other : List ℕ} {len i j ne
   take_second h = taken_keyed g.keyed_too g.second h
 
   module _ (new : List ℕ) (to : ℕ) (kept : length new ≡ length room) (h : i < length s - 6) (k : j < length t - 6)
-      (o : Order) (e : o ≡ compared (take n text) (take m other)) where
+      (o : Ordering) (e : o ≡ compared (take n text) (take m other)) where
     order_is : compared (key (take-first h).item) (key (take_second k).item) ≡ o
     order_is = sym (e ∙ ap₂ compared (keyed_text g.keyed (take-first h)) (keyed_text g.keyed_too (take_second k)))
 
@@ -84,7 +84,7 @@ module _ {s t : List ℕ} {limit : ℕ} {room text other : List ℕ} {len i j ne
         (sym (ap (λ (v : List Item). all_records v ++ end block.DefinitionList) q ∙ append_assoc (records x) (all_records ls) (end block.DefinitionList)))
         ∙ g.writes)
 
-    pub going_less : o ≡ order.Less → seen new to ≡ (seen room len >>= extended (length room) (part s i next)) → (text₁ : List ℕ) (p : Entry)
+    pub going_less : o ≡ Less → seen new to ≡ (seen room len >>= extended (length room) (part s i next)) → (text₁ : List ℕ) (p : Entry)
         → length text₁ ≡ length text
         → Holding s next text₁ p → Going s t limit new text₁ other to next j p.next p.len then m
     going_less c w text₁ p l f =
@@ -109,7 +109,7 @@ module _ {s t : List ℕ} {limit : ℕ} {room text other : List ℕ} {len i j ne
               ∙ ap (λ (l : List Item). a.item ∷ merged a.others l) (sym b.split)) a.bytes w;
         }
 
-    pub going_same : o ≡ order.Same → seen new to ≡ (seen room len >>= extended (length room) (part s i next)) → (text₁ other₁ : List ℕ) (p q : Entry)
+    pub going_same : o ≡ Equal → seen new to ≡ (seen room len >>= extended (length room) (part s i next)) → (text₁ other₁ : List ℕ) (p q : Entry)
         → length text₁ ≡ length text → length other₁ ≡ length other → Holding s next text₁ p → Holding t then other₁ q
         → Going s t limit new text₁ other₁ to next then p.next p.len q.next q.len
     going_same c w text₁ other₁ p q l v f u =
@@ -133,7 +133,7 @@ module _ {s t : List ℕ} {limit : ℕ} {room text other : List ℕ} {len i j ne
               (ap₂ merged a.split b.split ∙ next-same a.item b.item a.others b.others (order_is ∙ c)) a.bytes w;
         }
 
-    pub going_more : o ≡ order.More → seen new to ≡ (seen room len >>= extended (length room) (part t j then)) → (other₁ : List ℕ) (q : Entry)
+    pub going_more : o ≡ Greater → seen new to ≡ (seen room len >>= extended (length room) (part t j then)) → (other₁ : List ℕ) (q : Entry)
         → length other₁ ≡ length other
         → Holding t then other₁ q → Going s t limit new text other₁ to i then next n q.next q.len
     going_more c w other₁ q v u =

@@ -8,12 +8,10 @@ use Rattle.base.specs.Choice.{when◌then◌else◌}
 use Rattle.base.specs.Result.{Result, gives, refused}
 use Rattle.base.proofs.Choice.{if_true, if_false, and_both, le_or_lt}
 use Rattle.document.specs.Document.{check}
-use Rattle.document.specs.declared.Checked.{Checked}
-use Rattle.document.specs.declared.Checked.TheVariants as checked
+use Rattle.std.specs.Prelude.{Result as Returned, Ok, Err}
 use Rattle.refusal.specs.Numbers.{refusal_number, refusal_place}
 use Rattle.refusal.specs.declared.Refusal.{Refusal}
 use Rattle.renderer.specs.Rendered.{standing, Inside, filled}
-use Rattle.renderer.specs.declared.Rendered.{Rendered}
 use Rattle.renderer.proofs.Answers.{answer_cleared}
 use Rattle.buffer.specs.Builder.{fit}
 use Rattle.room.proofs.Laws.{extended_in, extended-out}
@@ -26,12 +24,12 @@ use Rattle.merge_items.proofs.Texts.{seen-text}
 use Rattle.merge.specs.Answers.{Answer}
 
 -- what the code found, by the case of its answer
-module _ {s t : List ℕ} {v : Checked} (e : Sound s t v) where
-  pub sound_accepted : v ≡ checked.Accepted → Accepted s t
-  sound_accepted f = subst (λ (v : Checked). Sound s t v) f e
+module _ {s t : List ℕ} {v : Returned (Unit {0}) Refusal} (e : Sound s t v) where
+  pub sound_accepted : {u : Unit {0}} → v ≡ Ok u → Accepted s t
+  sound_accepted f = subst (λ (v : Returned (Unit {0}) Refusal). Sound s t v) f e
 
-  pub sound-refused : {a : Refusal} → v ≡ checked.Refused a → (room : List ℕ) → TheMerge room s t (refused (refusal_number a) (refusal_place a))
-  sound-refused f room = the_merge (subst (λ (v : Checked). Sound s t v) f e room)
+  pub sound-refused : {a : Refusal} → v ≡ Err a → (room : List ℕ) → TheMerge room s t (refused (refusal_number a) (refusal_place a))
+  sound-refused f room = the_merge (subst (λ (v : Returned (Unit {0}) Refusal). Sound s t v) f e room)
 
 -- Two sides that 1 to 8 accept: 22 and 23
 
@@ -126,11 +124,11 @@ module _ {room s t : List ℕ} (a : Accepted s t) (new : List ℕ) (len : ℕ) (
   fits_there r h e = subst (λ (r : Result (List ℕ)). TheMerge room s t r) (sym (e ∙ short-seen room _ new len here h)) (both_up a room)
 
 -- the answer lies in a room of the same length
-pub stays_inside : (a : Rendered) (m n : ℕ) → m ≡ n → Inside m a → Inside n a
+pub stays_inside : (a : Returned ℕ Refusal) (m n : ℕ) → m ≡ n → Inside m a → Inside n a
 stays_inside a m n l i = subst (λ (n : ℕ). Inside n a) l i
 
 -- the room, cleared after the answer
-pub whole-answer : (room mid new s t : List ℕ) (a : Rendered) → length mid ≡ length room → TheMerge room s t (standing mid a) → Inside (length room) a
+pub whole-answer : (room mid new s t : List ℕ) (a : Returned ℕ Refusal) → length mid ≡ length room → TheMerge room s t (standing mid a) → Inside (length room) a
     → new ≡ filled (length mid) (standing mid a) → Answer room s t a new
 whole-answer room mid new s t a l m i w =
     let e = answer_cleared mid new (length room) a (standing mid a) l refl i w in

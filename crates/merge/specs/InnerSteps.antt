@@ -1,9 +1,8 @@
 -- What the functions inside this crate promise each other; no rule of 02 stands here.
-use Rattle.std.specs.Prelude.{ℕ, ◌≤◌, ◌≡◌, true, List, [], length}
+use Rattle.std.specs.Prelude.{ℕ, ◌≤◌, ◌≡◌, true, List, [], length, Result as Returned, Ok, Err}
 use Rattle.base.specs.Result.{gives, refused}
 use Rattle.document.specs.Document.{check, max_bytes}
-use Rattle.document.specs.declared.Checked.{Checked}
-use Rattle.document.specs.declared.Checked.TheVariants as checked
+use Rattle.refusal.specs.declared.Refusal.{Refusal}
 use Rattle.refusal.specs.Numbers.{refusal_number, refusal_place}
 use Rattle.room.specs.Room.{extended, seen}
 use Rattle.merge_rules.specs.Merge.{Item, list_of, Lists, ascending, merged, Merges}
@@ -30,6 +29,6 @@ pub record Accepted (s t : List ℕ) : Type 0 where
   pub second_up : ascending sides.js ≡ true
 
 -- refusals 1 to 8, 22 and 23 of two sides, whatever the room
-abbrev pub Sound : List ℕ → List ℕ → Checked → Type 0
-Sound s t checked.Accepted = Accepted s t
-Sound s t (checked.Refused a) = (room : List ℕ) → Merges room s t (refused (refusal_number a) (refusal_place a))
+abbrev pub Sound : List ℕ → List ℕ → Returned (Unit {0}) Refusal → Type 0
+Sound s t (Ok u) = Accepted s t
+Sound s t (Err a) = (room : List ℕ) → Merges room s t (refused (refusal_number a) (refusal_place a))

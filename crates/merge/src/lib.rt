@@ -9,10 +9,9 @@ ghost use Rattle.merge.specs.Answers.{Answer};
 ghost use Rattle.merge.specs.InnerSteps.{Sides, Written, Sound};
 ghost use Rattle.document.specs.Document.{max_bytes};
 
-use document::{Checked, MAX_BYTES};
-use merge_rules::Order;
+use document::MAX_BYTES;
 use refusal::Refusal;
-use renderer::Rendered;
+use std::cmp::Ordering;
 
 // The merged list of two lists, into a room: a length past the room says that it is longer than that. Each key has the term of its side's next
 // item; a step compares both and goes on in the side whose item it wrote, or in both sides where the terms are the same.
@@ -43,14 +42,14 @@ fn merge_lists(
         }
         let order = merge_items::compare(&key[..n], &other[..m]);
         match order {
-            Order::Less => {
+            Ordering::Less => {
                 len = room::put_all(room, len, &first[i..next]);
                 i = next;
                 let e = merge_items::read_item(first, i, key);
                 next = e.next;
                 n = e.len;
             }
-            Order::Same => {
+            Ordering::Equal => {
                 len = room::put_all(room, len, &first[i..next]); // the first side's item
                 i = next;
                 j = then;
@@ -61,7 +60,7 @@ fn merge_lists(
                 then = f.next;
                 m = f.len;
             }
-            Order::More => {
+            Ordering::Greater => {
                 len = room::put_all(room, len, &second[j..then]);
                 j = then;
                 let f = merge_items::read_item(second, j, other);
@@ -74,60 +73,45 @@ fn merge_lists(
 }
 
 // Refusals 1 to 8 of both sides, first side first, then 22 and 23 likewise.
-fn refused_sides(first: &[u8], second: &[u8]) -> Checked
+fn refused_sides(first: &[u8], second: &[u8]) -> Result<(), Refusal>
     ensures { Sound first.now second.now result }
 {
-    let verdict = document::check(first);
-    match verdict {
-        Checked::Refused(r) => Checked::Refused(r),
-        Checked::Accepted => {
-            let verdict2 = document::check(second);
-            match verdict2 {
-                Checked::Refused(r) => Checked::Refused(r),
-                Checked::Accepted => {
-                    let a = merge_sides::side_of(first);
-                    let b = merge_sides::side_of(second);
-                    if !a.list {
-                        return Checked::Refused(Refusal::NotAList); // of the first side
-                    }
-                    if !b.list {
-                        return Checked::Refused(Refusal::NotAList); // of the second side
-                    }
-                    if !a.ordered {
-                        return Checked::Refused(Refusal::NotAscending); // of the first side
-                    }
-                    if !b.ordered {
-                        return Checked::Refused(Refusal::NotAscending); // of the second side
-                    }
-                    Checked::Accepted
-                }
-            }
-        }
+    document::check(first)?;
+    document::check(second)?;
+    let a = merge_sides::side_of(first);
+    let b = merge_sides::side_of(second);
+    if !a.list {
+        return Err(Refusal::NotAList); // of the first side
     }
+    if !b.list {
+        return Err(Refusal::NotAList); // of the second side
+    }
+    if !a.ordered {
+        return Err(Refusal::NotAscending); // of the first side
+    }
+    if !b.ordered {
+        return Err(Refusal::NotAscending); // of the second side
+    }
+    Ok(())
 }
 
 // The merged list in a room, or why there is none.
-fn merged(first: &[u8], second: &[u8], room: &mut [u8]) -> Rendered
+fn merged(first: &[u8], second: &[u8], room: &mut [u8]) -> Result<usize, Refusal>
     ensures text { TheMerge room.old first.now second.now (standing room.new result) }
     ensures inside { Inside (length room.old) result }
 {
-    let verdict = refused_sides(first, second);
-    match verdict {
-        Checked::Refused(r) => Rendered::Refused(r),
-        Checked::Accepted => {
-            let mut key: [u8; MAX_BYTES] = [0; MAX_BYTES];
-            let mut other: [u8; MAX_BYTES] = [0; MAX_BYTES];
-            let len = merge_lists(first, second, room, &mut key, &mut other);
-            if MAX_BYTES < len {
-                return Rendered::Refused(Refusal::NoRoom);
-            }
-            renderer::answer(room, len)
-        }
+    refused_sides(first, second)?;
+    let mut key: [u8; MAX_BYTES] = [0; MAX_BYTES];
+    let mut other: [u8; MAX_BYTES] = [0; MAX_BYTES];
+    let len = merge_lists(first, second, room, &mut key, &mut other);
+    if MAX_BYTES < len {
+        return Err(Refusal::NoRoom);
     }
+    renderer::answer(room, len)
 }
 
 // One option list from two, and zeros after it.
-pub fn merge(first: &[u8], second: &[u8], room: &mut [u8]) -> Rendered
+pub fn merge(first: &[u8], second: &[u8], room: &mut [u8]) -> Result<usize, Refusal>
     ensures { Answer room.old first.now second.now result room.new }
 {
     let answer = merged(first, second, room);

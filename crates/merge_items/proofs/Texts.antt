@@ -1,15 +1,16 @@
 -- Texts in a lent room: the text of records joined there, and two texts compared. Assumes nothing.
-use Rattle.merge_items.proofs.Names.{ℕ, ◌+◌, ◌≤◌, ◌<◌, ◌≡◌, sym, ap, ap₂, ◌∙◌, ⊎_elim, List, [], ◌∷◌, ◌++◌, append-nil, length, take, drop, arith}
+use Rattle.merge_items.proofs.Names.{ℕ, ◌≤◌, ◌<◌, ◌≡◌, refl, sym, ap, ◌∙◌, ⊎_elim, List, [], ◌∷◌, ◌++◌, append-nil, length, take, arith}
 use Rattle.merge_items.proofs.Names.{lt-ltb, le-ltb, Result, gives, ◌>>=◌, if_true, if_false, le_or_lt, token_at, tokens_from, Read, Head, tokens-end}
 use Rattle.merge_items.proofs.Names.{tokens_at, read_next, extended, seen, extended_twice, extended_in, seen_in, seen-out, compared, text_to}
-use lib.ListN.{get_or, drop_of_length-le}
-use lib.Seq.{drop-cons, length-take-le}
-use native.Mathlib.Numerals.{add-one}
+use lib.Seq.{length-take-le}
 use borrow.Author.Tests.{leb-true}
 use Rattle.base.specs.Bytes.{part}
 use Rattle.base.proofs.Results.{bind_assoc, bind_same, if_gives, gives_same}
-use Rattle.merge_rules.specs.declared.Order.{Order}
-use Rattle.merge_rules.specs.declared.Order.TheVariants as order
+use Rattle.std.specs.Cmp.Lexicographic.{slice_cmp}
+use Rattle.std.specs.declared.cmp.Ordering.{Ordering}
+use Rattle.std.specs.declared.cmp.Ordering.TheVariants.{Less, Equal, Greater}
+use Rattle.std.specs.Ordering.{MatchOrdering, nat_cmp, ordering_then}
+use Rattle.std.specs.Cmp.{ranks}
 use Rattle.merge_rules.proofs.Before.{by_less, by-more, by-rest}
 
 -- The text up to a place
@@ -83,31 +84,16 @@ seen-text room len x e = let f = if_gives _ (gives (take len room)) _ _ x e in (
 
 -- Two texts
 
-rest_some : (a : List ℕ) (i : ℕ) → i < length a → drop i a ≡ get_or a i 0 ∷ drop (i + 1) a
-rest_some a i h = drop-cons a i 0 h ∙ ap (λ (m : ℕ). get_or a i 0 ∷ drop m a) (sym (add-one i))
+-- the library's order of two texts
+slices-next : (x y : ℕ) (a b : List ℕ) (o : Ordering) → MatchOrdering o (x < y) (x ≡ y) (y < x) → slice_cmp nat_cmp a b ≡ compared a b
+    → ordering_then o (slice_cmp nat_cmp a b) ≡ compared (x ∷ a) (y ∷ b)
+slices-next x y a b Less h r = sym (by_less x y a b h)
+slices-next x y a b Equal h r = r ∙ sym (by-rest x y a b h)
+slices-next x y a b Greater h r = sym (by-more x y a b h)
 
-rest-none : (a : List ℕ) (i : ℕ) → length a ≤ i → drop i a ≡ []
-rest-none a i h = drop_of_length-le a h
-
-module _ (a b : List ℕ) (i : ℕ) (o : Order) (c : compared (drop i a) (drop i b) ≡ o) where
-  pub both_done : length a ≤ i → length b ≤ i → order.Same ≡ o
-  unfolding compared
-  both_done h k = sym (ap₂ compared (rest-none a i h) (rest-none b i k)) ∙ c
-
-  pub first_done : length a ≤ i → i < length b → order.Less ≡ o
-  unfolding compared
-  first_done h k = sym (ap₂ compared (rest-none a i h) (rest_some b i k)) ∙ c
-
-  pub second_done : i < length a → length b ≤ i → order.More ≡ o
-  unfolding compared
-  second_done h k = sym (ap₂ compared (rest_some a i h) (rest-none b i k)) ∙ c
-
-  module _ (h : i < length a) (k : i < length b) where
-    pub less_here : get_or a i 0 < get_or b i 0 → order.Less ≡ o
-    less_here l = sym (ap₂ compared (rest_some a i h) (rest_some b i k) ∙ by_less _ _ _ _ l) ∙ c
-
-    pub more-here : get_or b i 0 < get_or a i 0 → order.More ≡ o
-    more-here l = sym (ap₂ compared (rest_some a i h) (rest_some b i k) ∙ by-more _ _ _ _ l) ∙ c
-
-    pub same_here : get_or b i 0 ≤ get_or a i 0 → get_or a i 0 ≤ get_or b i 0 → compared (drop (i + 1) a) (drop (i + 1) b) ≡ o
-    same_here l m = sym (ap₂ compared (rest_some a i h) (rest_some b i k) ∙ by-rest _ _ _ _ (omega (arith, l, m))) ∙ c
+pub slices-compared : (a b : List ℕ) → slice_cmp nat_cmp a b ≡ compared a b
+unfolding compared
+slices-compared [] [] = refl
+slices-compared [] (y ∷ b) = refl
+slices-compared (x ∷ a) [] = refl
+slices-compared (x ∷ a) (y ∷ b) = slices-next x y a b (nat_cmp x y) (ranks x y) (slices-compared a b)

@@ -1,19 +1,12 @@
 -- What the functions of the merge promise each other of items; no rule of 02 stands here.
 use Rattle.std.specs.Prelude.{ℕ, ◌+◌, ◌≤◌, ◌≡◌, List, [], ◌∷◌, ◌++◌, ltb, length, drop}
-use Rattle.std.proofs.Math.Option.{Option, none, some}
 use Rattle.base.specs.Choice.{when◌then◌else◌}
 use Rattle.records.specs.Records.{Token}
 use Rattle.room.specs.Room.{seen, extended}
 use Rattle.merge_rules.specs.Merge.{Item, key, records, Proper}
-use Rattle.merge_items.specs.declared.Deep.{Deep}
-use Rattle.merge_items.specs.declared.Deep.TheVariants as deep
 use Rattle.merge_items.specs.declared.Place.{Place}
 use Rattle.merge_items.specs.declared.Entry.{Entry}
 use Rattle.document.specs.Document.{max_bytes}
-
-abbrev pub deep_as : Deep → Option ℕ
-deep_as (deep.Open depth) = some depth
-deep_as deep.Ends = none
 
 -- the bodies of the records that start before a place
 unfoldable pub text_to : ℕ → List Token → List ℕ

@@ -7,21 +7,15 @@ ghost use Rattle.records.specs.Records.{tokens_from};
 ghost use Rattle.room.specs.Room.{seen, extended};
 ghost use Rattle.merge_rules.specs.Merge.{compared};
 ghost use Rattle.merge_rules.specs.InnerEnds.{deeper, end_of};
-ghost use Rattle.merge_items.specs.InnerSteps.{deep_as, text_to, Found, Keyed};
+ghost use Rattle.merge_items.specs.InnerSteps.{text_to, Found, Keyed};
 ghost use Rattle.document.specs.Document.{max_bytes};
 
 use document::MAX_BYTES;
-use merge_rules::Order;
 use records::Kind;
+use std::cmp::Ordering;
 
-// How many blocks are open in a block, or that it ends.
-#[derive(Clone, Copy)]
-enum Deep {
-    Open(usize),
-    Ends,
-}
-
-// Of an item: where what its term holds stands, where the term's end record stands, and where the item ends.
+// Of an item: where what its term holds stands, where the term's end record stands, and where the item ends. Zeros stand for no item: who asks
+// tests each place before it is used, so that an Option would be asked twice.
 #[derive(Clone, Copy)]
 pub struct Place {
     pub from: usize,
@@ -36,21 +30,15 @@ pub struct Entry {
     pub len: usize,
 }
 
-// The blocks open in a block after a record.
-fn open_after(kind: Kind, depth: usize) -> Deep
+// The blocks open in a block after a record, unless it ends there.
+fn open_after(kind: Kind, depth: usize) -> Option<usize>
     requires { depth < max_bytes }
-    ensures { deep_as result ≡ deeper kind depth }
+    ensures { result ≡ deeper kind depth }
 {
     match kind {
-        Kind::Text(_) => Deep::Open(depth),
-        Kind::Start(_) => Deep::Open(depth + 1),
-        Kind::End(_) => {
-            if depth < 1 {
-                return Deep::Ends;
-            }
-            Deep::Open(depth - 1)
-        }
-        Kind::Unknown => Deep::Open(depth),
+        Kind::Text(_) | Kind::Unknown => Some(depth),
+        Kind::Start(_) => Some(depth + 1),
+        Kind::End(_) => depth.checked_sub(1),
     }
 }
 
@@ -63,17 +51,11 @@ fn end_of(document: &[u8], from: usize) -> usize
     let mut depth: usize = 0;
     while at < document.len() {
         let h = records::record_at(document, at);
-        let kind = h.kind;
-        let deep = open_after(kind, depth);
-        match deep {
-            Deep::Open(d) => {
-                depth = d;
-                at = h.next;
-            }
-            Deep::Ends => {
-                return at;
-            }
-        }
+        let Some(d) = open_after(h.kind, depth) else {
+            return at;
+        };
+        depth = d;
+        at = h.next;
     }
     0
 }
@@ -134,24 +116,8 @@ pub fn read_item(document: &[u8], at: usize, key: &mut [u8]) -> Entry
 }
 
 // One text beside another, by their bytes.
-pub fn compare(a: &[u8], b: &[u8]) -> Order
+pub fn compare(a: &[u8], b: &[u8]) -> Ordering
     ensures { result ≡ compared a.now b.now }
 {
-    let mut i: usize = 0;
-    while i < a.len() {
-        if b.len() <= i {
-            return Order::More;
-        }
-        if a[i] < b[i] {
-            return Order::Less;
-        }
-        if b[i] < a[i] {
-            return Order::More;
-        }
-        i += 1;
-    }
-    if i < b.len() {
-        return Order::Less;
-    }
-    Order::Same
+    a.cmp(b)
 }

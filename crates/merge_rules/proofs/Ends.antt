@@ -4,7 +4,7 @@ use Rattle.merge_rules.proofs.Names.{ℕ, ◌+◌, ◌-◌, ◌≡◌, refl, sym
 use Rattle.merge_rules.proofs.Names.{drop, get_or, length-append, arith, le-leb, when◌then◌else◌, if_true, Token, little, blocks, kind_of, size, token_at}
 use Rattle.merge_rules.proofs.Names.{tokens, open_blocks, little_bytes, stored, start, end, around, Block, Kind, length-end, kinds, Item, records}
 use Rattle.merge_rules.proofs.Names.{all_records, list_of, Filled, Proper, Each, Lists}
-use mathlib.Core.Option.{Option, none, some}
+use Rattle.std.specs.Prelude.{Option, Some, None}
 use lib.Seq.{take_at, drop_at}
 use Rattle.records.specs.declared.Block.TheVariants as block
 use Rattle.records.specs.declared.Kind.TheVariants as kind
@@ -18,33 +18,33 @@ use Rattle.merge_rules.proofs.Whole.{tokens_append, kinds-anywhere, reads_shift,
 -- Levels
 
 unfoldable pub level : List Kind → ℕ → Option ℕ
-level [] depth = some depth
-level (k ∷ ks) depth = on (deeper k depth) none (level ks)
+level [] depth = Some depth
+level (k ∷ ks) depth = on (deeper k depth) None (level ks)
 
-pub none-some : {n : ℕ} → none ≡ some n → ⊥
+pub none-some : {n : ℕ} → None ≡ Some n → ⊥
 none-some e = let z : ◌≡◌ {A = ℕ} 0 1 = cc in omega arith
 
-pub some_same : {a b : ℕ} → some a ≡ some b → a ≡ b
+pub some_same : {a b : ℕ} → Some a ≡ Some b → a ≡ b
 some_same e = cc
 
-level_append : (x y : List Kind) (d e : ℕ) → level x d ≡ some e → level (x ++ y) d ≡ level y e
+level_append : (x y : List Kind) (d e : ℕ) → level x d ≡ Some e → level (x ++ y) d ≡ level y e
 unfolding level on
 level_append [] y d e h = ap (level y) (some_same h)
 level_append (k ∷ x) y d e h = of (λ f. level_append x y f e) (deeper k d) h
   where
-    of : ((f : ℕ) → level x f ≡ some e → level (x ++ y) f ≡ level y e) → (o : Option ℕ) → on o none (level x) ≡ some e
-        → on o none (level (x ++ y)) ≡ level y e
-    of r none h = absurd (none-some h)
-    of r (some f) h = r f h
+    of : ((f : ℕ) → level x f ≡ Some e → level (x ++ y) f ≡ level y e) → (o : Option ℕ) → on o None (level x) ≡ Some e
+        → on o None (level (x ++ y)) ≡ level y e
+    of r None h = absurd (none-some h)
+    of r (Some f) h = r f h
 
-level_block : (b : Block) (x r : List Kind) → ((d : ℕ) → level x d ≡ some d) → (d : ℕ) → level (shape.around b x r) d ≡ level r d
+level_block : (b : Block) (x r : List Kind) → ((d : ℕ) → level x d ≡ Some d) → (d : ℕ) → level (shape.around b x r) d ≡ level r d
 unfolding level on deeper
 level_block b x r h d =
     let n : d + 1 - 1 ≡ d = omega arith in
     level_append x (kind.End b ∷ r) (d + 1) (d + 1) (h (d + 1))
-    ∙ ap (λ (o : Option ℕ). on o none (level r)) (if_true _ _ (le-leb 1 (d + 1) (omega arith)) ∙ ap some n)
+    ∙ ap (λ (o : Option ℕ). on o None (level r)) (if_true _ _ (le-leb 1 (d + 1) (omega arith)) ∙ ap Some n)
 
-pub holds_level : {c : Content} {x : List Kind} → Holds c x → (d : ℕ) → level x d ≡ some d
+pub holds_level : {c : Content} {x : List Kind} → Holds c x → (d : ℕ) → level x d ≡ Some d
 unfolding level on deeper
 holds_level shape.nothing d = refl
 holds_level (shape.text-part h) d = holds_level h d
@@ -56,15 +56,15 @@ holds_level (shape.pair {x = x} {y = y} {r = r} h k l) d =
 holds_level (shape.text-inline h) d = holds_level h d
 holds_level (shape.block-inline {b = b} {x = x} {r = r} e h k) d = level_block b x r (λ n. holds_level h n) d ∙ holds_level k d
 
-end_level : (ts us : List Token) (d e : ℕ) → level (kinds ts) d ≡ some e → end_of (ts ++ us) d ≡ end_of us e
+end_level : (ts us : List Token) (d e : ℕ) → level (kinds ts) d ≡ Some e → end_of (ts ++ us) d ≡ end_of us e
 unfolding level kinds end_of on
 end_level [] us d e h = ap (end_of us) (some_same h)
 end_level (t ∷ ts) us d e h = of (λ f. end_level ts us f e) (deeper t.kind d) h
   where
-    of : ((f : ℕ) → level (kinds ts) f ≡ some e → end_of (ts ++ us) f ≡ end_of us e) → (o : Option ℕ) → on o none (level (kinds ts)) ≡ some e
+    of : ((f : ℕ) → level (kinds ts) f ≡ Some e → end_of (ts ++ us) f ≡ end_of us e) → (o : Option ℕ) → on o None (level (kinds ts)) ≡ Some e
         → on o t.place (end_of (ts ++ us)) ≡ end_of us e
-    of r none h = absurd (none-some h)
-    of r (some f) h = r f h
+    of r None h = absurd (none-some h)
+    of r (Some f) h = r f h
 
 -- Where the content of a block ends
 

@@ -1,23 +1,23 @@
 -- The merged list: it ascends, has every term of either side once and each item as it was, the first side's where both have the term;
 -- merged with itself or with nothing a list stays as it is. Assumes nothing.
 use Rattle.merge_rules.proofs.Names.{ℕ, ◌≡◌, refl, sym, ap, subst, ◌∙◌, ◌⊎◌, inl, inr, ⊎_elim, true, false≢true, List, [], ◌∷◌, and_left, and_right}
-use Rattle.merge_rules.proofs.Names.{and_both, compared, is_less, Item, key, Each, ascending, by, weave, merged, Order}
+use Rattle.merge_rules.proofs.Names.{and_both, compared, is_less, Item, key, Each, ascending, by, weave, merged, Ordering}
 use Rattle.merge_rules.specs.Merge as merge
-use Rattle.merge_rules.specs.declared.Order.TheVariants as order
+use Rattle.std.specs.declared.cmp.Ordering.TheVariants.{Less, Equal, Greater}
 use Rattle.merge_rules.proofs.Before.{compared_self, compared_same, compared_less, more_less, not-before_itself}
 
 -- The next item
 
 module _ (i j : Item) (is js : List Item) where
-  pub next_less : compared (key i) (key j) ≡ order.Less → merged (i ∷ is) (j ∷ js) ≡ i ∷ merged is (j ∷ js)
+  pub next_less : compared (key i) (key j) ≡ Less → merged (i ∷ is) (j ∷ js) ≡ i ∷ merged is (j ∷ js)
   unfolding merged weave by
   next_less e = rw e
 
-  pub next-same : compared (key i) (key j) ≡ order.Same → merged (i ∷ is) (j ∷ js) ≡ i ∷ merged is js
+  pub next-same : compared (key i) (key j) ≡ Equal → merged (i ∷ is) (j ∷ js) ≡ i ∷ merged is js
   unfolding merged weave by
   next-same e = rw e
 
-  pub next_more : compared (key i) (key j) ≡ order.More → merged (i ∷ is) (j ∷ js) ≡ j ∷ merged (i ∷ is) js
+  pub next_more : compared (key i) (key j) ≡ Greater → merged (i ∷ is) (j ∷ js) ≡ j ∷ merged (i ∷ is) js
   unfolding merged weave by
   next_more e = rw e
 
@@ -36,23 +36,23 @@ merged_itself [] = refl
 merged_itself (i ∷ is) = next-same i i is is (compared_self (key i)) ∙ ap (λ (r : List Item). i ∷ r) (merged_itself is)
 
 -- the three cases of an order
-pub data Case (o : Order) : Type 0 where
-  less : o ≡ order.Less → Case o
-  same : o ≡ order.Same → Case o
-  more' : o ≡ order.More → Case o
+pub data Case (o : Ordering) : Type 0 where
+  less : o ≡ Less → Case o
+  same : o ≡ Equal → Case o
+  more' : o ≡ Greater → Case o
 
-pub case : (o : Order) → Case o
-case order.Less = less refl
-case order.Same = same refl
-case order.More = more' refl
+pub case : (o : Ordering) → Case o
+case Less = less refl
+case Equal = same refl
+case Greater = more' refl
 
 -- what holds of both sides holds of the merged list, by the way that it is made
 module _ (P : List Item → List Item → List Item → Type 0)
     (none : (js : List Item) → P [] js js)
     (end : (i : Item) (is : List Item) → P (i ∷ is) [] (i ∷ is))
-    (first : (i j : Item) (is js r : List Item) → compared (key i) (key j) ≡ order.Less → P is (j ∷ js) r → P (i ∷ is) (j ∷ js) (i ∷ r))
-    (both : (i j : Item) (is js r : List Item) → compared (key i) (key j) ≡ order.Same → P is js r → P (i ∷ is) (j ∷ js) (i ∷ r))
-    (second : (i j : Item) (is js r : List Item) → compared (key i) (key j) ≡ order.More → P (i ∷ is) js r → P (i ∷ is) (j ∷ js) (j ∷ r)) where
+    (first : (i j : Item) (is js r : List Item) → compared (key i) (key j) ≡ Less → P is (j ∷ js) r → P (i ∷ is) (j ∷ js) (i ∷ r))
+    (both : (i j : Item) (is js r : List Item) → compared (key i) (key j) ≡ Equal → P is js r → P (i ∷ is) (j ∷ js) (i ∷ r))
+    (second : (i j : Item) (is js r : List Item) → compared (key i) (key j) ≡ Greater → P (i ∷ is) js r → P (i ∷ is) (j ∷ js) (j ∷ r)) where
   woven : (i : Item) (is : List Item) → ((js : List Item) → P is js (merged is js)) → (js : List Item) → P (i ∷ is) js (merged (i ∷ is) js)
   woven i is rest [] = subst (λ (r : List Item). P (i ∷ is) [] r) (sym (merged-left (i ∷ is))) (end i is)
   woven i is rest (j ∷ js) = of (woven i is rest js) (case (compared (key i) (key j)))
@@ -87,12 +87,12 @@ merged_each Q = by-merging (λ is js r. Each Q is → Each Q js → Each Q r)
 pub data Ascends : List Item → Type 0 where
   none : Ascends []
   one : {i : Item} → Ascends (i ∷ [])
-  more : {i j : Item} {is : List Item} → compared (key i) (key j) ≡ order.Less → Ascends (j ∷ is) → Ascends (i ∷ j ∷ is)
+  more : {i j : Item} {is : List Item} → compared (key i) (key j) ≡ Less → Ascends (j ∷ is) → Ascends (i ∷ j ∷ is)
 
-is_less_lem : (o : Order) → is_less o ≡ true → o ≡ order.Less
-is_less_lem order.Less e = refl
-is_less_lem order.Same e = absurd (false≢true e)
-is_less_lem order.More e = absurd (false≢true e)
+is_less_lem : (o : Ordering) → is_less o ≡ true → o ≡ Less
+is_less_lem Less e = refl
+is_less_lem Equal e = absurd (false≢true e)
+is_less_lem Greater e = absurd (false≢true e)
 
 pub ascending_ascends : (is : List Item) → ascending is ≡ true → Ascends is
 unfolding ascending
@@ -109,13 +109,13 @@ ascends_ascending (i ∷ j ∷ is) (more e a) = and_both (ap is_less e) (ascends
 
 -- a text is before the first term, and so before all
 abbrev pub Under : List ℕ → List Item → Type 0
-Under k is = Each (λ i. compared k (key i) ≡ order.Less) is
+Under k is = Each (λ i. compared k (key i) ≡ Less) is
 
 pub rest_ascends : {i : Item} {is : List Item} → Ascends (i ∷ is) → Ascends is
 rest_ascends one = none
 rest_ascends (more e a) = a
 
-under_less : (k l : List ℕ) (is : List Item) → compared k l ≡ order.Less → Under l is → Under k is
+under_less : (k l : List ℕ) (is : List Item) → compared k l ≡ Less → Under l is → Under k is
 under_less k l [] e u = merge.none
 under_less k l (i ∷ is) e (merge.also h u) = merge.also (compared_less k l (key i) e h) (under_less k l is e u)
 
@@ -127,7 +127,7 @@ pub ascends_more : (i : Item) (is : List Item) → Under (key i) is → Ascends 
 ascends_more i [] u a = one
 ascends_more i (j ∷ is) (merge.also e u) a = more e a
 
-same-under : (i j : Item) (is : List Item) → compared (key i) (key j) ≡ order.Same → Under (key j) is → Under (key i) is
+same-under : (i j : Item) (is : List Item) → compared (key i) (key j) ≡ Equal → Under (key j) is → Under (key i) is
 same-under i j is e u = subst (λ (x : List ℕ). Under x is) (sym (compared_same (key i) (key j) e)) u
 
 -- 'ascending'

@@ -14,7 +14,7 @@ unfoldable pub use Rattle.document.specs.Document.{check, closed, closes, first,
 pub use Rattle.merge_rules.specs.Merge.{Each, Filled, IsList, Item, Lists, Merges, Proper, TheMerge, both_lists, first-no-list, first-refused, is_less}
 pub use Rattle.merge_rules.specs.Merge.{key, second_no-list, second_refused}
 unfoldable pub use Rattle.merge_rules.specs.Merge.{all_records, ascending, by, compared, in_order, list_of, merged, merging, printed, records, weave}
-pub use Rattle.merge_rules.specs.declared.Order.{Order}
+pub use Rattle.std.specs.declared.cmp.Ordering.{Ordering}
 pub use Rattle.records.specs.Records.{Token, index}
 unfoldable pub use Rattle.records.specs.Records.{adds, blocks, kind_of, little, order, printing_order, size, token_at, tokens}
 unfoldable pub use Rattle.records.specs.Stored.{around, end, little_bytes, start, stored}

@@ -8,15 +8,15 @@ use Rattle.records.specs.declared.Block.TheVariants as block
 use Rattle.document.specs.Document.{open_blocks, check}
 use Rattle.buffer.specs.Builder.{fit}
 use Rattle.shape.specs.Shape.{Content, parts, inlines, Holds, kinds}
-use Rattle.merge_rules.specs.declared.Order.{Order}
-use Rattle.merge_rules.specs.declared.Order.TheVariants as order
+use Rattle.std.specs.declared.cmp.Ordering.{Ordering}
+use Rattle.std.specs.declared.cmp.Ordering.TheVariants.{Less, Equal, Greater}
 
 -- 'by the bytes': at the first byte that differs; a text comes before a longer one that starts with it
-unfoldable pub compared : List ℕ → List ℕ → Order
-compared [] [] = order.Same
-compared [] (y ∷ b) = order.Less
-compared (x ∷ a) [] = order.More
-compared (x ∷ a) (y ∷ b) = when ltb x y then order.Less else when ltb y x then order.More else compared a b
+unfoldable pub compared : List ℕ → List ℕ → Ordering
+compared [] [] = Equal
+compared [] (y ∷ b) = Less
+compared (x ∷ a) [] = Greater
+compared (x ∷ a) (y ∷ b) = when ltb x y then Less else when ltb y x then Greater else compared a b
 
 -- an item is a term and a body: the records that each holds, as they are stored
 pub record Item : Type 0 where
@@ -64,10 +64,10 @@ abbrev pub IsList : List ℕ → Type 0
 IsList s = (is : List Item) × Lists s is
 
 -- 'terms strictly ascending by the bytes of their joined text'
-abbrev pub is_less : Order → Bool
-is_less order.Less = true
-is_less order.Same = false
-is_less order.More = false
+abbrev pub is_less : Ordering → Bool
+is_less Less = true
+is_less Equal = false
+is_less Greater = false
 
 unfoldable pub ascending : List Item → Bool
 ascending [] = true
@@ -75,10 +75,10 @@ ascending (i ∷ []) = true
 ascending (i ∷ j ∷ is) = is_less (compared (key i) (key j)) && ascending (j ∷ is)
 
 -- the result, by the order of the first terms of both sides
-unfoldable pub by : Order → List Item → List Item → List Item → List Item
-by order.Less first both second = first
-by order.Same first both second = both
-by order.More first both second = second
+unfoldable pub by : Ordering → List Item → List Item → List Item → List Item
+by Less first both second = first
+by Equal first both second = both
+by Greater first both second = second
 
 -- an item of the first side, and how the items after it merge, with the items of the second: 'where both have a term, the first side's item
 -- stands'

@@ -1,11 +1,3 @@
-// What the rules of a merged option list share with its code.
+// No code stands here: what the merge of two option lists gives is in specs/Merge.antt, and the laws of it in proofs/.
 
 #![tactic(auto)]
-
-// How one text stands to another by their bytes.
-#[derive(Clone, Copy)]
-pub enum Order {
-    Less,
-    Same,
-    More,
-}

@@ -1,11 +1,11 @@
 -- What a term and a body hold, as the code tests it: the house shape of the bytes by themselves, and for a term that no other records stand
 -- there. Assumes nothing.
-use Rattle.merge_sides.proofs.Names.{ℕ, ◌≤◌, ◌<◌, ◌≡◌, refl, sym, ap, ◌∙◌, Bool, true, false, ◌&&◌, false≢true, List, [], ◌∷◌, ◌++◌, length, eq-eqb}
-use Rattle.merge_sides.proofs.Names.{ne_eqb, gives, refused, and_left, and_right, and_both, tokens_from, kinds, Answers, plain, all_plain, Tells}
-use lib.Dec.{eqb}
-use mathlib.Core.Option.{none, some}
+use Rattle.merge_sides.proofs.Names.{ℕ, ◌≤◌, ◌<◌, ◌≡◌, refl, sym, ap, ◌∙◌, Bool, true, false, ◌&&◌, false≢true, List, [], ◌∷◌, ◌++◌, length}
+use Rattle.merge_sides.proofs.Names.{gives, refused, and_left, and_right, and_both, tokens_from, kinds, Answers, plain, all_plain, Tells}
+use Rattle.std.specs.Prelude.{Option, Some, None, not}
+use Rattle.std.specs.Option.{is_some}
 use Rattle.base.proofs.Results.{refused-gives}
-use Rattle.records.specs.Records.{Token, index, tokens}
+use Rattle.records.specs.Records.{Token, tokens}
 use Rattle.document.specs.Document.{check}
 use Rattle.records.specs.Answers.{Read}
 use Rattle.records.specs.declared.Block.{Block}
@@ -79,14 +79,20 @@ plain-inlines (content.block-part {b = b} {x = x} {r = r} o h k) e =
 
 -- The code's tests
 
-pub body-yes : (s : List ℕ) → Answers s (gives none) → Filled content.parts s
+body-yes : (s : List ℕ) → Answers s (gives None) → Filled content.parts s
 body-yes s a = record { whole = (check-gives s [] a.0).1; shape = a.1 }
 
-pub body-no : (s : List ℕ) (p : ℕ) → Answers s (gives (some p)) → Filled content.parts s → ⊥
+body-no : (s : List ℕ) (p : ℕ) → Answers s (gives (Some p)) → Filled content.parts s → ⊥
 body-no s p a f = shaped_placed (tokens 0 0 s) p f.shape a.1
 
 pub body_refused : (s : List ℕ) (n p : ℕ) → check s ≡ refused n p → length s ≤ 32768 → Filled content.parts s → ⊥
 body_refused s n p a h f = refused-gives (sym a ∙ check_makes s h f.whole)
+
+pub body-told : (s : List ℕ) (o : Option ℕ) (b : Bool) → Answers s (gives o) → is_some o ≡ not b → Tells (Filled content.parts s) b
+body-told s None true a e = body-yes s a
+body-told s None false a e = absurd (false≢true e)
+body-told s (Some p) true a e = absurd (false≢true (sym e))
+body-told s (Some p) false a e = body-no s p a
 
 pub term-not-plain : (s : List ℕ) → false ≡ all_plain (kinds (tokens 0 0 s)) → Filled content.inlines s → ⊥
 term-not-plain s e f = false≢true (e ∙ inlines-plain f.shape)
@@ -109,14 +115,3 @@ module _ {s : List ℕ} {at : ℕ} {h : Head} (r : Read s at h) (l : at < length
 pub plain_end : (s : List ℕ) (at : ℕ) → length s ≤ at → true ≡ all_plain (kinds (tokens_from s at))
 unfolding all_plain kinds
 plain_end s at h = sym (ap (λ (ts : List Token). all_plain (kinds ts)) (tokens-end s at h))
-
--- a block by its index
-module _ (b : Block) (i : ℕ) (e : i ≡ index b) where
-  pub by_nine : i ≡ 9 → true ≡ inline b
-  by_nine h = sym (rw (eq-eqb (index b) 9 (sym e ∙ h)))
-
-  pub by_eleven : i ≡ 11 → (i ≡ 9 → ⊥) → true ≡ inline b
-  by_eleven h n = sym (rw (ne_eqb (index b) 9 (λ k. n (e ∙ k)), eq-eqb (index b) 11 (sym e ∙ h)))
-
-  pub by_eight : (i ≡ 9 → ⊥) → (i ≡ 11 → ⊥) → eqb i 8 ≡ inline b
-  by_eight n m = sym (rw (ne_eqb (index b) 9 (λ k. n (e ∙ k)), ne_eqb (index b) 11 (λ k. m (e ∙ k))) (ap (λ (k : ℕ). eqb k 8) (sym e)))

@@ -9,7 +9,7 @@ pub use Rattle.merge_sides.specs.InnerSteps.{Climbs, SideIs, Stands, Tells, plai
 unfoldable pub use Rattle.merge_sides.specs.InnerSteps.{all_plain}
 pub use Rattle.records.specs.Records.{tokens_from}
 unfoldable pub use Rattle.records.specs.Stored.{end, start}
-pub use Rattle.shape.specs.Answers.{Answers, shape_of}
+pub use Rattle.shape.specs.Answers.{Answers}
 unfoldable pub use Rattle.shape.specs.Shape.{kinds}
 pub use borrow.Author.Rules.{rules}
 pub use borrow.Author.Tests.{eq-eqb, ne_eqb, not-false, not-true}

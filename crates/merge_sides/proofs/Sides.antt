@@ -7,7 +7,7 @@ use Rattle.buffer_doc.proofs.Adding.{length-start, length-end, length-around}
 use Rattle.room.specs.Room.{extended, seen}
 use Rattle.room.proofs.Laws.{extended_in}
 use Rattle.merge_rules.specs.Merge.{compared, is_less, Item, key, records, all_records, list_of, Proper, Each, Lists, ascending}
-use Rattle.merge_rules.specs.declared.Order.{Order}
+use Rattle.std.specs.declared.cmp.Ordering.{Ordering}
 use Rattle.merge_rules.proofs.Merged.{head_of, tail_of}
 use Rattle.merge_rules.proofs.Ends.{one_list}
 use Rattle.merge_items.specs.declared.Entry.{Entry}
@@ -158,14 +158,14 @@ module _ {s text : List ℕ} {at next len : ℕ} (c : Climbing s text at next le
     pub second_inside : f.len ≤ length other
     second_inside = keyed_inside g climbing_second
 
-    module _ (o : Order) (e : o ≡ compared (take len text) (take f.len other)) where
+    module _ (o : Ordering) (e : o ≡ compared (take len text) (take f.len other)) where
       step : ascending c.all ≡ (is_less o && ascending (climbing_taken h).others)
       unfolding ascending
       step =
           let t = climbing_taken h in
           let u = climbing_second in
           sym c.same ∙ ap ascending (t.split ∙ ap (λ (l : List Item). t.item ∷ l) u.split)
-          ∙ ap₂ (λ (x : Order) (l : List Item). is_less x && ascending l) (sym (e ∙ ap₂ compared (keyed_text c.keyed t) (keyed_text g u))) (sym u.split)
+          ∙ ap₂ (λ (x : Ordering) (l : List Item). is_less x && ascending l) (sym (e ∙ ap₂ compared (keyed_text c.keyed t) (keyed_text g u))) (sym u.split)
 
       pub climbs_not : is_less o ≡ false → Climbs s false
       climbs_not n = climbs c.listed (sym (step ∙ rw n))

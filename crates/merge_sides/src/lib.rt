@@ -10,9 +10,8 @@ ghost use Rattle.merge_sides.specs.InnerSteps.{Stands, Asked, Climbs, Tells, Sid
 ghost use Rattle.document.specs.Document.{max_bytes};
 
 use document::MAX_BYTES;
-use merge_rules::Order;
 use records::{Block, Kind};
-use shape::Shape;
+use std::cmp::Ordering;
 
 // A document as a side: whether it is a list of items, whatever their order, and whether their terms ascend.
 #[derive(Clone, Copy)]
@@ -21,14 +20,10 @@ pub struct Side {
     pub ordered: bool,
 }
 
-fn is_less(o: Order) -> bool
+fn is_less(o: Ordering) -> bool
     ensures { result ≡ is_less o }
 {
-    match o {
-        Order::Less => true,
-        Order::Same => false,
-        Order::More => false,
-    }
+    matches!(o, Ordering::Less)
 }
 
 // Whether the terms of a list ascend. `key` has the term of the item at `at`, `other` that of the next one.
@@ -61,14 +56,7 @@ fn in_order(document: &[u8], key: &mut [u8], other: &mut [u8]) -> bool
 fn is_inline(b: Block) -> bool
     ensures { result ≡ inline b }
 {
-    let i = records::index_of(b);
-    if i == 9 {
-        return true;
-    }
-    if i == 11 {
-        return true;
-    }
-    i == 8
+    matches!(b, Block::TermRef | Block::Mono | Block::InlineBlock)
 }
 
 // Whether a record may stand in a term.
@@ -77,8 +65,7 @@ fn is_plain(kind: Kind) -> bool
 {
     match kind {
         Kind::Text(_) => true,
-        Kind::Start(b) => is_inline(b),
-        Kind::End(b) => is_inline(b),
+        Kind::Start(b) | Kind::End(b) => is_inline(b),
         Kind::Unknown => false,
     }
 }
@@ -103,11 +90,9 @@ fn fills_body(content: &[u8]) -> bool
     requires { length content.now ≤ max_bytes }
     ensures { Tells (Filled parts content.now) result }
 {
-    let shape = shape::house_shape(content);
-    match shape {
-        Shape::Shaped => true,
-        Shape::Unshaped(_) => false,
-        Shape::Refused(_) => false,
+    match shape::house_shape(content) {
+        Ok(shape) => shape.is_none(),
+        Err(_) => false,
     }
 }
 

@@ -14,8 +14,7 @@ use Rattle.splitter.specs.declared.Code.TheVariants as code
 use Rattle.splitter.specs.declared.Cursor.{Cursor}
 use Rattle.splitter.specs.declared.Piece.{Piece}
 use Rattle.splitter.specs.declared.Piece.TheVariants.{Raw, Space, Paragraph, LineBreak}
-use Rattle.splitter.specs.declared.Step.{Step}
-use Rattle.splitter.specs.declared.Step.TheVariants.{Take, Done}
+use Rattle.std.specs.Prelude.{Option, Some, None}
 use Rattle.next_chunk.specs.NextChunk.{code_of, ticks_of, space_number, after, handed, handed_or, next_chunk}
 use Rattle.next_chunk.specs.declared.Next.{Next}
 
@@ -64,13 +63,13 @@ pub raw-order : (body : List ℕ) (p : Piece) {from to w : ℕ} → PieceWithin 
 raw-order body p h e = (subst (PieceWithin (length body)) e h).0
 
 -- the step's answer, by its case
-module _ (body : List ℕ) (at ticks : ℕ) (d : Code) (e : d ≡ code_of ticks) (r : Step) (f : r ≡ first_chunk body (cursor at d)) where
+module _ (body : List ℕ) (at ticks : ℕ) (d : Code) (e : d ≡ code_of ticks) (r : Option (Piece × Cursor)) (f : r ≡ first_chunk body (cursor at d)) where
   as_next : handed_or body at ticks r ≡ next_chunk body at ticks
   unfolding next_chunk
   as_next = ap (handed_or body at ticks) f ∙ ap (λ (x : Code). handed_or body at ticks (first_chunk body (cursor at x))) e
 
-  pub next_taken : {p : Piece} {c : Cursor} → r ≡ Take p c → (n : Next) → n ≡ handed body p c → n ≡ next_chunk body at ticks
+  pub next_taken : {p : Piece} {c : Cursor} → r ≡ Some (p, c) → (n : Next) → n ≡ handed body p c → n ≡ next_chunk body at ticks
   next_taken g n h = h ∙ sym (ap (handed_or body at ticks) g) ∙ as_next
 
-  pub next-done : r ≡ Done → record { number = 0; at = at; ticks = ticks; start = 0; length = 0; width = 0 } ≡ next_chunk body at ticks
+  pub next-done : r ≡ None → record { number = 0; at = at; ticks = ticks; start = 0; length = 0; width = 0 } ≡ next_chunk body at ticks
   next-done g = sym (ap (handed_or body at ticks) g) ∙ as_next

@@ -1,6 +1,6 @@
 -- The next chunk of a body as the C interface hands it out: numbers for what it is, where it begins, its length and its width, and the cursor
 -- after it.
-use Rattle.std.specs.Prelude.{ℕ, ◌-◌, min, List, [], ◌∷◌, eqb, length, drop}
+use Rattle.std.specs.Prelude.{ℕ, ◌-◌, min, List, [], ◌∷◌, eqb, length, drop, Option, Some, None}
 use Rattle.base.specs.Bytes.{starts_with}
 use Rattle.base.specs.Choice.{when◌then◌else◌}
 use Rattle.splitter.specs.Answers.{cursor, first_chunk}
@@ -9,8 +9,6 @@ use Rattle.splitter.specs.declared.Code.TheVariants as code
 use Rattle.splitter.specs.declared.Cursor.{Cursor}
 use Rattle.splitter.specs.declared.Piece.{Piece}
 use Rattle.splitter.specs.declared.Piece.TheVariants.{Raw, Space, Paragraph, LineBreak}
-use Rattle.splitter.specs.declared.Step.{Step}
-use Rattle.splitter.specs.declared.Step.TheVariants.{Take, Done}
 use Rattle.next_chunk.specs.declared.Next.{Next}
 
 -- '0 outside ticks, 1 before the first line in ticks, any other number after it'
@@ -40,9 +38,9 @@ handed body (Paragraph at) c = record { number = 2; at = after body c; ticks = t
 handed body (LineBreak at) c = record { number = 3; at = after body c; ticks = ticks_of c.code; start = at; length = 0; width = 0 }
 
 -- 'With no further chunk the cursor stays as it was given and the other three are 0'
-abbrev pub handed_or : List ℕ → ℕ → ℕ → Step → Next
-handed_or body at ticks (Take p c) = handed body p c
-handed_or body at ticks Done = record { number = 0; at = at; ticks = ticks; start = 0; length = 0; width = 0 }
+abbrev pub handed_or : List ℕ → ℕ → ℕ → Option (Piece × Cursor) → Next
+handed_or body at ticks (Some x) = handed body x.0 x.1
+handed_or body at ticks None = record { number = 0; at = at; ticks = ticks; start = 0; length = 0; width = 0 }
 
 -- the chunk of a body at a cursor, of its bytes from `at` on
 unfoldable pub next_chunk : List ℕ → ℕ → ℕ → Next

@@ -6,7 +6,7 @@ ghost use Rattle.std.specs.Prelude.{◌≡◌, length};
 ghost use Rattle.splitter.specs.Answers.{PieceWithin};
 ghost use Rattle.next_chunk.specs.NextChunk.{code_of, ticks_of, space_number, handed, next_chunk};
 
-use splitter::{Code, Cursor, Piece, Step};
+use splitter::{Code, Cursor, Piece};
 
 // What a chunk is (0 none, 1 a part of the body, 2 a paragraph, 3 a line break, 4 a line end's space), the cursor after it, and where it
 // begins, its length and its width.
@@ -20,16 +20,15 @@ pub struct Next {
     pub width: usize,
 }
 
+// A tick state and its number; neither type is of this crate, so that neither conversion can be a `From`.
 fn code_of(ticks: u32) -> Code
     ensures { result ≡ code_of ticks }
 {
-    if ticks == 0 {
-        return Code::No;
+    match ticks {
+        0 => Code::No,
+        1 => Code::First,
+        _ => Code::Rest,
     }
-    if ticks == 1 {
-        return Code::First;
-    }
-    Code::Rest
 }
 
 fn ticks_of(code: Code) -> u32
@@ -47,9 +46,10 @@ fn space_number(body: &[u8], at: usize) -> u32
     ensures { result ≡ space_number body.now at }
 {
     if base::starts_with(body, at, b" ") {
-        return 1;
+        1
+    } else {
+        4
     }
-    4
 }
 
 // A piece in numbers, with the cursor after it.
@@ -57,41 +57,38 @@ fn hand(body: &[u8], piece: Piece, after: Cursor) -> Next
     requires { PieceWithin (length body.now) piece }
     ensures { result ≡ handed body.now piece after }
 {
-    let at = base::min(after.at, body.len());
-    let code = after.code;
-    let ticks = ticks_of(code);
+    let next = Next {
+        number: 0,
+        at: after.at.min(body.len()),
+        ticks: ticks_of(after.code),
+        start: 0,
+        length: 0,
+        width: 0,
+    };
     match piece {
         Piece::Raw(start, stop, width) => Next {
             number: 1,
-            at,
-            ticks,
             start,
             length: stop - start,
             width,
+            ..next
         },
         Piece::Space(start) => Next {
             number: space_number(body, start),
-            at,
-            ticks,
             start,
             length: 1,
             width: 1,
+            ..next
         },
         Piece::Paragraph(start) => Next {
             number: 2,
-            at,
-            ticks,
             start,
-            length: 0,
-            width: 0,
+            ..next
         },
         Piece::LineBreak(start) => Next {
             number: 3,
-            at,
-            ticks,
             start,
-            length: 0,
-            width: 0,
+            ..next
         },
     }
 }
@@ -103,8 +100,8 @@ pub fn next_chunk(body: &[u8], at: usize, ticks: u32) -> Next
     let code = code_of(ticks);
     let step = splitter::step_at(body, Cursor { at, code });
     match step {
-        Step::Take(piece, after) => hand(body, piece, after),
-        Step::Done => Next {
+        Some((piece, after)) => hand(body, piece, after),
+        None => Next {
             number: 0,
             at,
             ticks,

@@ -14,7 +14,7 @@ use Rattle.records.specs.Records.{index}
 use Rattle.records.specs.Stored.{head, start, end}
 use Rattle.records.specs.declared.Block.{Block}
 use Rattle.records.specs.declared.Block.TheVariants as block
-use Rattle.buffer.proofs.Pasting.{stored-none}
+use Rattle.record_writer.proofs.Heads.{head-start, head-end}
 use Rattle.notes_text.proofs.Writes.{puts_start, puts_more, puts_all}
 use Rattle.notes_rules.proofs.Lines.{unmarked_is, ordinary-is, line, next, next_mark, header_part, item_part, blank_part, other-part}
 
@@ -84,20 +84,20 @@ module _ (s : List ℕ) (at : ℕ) where
 -- A part written
 
 -- a block around some records, its start, they and its end
-pub part-written : (room : List ℕ) (n : ℕ) (b : Block) (x : List ℕ) (i : ℕ) → i ≡ index b → (room₁ room₂ room₃ : List ℕ) (n₁ n₂ n₃ : ℕ)
-    → length room₁ ≡ length room → length room₂ ≡ length room₁ → length room₃ ≡ length room₂
-    → seen room₁ n₁ ≡ (seen room n >>= extended (length room) (head 0 (0x0100 + i)))
+pub part-written : (room : List ℕ) (n : ℕ) (b : Block) (x : List ℕ) {i j : ℕ} → i ≡ 0x0100 + index b → j ≡ 0x0200 + index b
+    → (room₁ room₂ room₃ : List ℕ) (n₁ n₂ n₃ : ℕ) → length room₁ ≡ length room → length room₂ ≡ length room₁ → length room₃ ≡ length room₂
+    → seen room₁ n₁ ≡ (seen room n >>= extended (length room) (head 0 i))
     → seen room₂ n₂ ≡ (seen room₁ n₁ >>= extended (length room₁) x)
-    → seen room₃ n₃ ≡ (seen room₂ n₂ >>= extended (length room₂) (head 0 (0x0200 + i)))
+    → seen room₃ n₃ ≡ (seen room₂ n₂ >>= extended (length room₂) (head 0 j))
     → seen room₃ n₃ ≡ (seen room n >>= extended (length room) (around b x))
-unfolding around start end
-part-written room n b x i q room₁ room₂ room₃ n₁ n₂ n₃ l₁ l₂ l₃ e₁ e₂ e₃ =
-    let s : start b ≡ head 0 (0x0100 + i) = stored-none (0x0100 + index b) ∙ ap (λ (k : ℕ). head 0 (0x0100 + k)) (sym q) in
-    let t : end b ≡ head 0 (0x0200 + i) = stored-none (0x0200 + index b) ∙ ap (λ (k : ℕ). head 0 (0x0200 + k)) (sym q) in
+unfolding around
+part-written room n b x {i} {j} q r room₁ room₂ room₃ n₁ n₂ n₃ l₁ l₂ l₃ e₁ e₂ e₃ =
+    let s : start b ≡ head 0 i = sym (head-start b q) in
+    let t : end b ≡ head 0 j = sym (head-end b r) in
     let p = puts_start room n (start b ++ x ++ end b) in
-    let p₁ = puts_more p room₁ n₁ (head 0 (0x0100 + i)) (x ++ end b) l₁ e₁ (append_assoc (start b) x (end b) ∙ ap (λ (y : List ℕ). y ++ (x ++ end b)) s) in
+    let p₁ = puts_more p room₁ n₁ (head 0 i) (x ++ end b) l₁ e₁ (append_assoc (start b) x (end b) ∙ ap (λ (y : List ℕ). y ++ (x ++ end b)) s) in
     let p₂ = puts_more p₁ room₂ n₂ x (end b) l₂ e₂ refl in
-    let p₃ = puts_more p₂ room₃ n₃ (head 0 (0x0200 + i)) [] l₃ e₃ (t ∙ sym (append-nil (head 0 (0x0200 + i)))) in
+    let p₃ = puts_more p₂ room₃ n₃ (head 0 j) [] l₃ e₃ (t ∙ sym (append-nil (head 0 j))) in
     puts_all p₃ refl
 
 -- The whole

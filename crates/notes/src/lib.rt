@@ -6,7 +6,8 @@ ghost use Rattle.std.specs.Prelude.{◌≡◌, [], ◌≤◌, length, drop};
 ghost use Rattle.base.specs.Bytes.{starts_with};
 ghost use Rattle.base.specs.Result.{measured, ◌>>=◌ as bind};
 ghost use Rattle.room.specs.Room.{seen, extended};
-ghost use Rattle.renderer.specs.Rendered.{answered, standing, Inside, filled};
+ghost use Rattle.refusal.specs.Answers.{answered};
+ghost use Rattle.renderer.specs.Rendered.{standing, Inside, filled};
 ghost use Rattle.records.specs.Stored.{around};
 ghost use Rattle.notes_rules.specs.Notes.{header_mark, item_mark, text_records, document, taken_in};
 ghost use Rattle.notes_rules.specs.Without.{blank_line, ordinary};
@@ -14,9 +15,9 @@ ghost use Rattle.notes_rules.specs.Laws.{Faithful};
 ghost use Rattle.notes.specs.InnerParts.{Ends};
 
 use document::MAX_BYTES;
+use record_writer::{end_kind, put_head, start_kind};
 use records::Block;
 use refusal::Refusal;
-use renderer::Rendered;
 
 // Whether the line that starts at `at` is empty or all spaces; so is none, past the end.
 fn blank_at(s: &[u8], at: usize) -> bool
@@ -66,8 +67,7 @@ fn text_end(s: &[u8], at: usize, one: bool) -> usize
     requires { at ≤ length s.now }
     ensures { Ends s.now one at result }
 {
-    let mut i: usize = at;
-    while i < s.len() {
+    for i in at..s.len() {
         if s[i] == b'\n' {
             if one {
                 return i;
@@ -76,19 +76,17 @@ fn text_end(s: &[u8], at: usize, one: bool) -> usize
                 return i;
             }
         }
-        i += 1;
     }
-    i
+    s.len()
 }
 
 // A block with a text.
 fn put_part(room: &mut [u8], len: usize, b: Block, s: &[u8]) -> usize
     ensures { seen room.new result ≡ bind (seen room.old len) (extended (length room.old) (around b (text_records s.now))) }
 {
-    let i = records::index_of(b);
-    let start = record_writer::put_head(room, len, 0, 0x0100 + i);
+    let start = put_head(room, len, 0, start_kind(b));
     let body = notes_text::put_text(room, start, s);
-    record_writer::put_head(room, body, 0, 0x0200 + i)
+    put_head(room, body, 0, end_kind(b))
 }
 
 // The document of some notes, from the room's start on.
@@ -119,25 +117,25 @@ fn put_notes(room: &mut [u8], s: &[u8]) -> usize
 }
 
 // The document that the notes stand for, or 1, 19 or 13.
-fn fill(notes: &[u8], room: &mut [u8]) -> Rendered
+fn fill(notes: &[u8], room: &mut [u8]) -> Result<usize, Refusal>
     ensures text { standing room.new result ≡ taken_in (length room.new) notes.now }
     ensures inside { Inside (length room.new) result }
 {
     if MAX_BYTES < notes.len() {
-        return Rendered::Refused(Refusal::TooLong);
+        return Err(Refusal::TooLong);
     }
     if !utf8::valid(notes) {
-        return Rendered::Refused(Refusal::NotesNotUtf8);
+        return Err(Refusal::NotesNotUtf8);
     }
     let n = put_notes(room, notes);
     if MAX_BYTES < n {
-        return Rendered::Refused(Refusal::NoRoom);
+        return Err(Refusal::NoRoom);
     }
     renderer::answer(room, n)
 }
 
 // The notes as a stored document in a lent room.
-pub fn take_in(notes: &[u8], room: &mut [u8]) -> Rendered
+pub fn take_in(notes: &[u8], room: &mut [u8]) -> Result<usize, Refusal>
     ensures answer { answered result ≡ measured (taken_in (length room.old) notes.now) }
     ensures room { room.new ≡ filled (length room.old) (taken_in (length room.old) notes.now) }
     ensures law { Faithful notes.now (taken_in (length room.old) notes.now) }

@@ -9,6 +9,8 @@ ghost use Rattle.room.specs.Room.{seen, extended};
 ghost use Rattle.notes_rules.specs.Notes.{ticked, styled, text_records};
 ghost use Rattle.notes_text.specs.InnerParts.{Last, Tick, lead, Runs, kind_number};
 
+use records::Style;
+
 // Bytes of one style: how many, where they end, and whether a pair of backticks is open there.
 #[derive(Clone, Copy)]
 struct Run {
@@ -23,12 +25,10 @@ fn tickless(s: &[u8], a: usize) -> bool
     ensures { result ≡ true → ticked (part s.now a (a + 64)) ≡ false }
 {
     let mut found: u8 = 0;
-    let mut i: usize = 0;
-    while i < 64 {
+    for i in 0..64 {
         if s[a + i] == b'`' {
             found = 1;
         }
-        i += 1;
     }
     found == 0
 }
@@ -67,14 +67,12 @@ fn near_tick(s: &[u8], at: usize) -> usize
     requires { at ≤ length s.now }
     ensures { Tick s.now at result }
 {
-    let mut i: usize = at;
-    while i < s.len() {
+    for i in at..s.len() {
         if s[i] == b'`' {
             return i;
         }
-        i += 1;
     }
-    i
+    s.len()
 }
 
 // The same, by blocks of 64 as long as they have none.
@@ -167,9 +165,9 @@ fn kind_of(literal: bool) -> usize
     ensures { result ≡ kind_number literal }
 {
     if literal {
-        return 0x0003;
+        return Style::Literal.number();
     }
-    0x0001
+    Style::Text.number()
 }
 
 // The records of a part's text.

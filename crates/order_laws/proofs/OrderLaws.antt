@@ -1,9 +1,11 @@
 -- The printing order of a document is the printing characters of its text, and one backtick at each TermRef start and end. Assumes nothing.
 use Prim.Native.Nat.{ℕ}
 use mathlib.Core.Path.{◌≡◌, refl, sym, ap, ap₂, ◌∙◌}
-use mathlib.Core.Bool.{Bool, true, false, ◌||◌, not, false≢true}
+use mathlib.Core.Bool.{true, false, ◌||◌, not}
 use mathlib.Core.List.{List, [], ◌∷◌, ◌++◌}
 use lib.Dec.{eqb}
+use borrow.Author.Tests.{not-true}
+use Rattle.std.proofs.lemmas.Bool.{or_parts}
 use Rattle.base.specs.Result.{gives}
 use Rattle.base.proofs.Choice.{and_left, and_right, if_false}
 use Rattle.white.specs.White.{printing}
@@ -30,23 +32,11 @@ unticked-text (t ∷ ts) (also v vs) =
     ap (λ (x : List ℕ). adds_unticked t.kind t.body ++ x) (unticked-text ts vs) ∙ sym (joins t.kind t.body (joined ts) v)
 
 -- what a record adds that is no TermRef's start or end
-not-true : (x : Bool) → not x ≡ true → x ≡ false
-not-true false e = refl
-not-true true e = sym e
-
-or_left : (x y : Bool) → x || y ≡ false → x ≡ false
-or_left false y e = refl
-or_left true y e = e
-
-or_right : (x y : Bool) → x || y ≡ false → y ≡ false
-or_right false y e = e
-or_right true y e = absurd (false≢true (sym e))
-
 plain-adds : (k : Kind) (y : List ℕ) → is_start 9 k || is_end 9 k ≡ false → adds k y ≡ adds_unticked k y
 unfolding adds
 plain-adds (kind.Text st) y e = refl
-plain-adds (kind.Start b) y e = if_false _ _ (or_left (eqb (index b) 9) false e)
-plain-adds (kind.End b) y e = if_false _ _ (or_right false (eqb (index b) 9) e)
+plain-adds (kind.Start b) y e = if_false _ _ (or_parts (eqb (index b) 9) false e).0
+plain-adds (kind.End b) y e = if_false _ _ e
 plain-adds kind.Unknown y e = refl
 
 -- Without TermRefs there are no backticks to leave out.

@@ -1,13 +1,14 @@
 -- Refusals 20 and 21, the page count, and where a page stands. Assumes nothing.
-use Rattle.pages.proofs.Names.{ℕ, zero, suc, ◌+◌, ◌-◌, ◌*◌, ◌≤◌, ◌<◌, ◌≡◌, refl, sym, ap, ap₂, ◌∙◌, subst, true, false, ⊎_elim, List, [], length}
+use Rattle.pages.proofs.Names.{ℕ, zero, suc, ◌+◌, ◌-◌, ◌*◌, ◌≤◌, ◌<◌, ◌≡◌, refl, sym, ap, ap₂, ◌∙◌, subst, true, false, ◌⊎◌, ⊎_elim, List, [], length}
 use Rattle.pages.proofs.Names.{take, drop, length-drop, mul_comm, div-mul-le_self, lt-div-mul-add, arith, among, and_both, le_or_lt, gives_same, rows}
 use Rattle.pages.proofs.Names.{joined, pages_in, allowed, rows_before, page_of, page_start, page_count, shown, bytes_of, ◌/◌, mul-suc, div-eq_of_lt}
 use Rattle.pages.proofs.Names.{add-div_right, le-div_iff_mul-le, div-lt_iff_lt-mul, mul-le-mul_left, le-leb, lt-leb, if_true, if_false, refused-gives}
 use Rattle.base.specs.Result.{Result, gives, refused, ◌>>=◌, measured}
 use Rattle.refusal.specs.declared.Refusal.{Refusal}
 use Rattle.pages.specs.Answers.{start_of, size_of}
-use Rattle.pages.specs.declared.Paged.{Paged}
-use Rattle.pages.specs.declared.Paged.TheVariants as paged
+use Rattle.std.specs.Prelude.{Ok, Err}
+use Rattle.std.specs.Prelude.{Result as Answer}
+use Rattle.pages.specs.declared.Part.{Part}
 use Rattle.pages.proofs.Rows.{bytes_all, bytes_less, bytes-within, rows_few, rows-after, joined_front}
 
 -- Tests
@@ -25,13 +26,16 @@ pub allowed_in : (height : ℕ) → 1 ≤ height → height ≤ 200 → allowed 
 unfolding allowed
 allowed_in height h g = if_true _ _ (among_in 1 200 height h g)
 
-pub allowed-below : (height : ℕ) → height < 1 → allowed height ≡ refused 20 0
+allowed-below : (height : ℕ) → height < 1 → allowed height ≡ refused 20 0
 unfolding allowed
 allowed-below height h = if_false _ _ (among_below 1 200 height h)
 
-pub allowed_over : (height : ℕ) → 200 < height → allowed height ≡ refused 20 0
+allowed_over : (height : ℕ) → 200 < height → allowed height ≡ refused 20 0
 unfolding allowed
 allowed_over height h = if_false _ _ (among_over 1 200 height (omega arith) h)
+
+pub not-allowed : (height : ℕ) → (height < 1) ⊎ ((1 ≤ height) × (200 < height)) → allowed height ≡ refused 20 0
+not-allowed height h = ⊎_elim (allowed-below height) (λ (g : (1 ≤ height) × (200 < height)). allowed_over height g.1) h
 
 -- The page count
 
@@ -188,12 +192,14 @@ shown-none (gives y) e = absurd (refused-gives e)
 shown-none (refused i j) e = refl
 
 -- what is shown of an answer
-module _ (h n : ℕ) (s : List ℕ) (r : Paged) (e : start_of r ≡ page_start h n s) (f : size_of r ≡ measured (page_of h n s)) where
-  pub shown-part : (a m : ℕ) → r ≡ paged.Part a m → (a + m ≤ length s) × (take (a + m - a) (drop a s) ≡ shown (page_of h n s))
-  shown-part a m g =
+module _ (h n : ℕ) (s : List ℕ) (r : Answer Part Refusal) (e : start_of r ≡ page_start h n s) (f : size_of r ≡ measured (page_of h n s)) where
+  pub shown-part : (p : Part) → r ≡ Ok p → (p.start + p.size ≤ length s) × (take (p.start + p.size - p.start) (drop p.start s) ≡ shown (page_of h n s))
+  shown-part p g =
+      let a = p.start in
+      let m = p.size in
       let w = page-part h n s a m (rw g at e) (rw g at f) in
       let z : a + m - a ≡ m = omega arith in
       (w.0, ap (λ (k : ℕ). take k (drop a s)) z ∙ w.1)
 
-  pub shown-refused : (x : Refusal) → r ≡ paged.Refused x → [] ≡ shown (page_of h n s)
+  pub shown-refused : (x : Refusal) → r ≡ Err x → [] ≡ shown (page_of h n s)
   shown-refused x g = shown-none (page_of h n s) (rw g at f)

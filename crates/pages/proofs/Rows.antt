@@ -4,6 +4,10 @@ use Rattle.pages.proofs.Names.{take, drop, get_or, length-drop, take-append-drop
 use Rattle.pages.proofs.Names.{when◌then◌else◌, leads, rows, joined, feed, feeds, bytes_of, Bool, eqb, length-append, sub-zero, eq-eqb}
 use lib.Seq.{drop-cons, take-nil, drop-nil, take_all, take_at}
 use native.Mathlib.Numerals.{add-one, sub-one}
+use Rattle.std.specs.Prelude.{cond}
+use Rattle.std.specs.List.{count_by}
+use Rattle.std.proofs.lemmas.List.Sums.{count_by-le-length, sum_by-take-drop}
+use Rattle.std.proofs.lemmas.List.Recursion.{is_count_by}
 use Rattle.pages.specs.InnerParts.{Fed}
 
 -- Line feeds
@@ -16,19 +20,10 @@ pub feed-no : (b : ℕ) → (b ≡ 0x0A → ⊥) → feed b ≡ 0
 unfolding feed when◌then◌else◌
 feed-no b e = rw (ne_eqb b 0x0A e)
 
--- at a place
-pub feeds-step : (s : List ℕ) (i : ℕ) → i < length s → feeds (drop i s) ≡ feed (get_or s i 0) + feeds (drop (i + 1) s)
-unfolding feeds
-feeds-step s i h = rw (add-one, drop-cons s i 0 h)
-
 feeds-append : (a b : List ℕ) → feeds (a ++ b) ≡ feeds a + feeds b
 unfolding feeds
 feeds-append [] b = omega arith
 feeds-append (x ∷ a) b = omega (arith, feeds-append a b)
-
-pub feeds-past : (s : List ℕ) (i : ℕ) → length s ≤ i → feeds (drop i s) ≡ 0
-unfolding feeds
-feeds-past s i h = rw (drop_of_length-le s h)
 
 -- A byte before some rows
 
@@ -68,6 +63,28 @@ drop-leads k b (r ∷ rs) = by-feed _ b (λ e. rw (e, sub-one)) (λ e. rw (e, su
 -- The rows of a text
 
 -- joined they are the text
+-- line feeds as a count
+feed_counted : (x : Bool) (n : ℕ) → (when x then 1 else 0) + n ≡ cond x (1 + n) n
+unfolding when◌then◌else◌
+feed_counted true n = refl
+feed_counted false n = omega arith
+
+pub feeds_counted : (s : List ℕ) → feeds s ≡ count_by (λ b. eqb b 0x0A) s
+unfolding feeds feed
+feeds_counted s = is_count_by feeds (λ b. eqb b 0x0A) refl (λ b s. feed_counted (eqb b 0x0A) (feeds s)) s
+
+pub fed_part : (s : List ℕ) (i n m : ℕ) {r : ℕ} → i + n ≤ length s → m ≡ n → r ≡ count_by (λ b. eqb b 0x0A) (take m (drop i s)) → Fed s i (i + n) r
+fed_part s i n m h q e =
+    let p = λ (b : ℕ). eqb b 0x0A in
+    let f = rw q at e in
+    let size = length-take-le n (drop i s) (omega (arith, length-drop i s)) in
+    let all = sum_by-take-drop (λ b. cond (p b) 1 0) (drop i s) n in
+    let rest = rw (drop-drop n i s) at all in
+    record {
+      few = omega (arith, f, size, count_by-le-length p (take n (drop i s)));
+      rest = omega (arith, f, rest, feeds_counted (drop (i + n) s), feeds_counted (drop i s));
+    }
+
 pub rows-joined : (s : List ℕ) → joined (rows s) ≡ s
 unfolding rows joined
 rows-joined [] = refl

@@ -2,61 +2,33 @@
 
 #![tactic(auto)]
 
-ghost use Rattle.std.specs.Prelude.{◌≡◌, ◌+◌, ◌≤◌, length, drop};
+ghost use Rattle.std.specs.Prelude.{◌≡◌, ◌+◌, ◌≤◌, eqb, length, drop};
 ghost use Rattle.base.specs.Result.{measured};
 ghost use Rattle.pages.specs.Pages.{rows, page_of, page_start, page_count, shown};
 ghost use Rattle.pages.specs.RowList.{feeds};
 ghost use Rattle.pages.specs.Answers.{start_of, size_of, count_of};
-ghost use Rattle.pages.specs.InnerParts.{Fed, bytes_of};
+ghost use Rattle.pages.specs.InnerParts.{bytes_of};
 
 use refusal::Refusal;
 
-// Where a page stands in its text, its start and its size; or why there is none.
+// A part of a text: where it starts, and how many bytes it has.
 #[derive(Clone, Copy)]
-pub enum Paged {
-    Part(usize, usize),
-    Refused(Refusal),
+pub struct Part {
+    pub start: usize,
+    pub size: usize,
 }
 
-// How many pages there are.
-#[derive(Clone, Copy)]
-pub enum Counted {
-    Pages(usize),
-    Refused(Refusal),
-}
-
-// How many of the bytes from a to e are line feeds.
-fn feeds_in(s: &[u8], a: usize, e: usize) -> u8
-    requires { (a ≤ e) × (e ≤ length s.now) × (e ≤ a + 128) }
-    ensures { Fed s.now a e result }
+fn is_feed(b: u8) -> bool
+    ensures { result ≡ eqb b 0x0A }
 {
-    let mut n: u8 = 0;
-    let mut i: usize = a;
-    while i < e {
-        if s[i] == b'\n' {
-            n += 1;
-        }
-        i += 1;
-    }
-    n
+    b == b'\n'
 }
 
-// How many bytes of s are line feeds, by blocks of 128.
+// How many bytes of s are line feeds.
 fn line_feeds(s: &[u8]) -> usize
     ensures { result ≡ feeds s.now }
 {
-    let mut n: usize = 0;
-    let mut i: usize = 0;
-    while i < s.len() {
-        if s.len() - i > 128 {
-            n += feeds_in(s, i, i + 128) as usize;
-            i += 128;
-        } else {
-            n += feeds_in(s, i, s.len()) as usize;
-            i = s.len();
-        }
-    }
-    n
+    base::count(s, is_feed)
 }
 
 // How many rows a text has.
@@ -79,18 +51,16 @@ fn step_rows(s: &[u8], from: usize, k: usize) -> usize
     requires { from ≤ length s.now }
     ensures { result ≡ from + bytes_of k (drop from s.now) }
 {
-    let mut due: usize = k;
-    let mut i: usize = from;
-    while i < s.len() {
+    let mut due = k;
+    for i in from..s.len() {
         if due == 0 {
             return i;
         }
         if s[i] == b'\n' {
             due -= 1;
         }
-        i += 1;
     }
-    i
+    s.len()
 }
 
 // The place after k rows from a place on: a block of 128 that does not hold the last of them is passed over.
@@ -101,7 +71,7 @@ fn skip_rows(s: &[u8], from: usize, k: usize) -> usize
     let mut due: usize = k;
     let mut i: usize = from;
     while s.len() - i > 128 {
-        let n = feeds_in(s, i, i + 128) as usize;
+        let n = usize::from(base::few(&s[i..i + 128], &is_feed));
         if due <= n {
             return step_rows(s, i, due);
         }
@@ -112,58 +82,51 @@ fn skip_rows(s: &[u8], from: usize, k: usize) -> usize
 }
 
 // Where a page stands in a text.
-pub fn find_page(text: &[u8], height: usize, page: usize) -> Paged
+pub fn find_page(text: &[u8], height: usize, page: usize) -> Result<Part, Refusal>
     ensures start { start_of result ≡ page_start height page text.now }
     ensures size { size_of result ≡ measured (page_of height page text.now) }
 {
-    if height < 1 {
-        return Paged::Refused(Refusal::WrongHeight);
-    }
-    if 200 < height {
-        return Paged::Refused(Refusal::WrongHeight);
+    if height < 1 || 200 < height {
+        return Err(Refusal::WrongHeight);
     }
     if page < 1 {
-        return Paged::Refused(Refusal::NoPage);
+        return Err(Refusal::NoPage);
     }
     let before = page - 1;
     if text.len() / height < before {
-        return Paged::Refused(Refusal::NoPage);
+        return Err(Refusal::NoPage);
     }
     let start = skip_rows(text, 0, height * before);
     if start == text.len() {
-        return Paged::Refused(Refusal::NoPage);
+        return Err(Refusal::NoPage);
     }
     let stop = skip_rows(text, start, height);
-    Paged::Part(start, stop - start)
+    Ok(Part {
+        start,
+        size: stop - start,
+    })
 }
 
 // A page as a part of the text, empty after a refusal.
 pub fn page<'a>(text: &'a [u8], height: usize, page: usize) -> &'a [u8]
     ensures { result.now ≡ shown (page_of height page text.now) }
 {
-    let answer = find_page(text, height, page);
-    match answer {
-        Paged::Part(start, size) => {
-            let stop = start + size;
-            &text[start..stop]
-        }
-        Paged::Refused(_) => &text[0..0],
+    match find_page(text, height, page) {
+        Ok(part) => &text[part.start..part.start + part.size],
+        Err(_) => &text[..0],
     }
 }
 
 // How many pages a text has.
-pub fn page_count(text: &[u8], height: usize) -> Counted
+pub fn page_count(text: &[u8], height: usize) -> Result<usize, Refusal>
     ensures { count_of result ≡ page_count height text.now }
 {
-    if height < 1 {
-        return Counted::Refused(Refusal::WrongHeight);
-    }
-    if 200 < height {
-        return Counted::Refused(Refusal::WrongHeight);
+    if height < 1 || 200 < height {
+        return Err(Refusal::WrongHeight);
     }
     let n = row_count(text);
     if n == 0 {
-        return Counted::Pages(0);
+        return Ok(0);
     }
-    Counted::Pages((n - 1) / height + 1)
+    Ok((n - 1) / height + 1)
 }

@@ -1,7 +1,7 @@
 // What the programs share: standard input read whole, what is said of a failure, and the refusal line.
 #![tactic(auto)]
 
-ghost use Rattle.std.specs.Prelude.{OnOk};
+ghost use Rattle.std.specs.Prelude.{IfOk, OnOk};
 ghost use Rattle.std.specs.Io.KnownBytes.{Appends};
 ghost use Rattle.program.specs.Spoken.{ReadsInput, refusal_line};
 
@@ -9,28 +9,20 @@ use refusal::Refusal;
 use std::io;
 use std::io::{Read, Write};
 
-// How many bytes were read, or that a read failed.
-#[derive(Clone, Copy)]
-pub enum Input {
-    Bytes(usize),
-    Failed,
-}
-
-// Reads until the buffer is full or the input ends, in pieces of any size.
-pub fn read_input<R: Read>(reader: &mut R, buffer: &mut [u8]) -> Input
-    ensures { ReadsInput (R.remaining reader.old) (R.remaining reader.new) buffer.new result }
+// Reads until the buffer is full or the input ends, in pieces of any size, and says how many bytes were read. An `Err` is a read that failed.
+pub fn read_input<R: Read>(reader: &mut R, buffer: &mut [u8]) -> io::Result<usize>
+    ensures { IfOk result (ReadsInput (R.remaining reader.old) (R.remaining reader.new) buffer.new) }
 {
+    // A counter, since `read` tells a length; no method of `Read` stops both at a full buffer and at the input's end.
     let mut done: usize = 0;
     while done < buffer.len() {
-        let Ok(n) = reader.read(&mut buffer[done..]) else {
-            return Input::Failed;
-        };
+        let n = reader.read(&mut buffer[done..])?;
         if n == 0 {
-            return Input::Bytes(done);
+            return Ok(done);
         }
         done += n;
     }
-    Input::Bytes(done)
+    Ok(done)
 }
 
 // What is said of a failure, in bytes. It may fail too.
@@ -44,7 +36,5 @@ pub fn complain<W: Write>(writer: &mut W, message: &[u8]) -> io::Result<()>
 pub fn print_refusal<W: Write>(writer: &mut W, a: Refusal) -> io::Result<()>
     ensures { OnOk result (Appends (W.contents writer.old) (W.contents writer.new) (refusal_line a)) }
 {
-    let number = refusal::refusal_number(a);
-    let place = refusal::refusal_place(a);
-    writeln!(writer, "refused {number} at {place}")
+    writeln!(writer, "{a}")
 }

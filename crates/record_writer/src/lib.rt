@@ -2,11 +2,27 @@
 
 #![tactic(auto)]
 
-ghost use Rattle.std.specs.Prelude.{◌≡◌, ◌%◌, length};
+ghost use Rattle.std.specs.Prelude.{◌≡◌, ◌+◌, ◌%◌, length};
 ghost use Rattle.base.specs.Result.{◌>>=◌ as bind};
 ghost use Rattle.base.specs.Bytes.{overwritten};
 ghost use Rattle.room.specs.Room.{seen, extended};
-ghost use Rattle.records.specs.Stored.{head};
+ghost use Rattle.records.specs.Records.{index};
+ghost use Rattle.records.specs.Stored.{head, start, end};
+
+use records::Block;
+
+// 'A block's start is 0x0100 plus its index, its end 0x0200 plus it'
+pub fn start_kind(b: Block) -> usize
+    ensures { result ≡ 0x0100 + index b }
+{
+    0x0100 + b.index()
+}
+
+pub fn end_kind(b: Block) -> usize
+    ensures { result ≡ 0x0200 + index b }
+{
+    0x0200 + b.index()
+}
 
 // The lowest byte of a number.
 fn low(n: usize) -> u8
@@ -43,4 +59,17 @@ pub fn set_head(room: &mut [u8], at: usize, size: usize, kind: usize)
 {
     let bytes = head_of(size, kind);
     base::copy_from_slice(room, at, &bytes);
+}
+
+// A block's start, and its end, likewise.
+pub fn set_start(room: &mut [u8], at: usize, b: Block)
+    ensures { room.new ≡ overwritten room.old at (start b) }
+{
+    set_head(room, at, 0, start_kind(b));
+}
+
+pub fn set_end(room: &mut [u8], at: usize, b: Block)
+    ensures { room.new ≡ overwritten room.old at (end b) }
+{
+    set_head(room, at, 0, end_kind(b));
 }

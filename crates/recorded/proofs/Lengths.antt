@@ -3,7 +3,7 @@ use Rattle.std.proofs.KnownBytes.{Consumes-trans}
 use Rattle.std.specs.Io.KnownBytes.{Consumes}
 use Rattle.std.specs.Prelude.{Option}
 use lib.Seq.{take-append_seam}
-use Rattle.recorded.specs.Spoken.{ReadsFull}
+use Rattle.program.specs.Spoken.{ReadsInput}
 use lib.ListN.{length-append}
 use Rattle.std.proofs.Common.{subst, take_all, ◌≡◌, ◌≢◌, ℕ, ◌≤◌, List, [], ◌∷◌, ◌++◌, Bool, true, false, refl, sym, ap, ◌∙◌, arith, length, take, get_or}
 use Rattle.std.specs.Prelude.{ltb}
@@ -61,5 +61,5 @@ case_read old mid new number part rest n is size long first second = (
 )
 
 -- A buffer that a read filled has what was read.
-pub whole_read : (old new : Option (List ℕ)) (buffer : List ℕ) (n : ℕ) → ReadsFull old new buffer n → length buffer ≤ n → Consumes old new buffer
+pub whole_read : (old new : Option (List ℕ)) (buffer : List ℕ) (n : ℕ) → ReadsInput old new buffer n → length buffer ≤ n → Consumes old new buffer
 whole_read old new buffer n h full = subst (Consumes old new) (take_all n buffer full) h.1

@@ -1,3 +1,3 @@
 mod Names
-pub mod Cases
 pub mod Lengths
+pub mod Running

@@ -1,10 +1,15 @@
 -- A list of cases, as oracle/src/cases.rs says its form: numbers, a call, its document and its answer, and a room before a call. No rule
 -- of 01 stands here.
-use Rattle.std.specs.Prelude.{ℕ, ◌+◌, ◌*◌, ◌%◌, Bool, ◌&&◌, List, ltb, eqb, length, take, drop, get_or, set}
+use Rattle.std.specs.Prelude.{◌≡◌, ◌<◌, Result, MatchResult, ℕ, ◌+◌, ◌*◌, ◌%◌, Bool, ◌&&◌, List, ltb, eqb, length, take, drop, get_or, set}
 use Rattle.base.specs.Choice.{when◌then◌else◌}
 use Rattle.records.specs.Records.{little}
-use Rattle.compared.specs.InnerCompared.{filled_by, holds_by}
+use Rattle.compared.specs.InnerCompared.{filled_by, holds_by, is_rendered}
+use Rattle.std.specs.Prelude.{Result as Answer}
+use Rattle.refusal.specs.declared.Refusal.{Refusal}
 use Rattle.recorded.specs.declared.Call.{Call}
+use Rattle.recorded.specs.declared.operation.Operation.{Operation}
+use Rattle.recorded.specs.declared.operation.Operation.TheVariants as operation
+use Rattle.recorded.specs.declared.operation.UnknownCall.{UnknownCall}
 
 -- 'A number `n` is one byte below 255, or a byte 255 and then four bytes, the least first.' Where bytes are missing it is one that no
 -- answer has.
@@ -58,8 +63,42 @@ filled n document = filled_by pattern n document
 unfoldable pub keeps : List ℕ → List ℕ → Bool
 keeps room document = holds_by pattern room document
 
+-- a call that writes into a room answers as a case says: a number, 0 for a text, its length or the refusal's place, and the text
+abbrev pub is_made : Answer ℕ Refusal → List ℕ → List ℕ → Bool
+is_made made room answer = is_rendered made room (number_in answer) (number_in (past answer)) (past (past answer))
+
 -- one call more of those with its number, where that is counted, and up to 1,000,000
 unfoldable pub counted : List ℕ → List ℕ → List ℕ
 counted counts case =
     let call = get_or case 0 255 in
     when ltb call (length counts) && ltb (get_or counts call 0) 1_000_000 then set counts call (get_or counts call 0 + 1) else counts
+
+-- the number of a call in a list
+abbrev pub number_of : Operation → ℕ
+number_of operation.Check = 0
+number_of operation.Console = 1
+number_of operation.Html = 2
+number_of operation.HtmlStrict = 3
+number_of operation.Markdown = 4
+number_of operation.Roff = 5
+number_of operation.Write = 6
+number_of operation.Open = 7
+number_of operation.Close = 8
+number_of operation.Doc = 9
+number_of operation.EmDoc = 10
+number_of operation.Split = 11
+number_of operation.NextChunk = 12
+number_of operation.Tabstop = 13
+number_of operation.Join = 14
+number_of operation.Unjoin = 15
+number_of operation.JoinedCheck = 16
+number_of operation.JoinedConsole = 17
+number_of operation.JoinedHtml = 18
+number_of operation.JoinedHtmlStrict = 19
+number_of operation.JoinedMarkdown = 20
+number_of operation.JoinedRoff = 21
+number_of operation.Merge = 22
+
+-- the call with this number, or that none has it
+abbrev pub Decodes : ℕ → Result Operation UnknownCall → Type 0
+Decodes number r = MatchResult r (λ call. number_of call ≡ number) (λ e. (e.0 ≡ number) × (22 < number))

@@ -1,2 +1,3 @@
 pub mod InnerCases
+pub mod InnerTally
 pub mod Spoken

@@ -3,24 +3,29 @@
 
 #![tactic(auto)]
 
-ghost use Rattle.std.specs.Prelude.{◌≡◌, ◌<◌, ◌≤◌, length};
-ghost use Rattle.recorded.specs.InnerCases.{number_in, number_size, past as past_number, sized_of, call_of, document_of, answer_of, pattern, filled, keeps, counted};
+ghost use Rattle.std.specs.Prelude.{◌≡◌, ◌<◌, ◌≤◌, false, [], length};
+ghost use Rattle.std.specs.Fn.{FnOnceReturnsAtMut};
+ghost use Rattle.recorded.specs.InnerCases.{number_in, number_size, past as past_number, sized_of, call_of, document_of, answer_of};
+ghost use Rattle.recorded.specs.InnerCases.{pattern, filled, keeps, is_made, counted};
 
 use compared::byte_or;
+use refusal::Refusal;
 
 pub mod input;
+pub mod operation;
 pub mod output;
+pub mod tally;
 
 // How many calls there are: their numbers in a list are below this one.
-pub const CALLS: usize = 14;
+pub const CALLS: usize = 23;
 
-// The number that bytes begin with.
+// The number that bytes begin with. Where bytes are missing it is one that no answer has: an Option would be compared likewise at each use.
 pub fn number(bytes: &[u8]) -> usize
     ensures { (result ≡ number_in bytes.now) × (result < 0x1_0000_0000) }
 {
     let first = byte_or(bytes, 0, 255);
     if first < 255 {
-        return base::usize_from(first);
+        return usize::from(first);
     }
     if bytes.len() < 5 {
         return 0xFFFF_FFFF;
@@ -32,17 +37,24 @@ pub fn number(bytes: &[u8]) -> usize
 pub fn number_size(bytes: &[u8]) -> usize
     ensures { (result ≡ number_size bytes.now) × (result ≤ 5) }
 {
-    if byte_or(bytes, 0, 0) < 255 {
-        return 1;
-    }
-    5
+    if byte_or(bytes, 0, 0) < 255 { 1 } else { 5 }
 }
 
 // The bytes after it.
+#[tactic(auto, unfolding(crate::specs::InnerCases::past))]
 pub fn past<'a>(bytes: &'a [u8]) -> &'a [u8]
     ensures { result.now ≡ past_number bytes.now }
 {
     base::get_from(bytes, number_size(bytes))
+}
+
+// Both.
+pub fn split_number<'a>(bytes: &'a [u8]) -> (usize, &'a [u8])
+    ensures value { result.0 ≡ number_in bytes.now }
+    ensures below { result.0 < 0x1_0000_0000 }
+    ensures rest { result.1.now ≡ past_number bytes.now }
+{
+    (number(bytes), past(bytes))
 }
 
 // A call: its number in a list, its setting (width, style, block or place of a cursor), its flags, of which the first may be the ticks of a
@@ -58,6 +70,7 @@ pub struct Call {
 }
 
 // The call of a case.
+#[tactic(auto, unfolding(crate::specs::InnerCases::call_of))]
 pub fn call_of(case: &[u8]) -> Call
     ensures { result ≡ call_of case.now }
 {
@@ -82,6 +95,7 @@ fn sized<'a>(case: &'a [u8]) -> &'a [u8]
 }
 
 // The document of a case.
+#[tactic(auto, unfolding(crate::specs::InnerCases::document_of))]
 pub fn document_of<'a>(case: &'a [u8]) -> &'a [u8]
     ensures { result.now ≡ document_of case.now }
 {
@@ -90,6 +104,7 @@ pub fn document_of<'a>(case: &'a [u8]) -> &'a [u8]
 }
 
 // What a case has after its document.
+#[tactic(auto, unfolding(crate::specs::InnerCases::answer_of))]
 pub fn answer_of<'a>(case: &'a [u8]) -> &'a [u8]
     ensures { result.now ≡ answer_of case.now }
 {
@@ -108,35 +123,47 @@ fn pattern_at(i: usize) -> u8
 pub fn fill(room: &mut [u8], document: &[u8])
     ensures { room.new ≡ filled (length room.old) document.now }
 {
-    let mut i: usize = 0;
-    while i < room.len() {
-        room[i] = byte_or(document, i, pattern_at(i));
-        i += 1;
+    for (i, b) in room.iter_mut().enumerate() {
+        *b = byte_or(document, i, pattern_at(i));
     }
 }
 
 // Whether a room holds a document, and after it what it held before.
+#[tactic(auto, unfolding(crate::specs::InnerCases::keeps))]
 pub fn keeps(room: &[u8], document: &[u8]) -> bool
     ensures { result ≡ keeps room.now document.now }
 {
-    let mut i: usize = 0;
-    while i < room.len() {
-        if room[i] != byte_or(document, i, pattern_at(i)) {
-            return false;
-        }
-        i += 1;
+    compared::holds_by(room, document, pattern_at)
+}
+
+// Whether a call that writes into a room answers as a case says: a number, 0 for a text, its length or the refusal's place, and the text.
+pub fn makes<F: FnOnce(&mut [u8]) -> Result<usize, Refusal>>(
+    size: usize,
+    answer: &[u8],
+    make: F,
+) -> bool
+    requires { F.IsAlwaysCallable make }
+    ensures large { 65536 < size → result ≡ false }
+    ensures fits { size ≤ 65536 → (made : _) × (r : _) × FnOnceReturnsAtMut F.FnOnce make (filled size []) made r × (result ≡ is_made made r answer.now) }
+{
+    let mut space = [0u8; 65536];
+    if space.len() < size {
+        return false;
     }
-    document.len() <= room.len()
+    let room = &mut space[..size];
+    fill(room, b"");
+    let made = make(room);
+    let (number, placed) = split_number(answer);
+    let (at, text) = split_number(placed);
+    compared::is_rendered(made, room, number, at, text)
 }
 
 // One call more of those with its number.
 pub fn count(counts: &mut [u64], case: &[u8])
     ensures { counts.new ≡ counted counts.old case.now }
 {
-    let call = base::usize_from(byte_or(case, 0, 255));
-    if call < counts.len() {
-        if counts[call] < 1_000_000 {
-            counts[call] += 1;
-        }
+    let call = usize::from(byte_or(case, 0, 255));
+    if call < counts.len() && counts[call] < 1_000_000 {
+        counts[call] += 1;
     }
 }

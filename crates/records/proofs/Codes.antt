@@ -8,7 +8,7 @@ use Rattle.base.proofs.Bytes.{all_at}
 use Rattle.records.specs.declared.Style.TheVariants as style
 use Rattle.records.specs.declared.Block.TheVariants as block
 use Rattle.records.specs.declared.Kind.TheVariants as kind
-use Rattle.records.proofs.Reading.{kind_text, kind_0}
+use Rattle.records.proofs.Reading.{kind_text, kind_low}
 use Rattle.records.proofs.Tables.{kind_opens, kind_closes}
 
 nth_index : (j : ℕ) → j < 12 → index (get_or blocks j block.Header) ≡ j
@@ -39,7 +39,7 @@ module _ (k : ℕ) where
   pub text-low : k ≤ 5 → ltb 0 k ≡ is_text (kind_of k)
   text-low l =
       ⊎_elim (λ (h : 1 ≤ k). lt-ltb 0 k (omega arith) ∙ ap is_text (kind_text k (get_or styles (k - 1) style.Text) h l refl))
-      (λ (h : k < 1). le-ltb 0 k (omega arith) ∙ ap is_text (kind_0 k h)) (le_or_lt 1 k)
+      (λ (h : k < 1). le-ltb 0 k (omega arith) ∙ ap is_text (kind_low k (λ z. omega (arith, z)) (omega arith))) (le_or_lt 1 k)
 
   pub text-high : 5 < k → false ≡ is_text (kind_of k)
   text-high h = sym (not_so _ (λ e. let z : ⊥ = omega (arith, (text-code e).1) in absurd z))

@@ -3,6 +3,8 @@ use Rattle.records.proofs.Names.{ℕ, suc, ◌+◌, ◌-◌, ◌*◌, ◌≤◌,
 use Rattle.records.proofs.Names.{take, drop, get_or, length-drop, drop_of_length-le, get_or-eq_default, drop-drop, arith, le_refl, add-zero, lt-ltb}
 use Rattle.records.proofs.Names.{le-ltb, le-leb, lt-leb, leb-true, when◌then◌else◌, and_left, and_right, if_true, if_false, Token, little, styles}
 use Rattle.records.proofs.Names.{blocks, kind_of, size, token_at, tokens_from, record_fits, token_of, Read, Kind, Block, Style, Head}
+use mathlib.Core.Logic.{⊎_elim}
+use Rattle.base.proofs.Choice.{le_or_lt}
 use lib.Seq.{get_or-drop, take_all, take-nil, length-take-le}
 use Rattle.base.specs.Bytes.{part}
 use Rattle.records.specs.declared.Kind.TheVariants as kind
@@ -64,13 +66,13 @@ module _ (k : ℕ) where
         le-leb k 0x020B j,
       ) (ap kind.End e)
 
-  pub kind_0 : k < 1 → kind.Unknown ≡ kind_of k
+  pub kind_low : (1 ≤ k → 5 < k) → k < 0x0100 → kind.Unknown ≡ kind_of k
   unfolding kind_of when◌then◌else◌
-  kind_0 h = rw (lt-leb 1 k h, lt-leb 0x0100 k (omega arith), lt-leb 0x0200 k (omega arith))
-
-  pub kind_1 : 5 < k → k < 0x0100 → kind.Unknown ≡ kind_of k
-  unfolding kind_of when◌then◌else◌
-  kind_1 h j = rw (le-leb 1 k (omega arith), lt-leb k 5 h, lt-leb 0x0100 k j, lt-leb 0x0200 k (omega arith))
+  kind_low h j =
+      ⊎_elim
+      (λ (z : 1 ≤ k). rw (le-leb 1 k z, lt-leb k 5 (h z), lt-leb 0x0100 k j, lt-leb 0x0200 k (omega arith)))
+      (λ (z : k < 1). rw (lt-leb 1 k z, lt-leb 0x0100 k (omega arith), lt-leb 0x0200 k (omega arith)))
+      (le_or_lt 1 k)
 
   pub kind_2 : 0x010B < k → k < 0x0200 → kind.Unknown ≡ kind_of k
   unfolding kind_of when◌then◌else◌
@@ -119,7 +121,8 @@ module _ (s : List ℕ) (at : ℕ) where
   -- .. whose kind is the number 0
   pub read-past-raw : length s ≤ at → Read s at (record { kind = kind_of 0; start = length s; stop = length s; next = length s })
   read-past-raw h =
-      subst (λ (k : Kind). Read s at (record { kind = k; start = length s; stop = length s; next = length s })) (kind_0 0 (omega arith)) (read_past h)
+      subst (λ (k : Kind). Read s at (record { kind = k; start = length s; stop = length s; next = length s }))
+      (kind_low 0 (λ z. omega (arith, z)) (omega arith)) (read_past h)
 
   module _ (k : Kind) (h : at < length s) (ek : k ≡ kind_of (little (take 2 (drop (at + 4) s)))) where
     listed_here : (start next : ℕ) → start ≡ at + length (take 6 (drop at s)) → part s start next ≡ take (size (drop at s)) (drop (at + 6) s)

@@ -1,5 +1,6 @@
 -- The tables of styles and blocks agree with their numbers and indices. Assumes nothing.
-use Rattle.records.proofs.Names.{◌+◌, ◌<◌, ◌≡◌, refl, when◌then◌else◌, styles, blocks, number, index, kind_of, Style, Block, arith}
+use borrow.Author.Tests.{ne_eqb}
+use Rattle.records.proofs.Names.{ℕ, ◌+◌, ◌<◌, ◌≡◌, ◌∙◌, ap, sym, eqb, false, refl, when◌then◌else◌, styles, blocks, number, index, kind_of, Style, Block, arith}
 use Rattle.records.specs.declared.Style.TheVariants as style
 use Rattle.records.specs.declared.Block.TheVariants as block
 use Rattle.records.specs.declared.Kind.TheVariants as kind
@@ -41,6 +42,15 @@ kind_closes block.InlineBlock = refl
 kind_closes block.TermRef = refl
 kind_closes block.Meta = refl
 kind_closes block.Mono = refl
+
+-- a block is told by its index
+pub index-injective : (b d : Block) → index b ≡ index d → b ≡ d
+index-injective b d e =
+    let f : kind.Start b ≡ kind.Start d = sym (kind_opens b) ∙ ap (λ (n : ℕ). kind_of (0x0100 + n)) e ∙ kind_opens d in
+    cc
+
+pub index-apart : (b d : Block) → (b ≡ d → ⊥) → eqb (index b) (index d) ≡ false
+index-apart b d h = ne_eqb (index b) (index d) (λ e. h (index-injective b d e))
 
 pub index_small : (b : Block) → index b < 12
 index_small block.Header = omega arith

@@ -3,13 +3,15 @@
 #![tactic(auto)]
 
 ghost use Rattle.std.specs.Prelude.{◌≡◌, true, ◌+◌, ◌<◌, ◌≤◌, ◌^◌, length, take, drop, get_or};
-ghost use Rattle.records.specs.Records.{little, styles, blocks, number, index, kind_of, record_fits, is_start, is_end};
+ghost use Rattle.records.specs.Records.{little, number, index, kind_of, record_fits};
+ghost use Rattle.records.specs.Numbered.{StyleNumbered, BlockNumbered};
+ghost use Rattle.std.specs.Iterator.{YieldsFirstBy, item_count};
+ghost use Rattle.records.specs.Records.{tokens, tokens_from};
 ghost use Rattle.records.specs.Answers.{head_of, Read};
-ghost use Rattle.records.specs.declared.Style.TheVariants as style;
-ghost use Rattle.records.specs.declared.Block.TheVariants as block;
+ghost use Rattle.records.specs.Listed.{token, left};
 
 // Style of a text record, in the order of its kind.
-#[derive(Clone, Copy)]
+#[derive(Clone, Copy, Debug, PartialEq, Eq)]
 pub enum Style {
     Text,
     Emphasis,
@@ -19,7 +21,7 @@ pub enum Style {
 }
 
 // A block, in the order of its index.
-#[derive(Clone, Copy)]
+#[derive(Clone, Copy, Debug, PartialEq, Eq)]
 pub enum Block {
     Header,
     Section2,
@@ -36,7 +38,7 @@ pub enum Block {
 }
 
 // What a record's kind says.
-#[derive(Clone, Copy)]
+#[derive(Clone, Copy, Debug, PartialEq, Eq)]
 pub enum Kind {
     Text(Style),
     Start(Block),
@@ -61,111 +63,109 @@ pub struct Raw {
     pub next: usize,
 }
 
-// A block's index.
-pub fn index_of(b: Block) -> usize
-    ensures { result ≡ index b }
-{
-    match b {
-        Block::Header => 0,
-        Block::Section2 => 1,
-        Block::Section3 => 2,
-        Block::Section4 => 3,
-        Block::ItemTerm => 4,
-        Block::ItemBody => 5,
-        Block::DefinitionList => 6,
-        Block::Block => 7,
-        Block::InlineBlock => 8,
-        Block::TermRef => 9,
-        Block::Meta => 10,
-        Block::Mono => 11,
+// A number that no style or block has.
+#[derive(Clone, Copy, Debug, PartialEq, Eq)]
+pub struct UnknownNumber {
+    pub number: usize,
+}
+
+impl Style {
+    // The kind of its text.
+    pub fn number(self) -> usize
+        ensures { result ≡ number self }
+    {
+        match self {
+            Style::Text => 0x0001,
+            Style::Emphasis => 0x0002,
+            Style::Literal => 0x0003,
+            Style::Metavar => 0x0004,
+            Style::Invalid => 0x0005,
+        }
     }
 }
 
-// The kind of text in a style.
-pub fn number_of(s: Style) -> usize
-    ensures { result ≡ number s }
-{
-    match s {
-        Style::Text => 0x0001,
-        Style::Emphasis => 0x0002,
-        Style::Literal => 0x0003,
-        Style::Metavar => 0x0004,
-        Style::Invalid => 0x0005,
+// The style whose text has a kind.
+impl TryFrom<usize> for Style {
+    type Error = UnknownNumber;
+
+    ghost try_from_gives = { StyleNumbered };
+
+    fn try_from(kind: usize) -> Result<Style, UnknownNumber> {
+        match kind {
+            0x0001 => Ok(Style::Text),
+            0x0002 => Ok(Style::Emphasis),
+            0x0003 => Ok(Style::Literal),
+            0x0004 => Ok(Style::Metavar),
+            0x0005 => Ok(Style::Invalid),
+            _ => Err(UnknownNumber { number: kind }),
+        }
     }
 }
 
-// The style with the kind i + 1.
-fn style_of(i: usize) -> Style
-    ensures { i < 5 → result ≡ get_or styles i style.Text }
-{
-    match i {
-        0 => Style::Text,
-        1 => Style::Emphasis,
-        2 => Style::Literal,
-        3 => Style::Metavar,
-        _ => Style::Invalid,
+impl Block {
+    pub fn index(self) -> usize
+        ensures { result ≡ index self }
+    {
+        match self {
+            Block::Header => 0,
+            Block::Section2 => 1,
+            Block::Section3 => 2,
+            Block::Section4 => 3,
+            Block::ItemTerm => 4,
+            Block::ItemBody => 5,
+            Block::DefinitionList => 6,
+            Block::Block => 7,
+            Block::InlineBlock => 8,
+            Block::TermRef => 9,
+            Block::Meta => 10,
+            Block::Mono => 11,
+        }
     }
 }
 
-// The blocks with the indices 0 to 5.
-fn low_block(i: usize) -> Block
-    ensures { i < 6 → result ≡ get_or blocks i block.Header }
-{
-    match i {
-        0 => Block::Header,
-        1 => Block::Section2,
-        2 => Block::Section3,
-        3 => Block::Section4,
-        4 => Block::ItemTerm,
-        _ => Block::ItemBody,
-    }
-}
+// The block with an index.
+impl TryFrom<usize> for Block {
+    type Error = UnknownNumber;
 
-// The blocks with the indices 6 to 11.
-fn high_block(i: usize) -> Block
-    ensures { i < 6 → result ≡ get_or blocks (i + 6) block.Header }
-{
-    match i {
-        0 => Block::DefinitionList,
-        1 => Block::Block,
-        2 => Block::InlineBlock,
-        3 => Block::TermRef,
-        4 => Block::Meta,
-        _ => Block::Mono,
-    }
-}
+    ghost try_from_gives = { BlockNumbered };
 
-// The block with the index i.
-fn block_of(i: usize) -> Block
-    ensures { i < 12 → result ≡ get_or blocks i block.Header }
-{
-    if i < 6 {
-        return low_block(i);
+    fn try_from(index: usize) -> Result<Block, UnknownNumber> {
+        match index {
+            0 => Ok(Block::Header),
+            1 => Ok(Block::Section2),
+            2 => Ok(Block::Section3),
+            3 => Ok(Block::Section4),
+            4 => Ok(Block::ItemTerm),
+            5 => Ok(Block::ItemBody),
+            6 => Ok(Block::DefinitionList),
+            7 => Ok(Block::Block),
+            8 => Ok(Block::InlineBlock),
+            9 => Ok(Block::TermRef),
+            10 => Ok(Block::Meta),
+            11 => Ok(Block::Mono),
+            _ => Err(UnknownNumber { number: index }),
+        }
     }
-    high_block(i - 6)
 }
 
 // What a record's two-byte kind says.
 pub fn kind_of(k: usize) -> Kind
     ensures { result ≡ kind_of k }
 {
-    if k < 0x0001 {
-        return Kind::Unknown;
-    }
-    if k <= 0x0005 {
-        return Kind::Text(style_of(k - 0x0001));
+    if let Ok(s) = Style::try_from(k) {
+        return Kind::Text(s);
     }
     if k < 0x0100 {
         return Kind::Unknown;
     }
-    if k <= 0x010B {
-        return Kind::Start(block_of(k - 0x0100));
+    if let Ok(b) = Block::try_from(k - 0x0100) {
+        return Kind::Start(b);
     }
     if k < 0x0200 {
         return Kind::Unknown;
     }
-    if k <= 0x020B {
-        return Kind::End(block_of(k - 0x0200));
+    if let Ok(b) = Block::try_from(k - 0x0200) {
+        return Kind::End(b);
     }
     Kind::Unknown
 }
@@ -175,7 +175,7 @@ fn whole_two(bytes: &[u8], at: usize) -> usize
     requires { at + 2 ≤ length bytes.now }
     ensures { (result ≡ little (take 2 (drop at bytes.now))) × (result < 65536) }
 {
-    base::usize_from(bytes[at]) + 256 * base::usize_from(bytes[at + 1])
+    usize::from(bytes[at]) + 256 * usize::from(bytes[at + 1])
 }
 
 // The number in the four bytes at `at`, which are there.
@@ -194,7 +194,7 @@ pub fn two(bytes: &[u8], at: usize) -> usize
         return 0;
     }
     if bytes.len() - at < 2 {
-        return base::usize_from(bytes[at]);
+        return usize::from(bytes[at]);
     }
     whole_two(bytes, at)
 }
@@ -330,26 +330,57 @@ pub fn fits_at(document: &[u8], at: usize) -> bool
     whole_four(document, at) <= left - 6
 }
 
-// Whether a record is the start of the block with an index.
-pub fn is_start(k: Kind, i: usize) -> bool
-    ensures { result ≡ is_start i k }
-{
-    match k {
-        Kind::Text(_) => false,
-        Kind::Start(b) => index_of(b) == i,
-        Kind::End(_) => false,
-        Kind::Unknown => false,
+// A record of a document: where it stands, where its body starts, its kind and its body.
+#[derive(Clone, Copy)]
+pub struct Record<'a> {
+    pub place: usize,
+    pub start: usize,
+    pub kind: Kind,
+    pub body: &'a [u8],
+}
+
+// The records of a document that are left, in order.
+#[derive(Clone, Copy)]
+pub struct Records<'a> {
+    pub document: &'a [u8],
+    pub at: usize,
+}
+
+impl<'a> Iterator for Records<'a> {
+    type Item = Record<'a>;
+
+    ghost next_gives = { YieldsFirstBy token left };
+
+    ghost remaining = { item_count left };
+
+    fn next(&mut self) -> Option<Record<'a>> {
+        let place = self.at;
+        if self.document.len() <= place {
+            return None;
+        }
+        let h = record_at(self.document, place);
+        self.at = h.next;
+        Some(Record {
+            place,
+            start: h.start,
+            kind: h.kind,
+            body: &self.document[h.start..h.stop],
+        })
     }
 }
 
-// Whether it is its end.
-pub fn is_end(k: Kind, i: usize) -> bool
-    ensures { result ≡ is_end i k }
-{
-    match k {
-        Kind::Text(_) => false,
-        Kind::Start(_) => false,
-        Kind::End(b) => index_of(b) == i,
-        Kind::Unknown => false,
+impl<'a> Records<'a> {
+    // The records of a document.
+    pub fn of(document: &'a [u8]) -> Records<'a>
+        ensures { left result ≡ tokens 0 0 document.now }
+    {
+        Records { document, at: 0 }
+    }
+
+    // Those from a place on.
+    pub fn from_place(document: &'a [u8], at: usize) -> Records<'a>
+        ensures { left result ≡ tokens_from document.now at }
+    {
+        Records { document, at }
     }
 }

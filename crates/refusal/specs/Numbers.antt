@@ -1,5 +1,5 @@
 -- 01, 'Refused documents', and the refusals of 02's requests: the number and the place of each.
-use Rattle.std.specs.Prelude.{ℕ}
+use Rattle.std.specs.Prelude.{ℕ, List, ◌++◌, codes, decimal}
 use Rattle.refusal.specs.declared.Refusal.{Refusal}
 use Rattle.refusal.specs.declared.Refusal.TheVariants as refusal
 
@@ -62,3 +62,7 @@ refusal_place refusal.NoPage = 0
 -- 02, point 14: 'both with place 0'
 refusal_place refusal.NotAList = 0
 refusal_place refusal.NotAscending = 0
+
+-- `refused 6 at 0`: the number, then the place
+abbrev pub refusal_text : Refusal → List ℕ
+refusal_text a = codes "refused " ++ (decimal (refusal_number a) ++ (codes " at " ++ decimal (refusal_place a)))

@@ -6,7 +6,9 @@ pub use Rattle.base.specs.Result.{Result, gives, measured, refused}
 unfoldable pub use Rattle.base.specs.Result.{◌>>=◌}
 pub use Rattle.renderer.specs.Walk.{Page, Turn, last, page, with_out}
 unfoldable pub use Rattle.renderer.specs.Walk.{body, shown, walk, write}
-pub use Rattle.renderer.specs.declared.Rendered.{Rendered}
+pub use Rattle.std.specs.Prelude.{Err, Ok}
+pub use Rattle.std.specs.Prelude.{Result as Answer}
+pub use Rattle.refusal.specs.Answers.{answered}
 pub use Rattle.room.proofs.Laws.{padded-none, seen_in, seen-out}
 pub use Rattle.room.specs.Room.{extended, padded, seen}
 pub use Rattle.splitter.specs.Split.{Chunk, Placed, line_break, paragraph, raw}

@@ -12,20 +12,13 @@ ghost use Rattle.room.specs.Room.{seen};
 use refusal::Refusal;
 use splitter::Piece;
 
-// The length of the text that stands in the room, or the refusal.
-#[derive(Clone, Copy)]
-pub enum Rendered {
-    Text(usize),
-    Refused(Refusal),
-}
-
 // Zeros beyond the text, or everywhere after a refusal.
-pub fn clear_after(room: &mut [u8], answer: Rendered)
+pub fn clear_after(room: &mut [u8], answer: Result<usize, Refusal>)
     ensures { room.new ≡ filled (length room.old) (standing room.old answer) }
 {
     match answer {
-        Rendered::Text(n) => room::clear_from(room, n),
-        Rendered::Refused(_) => room::clear_from(room, 0),
+        Ok(n) => room::clear_from(room, n),
+        Err(_) => room::clear_from(room, 0),
     }
 }
 
@@ -34,31 +27,29 @@ pub fn ends_body(piece: Piece, full: bool) -> bool
     ensures { (body : List ℕ) → result ≡ last full (chunk_of body piece) }
 {
     match piece {
-        Piece::Raw(_, _, _) => false,
-        Piece::Space(_) => false,
         Piece::Paragraph(_) => !full,
-        Piece::LineBreak(_) => false,
+        _ => false,
     }
 }
 
 // The answer for a text up to a length: 13 where that has passed the room.
-pub fn answer(room: &[u8], len: usize) -> Rendered
+pub fn answer(room: &[u8], len: usize) -> Result<usize, Refusal>
     ensures text { standing room.now result ≡ seen room.now len }
     ensures inside { Inside (length room.now) result }
 {
     if room.len() < len {
-        return Rendered::Refused(Refusal::NoRoom);
+        return Err(Refusal::NoRoom);
     }
-    Rendered::Text(len)
+    Ok(len)
 }
 
 // Refusal 11 at a place, unless 13 was met before.
-pub fn no_form(room: &[u8], len: usize, at: usize) -> Rendered
+pub fn no_form(room: &[u8], len: usize, at: usize) -> Result<usize, Refusal>
     ensures text { standing room.now result ≡ bind (seen room.now len) (λ _. refused 11 at) }
     ensures inside { Inside (length room.now) result }
 {
     if room.len() < len {
-        return Rendered::Refused(Refusal::NoRoom);
+        return Err(Refusal::NoRoom);
     }
-    Rendered::Refused(Refusal::NoForm(at))
+    Err(Refusal::NoForm(at))
 }

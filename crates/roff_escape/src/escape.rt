@@ -101,11 +101,8 @@ pub fn starts_line(mode: Escape, c: u8) -> bool
     ensures { result ≡ starts_line mode c }
 {
     match mode {
-        Escape::UnescapedAtNewline => c == b'\n',
-        Escape::Spaces => c == b'\n',
-        Escape::Special => c == b'\n',
         Escape::SpecialNoNewline => false,
-        Escape::Unescaped => c == b'\n',
+        _ => c == b'\n',
     }
 }
 
@@ -116,12 +113,9 @@ pub fn escape_bytes(room: &mut [u8], len: usize, mode: Escape, start: bool, byte
 {
     let mut n = len;
     let mut fresh = start;
-    let mut i: usize = 0;
-    while i < bytes.len() {
-        let c = bytes[i];
+    for &c in bytes {
         n = put_byte(room, n, mode, fresh, c);
         fresh = starts_line(mode, c);
-        i += 1;
     }
     Payload { len: n, fresh }
 }
@@ -131,10 +125,7 @@ fn is_plain(c: u8) -> bool
     ensures { result ≡ plain c }
 {
     match c {
-        b'\n' => false,
-        b'\'' => false,
-        b'-' => false,
-        b'\\' => false,
+        b'\n' | b'\'' | b'-' | b'\\' => false,
         _ => true,
     }
 }
@@ -143,10 +134,7 @@ fn is_plain(c: u8) -> bool
 fn plain_here(fresh: bool, c: u8) -> bool
     ensures { result ≡ (not fresh && plain c) }
 {
-    if fresh {
-        return false;
-    }
-    is_plain(c)
+    !fresh && is_plain(c)
 }
 
 // Copies 32 bytes; says how many of them are before the first that is not plain. A local block stands between, since a compiler cannot tell
@@ -163,6 +151,7 @@ fn copy_block(room: &mut [u8], len: usize, bytes: &[u8], at: usize) -> usize
 }
 
 // Copies the plain bytes from a place up to another one by one, as many as fit; says where it stopped.
+// A place in the text and one in the room move on together, and either may end first: a `for` over the one leaves the other to count.
 fn copy_bytes(room: &mut [u8], len: usize, bytes: &[u8], at: usize, stop: usize) -> usize
     requires { stop ≤ length bytes.now }
     ensures { Copies (take stop bytes.now) at len room.old room.new result }
@@ -171,10 +160,7 @@ fn copy_bytes(room: &mut [u8], len: usize, bytes: &[u8], at: usize, stop: usize)
     let mut n = len;
     while i < stop {
         let c = bytes[i];
-        if !is_plain(c) {
-            return i;
-        }
-        if room.len() <= n {
+        if !is_plain(c) || room.len() <= n {
             return i;
         }
         room[n] = c;
@@ -185,7 +171,7 @@ fn copy_bytes(room: &mut [u8], len: usize, bytes: &[u8], at: usize, stop: usize)
 }
 
 // Copies the plain bytes from a place up to another, as many as fit; says where it stopped. Whole blocks are copied, also where the run ends
-// within one: what stands in the room past the length is free.
+// within one: what stands in the room past the length is free. The steps are of up to 32 bytes, so no `for`.
 fn copy_plain(room: &mut [u8], len: usize, bytes: &[u8], at: usize, stop: usize) -> usize
     requires { stop ≤ length bytes.now }
     ensures { Copies (take stop bytes.now) at len room.old room.new result }
@@ -196,10 +182,7 @@ fn copy_plain(room: &mut [u8], len: usize, bytes: &[u8], at: usize, stop: usize)
         if room.len() <= n {
             return i;
         }
-        if room.len() - n < 32 {
-            return copy_bytes(room, n, bytes, i, stop);
-        }
-        if bytes.len() - i < 32 {
+        if room.len() - n < 32 || bytes.len() - i < 32 {
             return copy_bytes(room, n, bytes, i, stop);
         }
         let k = copy_block(room, n, bytes, i);
@@ -219,10 +202,7 @@ fn copy_plain(room: &mut [u8], len: usize, bytes: &[u8], at: usize, stop: usize)
 fn line_byte(strip: bool) -> u8
     ensures { result ≡ choose strip 0x20 0x0A }
 {
-    if strip {
-        return b' ';
-    }
-    b'\n'
+    if strip { b' ' } else { b'\n' }
 }
 
 // A byte of text, where line ends are stripped or not. Most that are not plain are hyphens.
@@ -239,13 +219,11 @@ fn put_text_byte(room: &mut [u8], len: usize, strip: bool, start: bool, c: u8) -
 fn starts_text_line(strip: bool, c: u8) -> bool
     ensures { result ≡ starts_line (text_mode strip) c }
 {
-    if strip {
-        return starts_line(Escape::SpecialNoNewline, c);
-    }
-    starts_line(Escape::Special, c)
+    !strip && c == b'\n'
 }
 
-// The bytes of a text from a place up to another, as `escape_bytes` writes them; most are plain, and those are copied by runs.
+// The bytes of a text from a place up to another, as `escape_bytes` writes them; most are plain, and those are copied by runs. The steps
+// are runs, so no `for`.
 pub fn escape_text(
     room: &mut [u8],
     len: usize,
@@ -258,7 +236,7 @@ pub fn escape_text(
     ensures text { seen room.new result.len ≡ bind (seen room.old len) (extended (length room.old) (escape (text_mode strip) start (part bytes.now from to))) }
     ensures line { result.fresh ≡ line_start (text_mode strip) start (part bytes.now from to) }
 {
-    let stop = base::min(to, bytes.len());
+    let stop = to.min(bytes.len());
     let mut n = len;
     let mut fresh = start;
     let mut i = from;

@@ -12,13 +12,7 @@ use crate::escape::{Escape, Payload};
 fn at_newline(mode: Escape) -> bool
     ensures { result ≡ at_newline mode }
 {
-    match mode {
-        Escape::UnescapedAtNewline => true,
-        Escape::Spaces => false,
-        Escape::Special => false,
-        Escape::SpecialNoNewline => false,
-        Escape::Unescaped => false,
-    }
+    matches!(mode, Escape::UnescapedAtNewline)
 }
 
 // A line end before what starts a line of its own.
@@ -26,37 +20,28 @@ fn new_line(room: &mut [u8], at: Payload, mode: Escape) -> Payload
     ensures text { seen room.new result.len ≡ bind (seen room.old at.len) (extended (length room.old) (line_end mode at.fresh)) }
     ensures line { result.fresh ≡ line_here mode at.fresh }
 {
-    if at.fresh {
+    if at.fresh || !at_newline(mode) {
         return at;
     }
-    if at_newline(mode) {
-        let len = room::put(room, at.len, b'\n');
-        return Payload { len, fresh: true };
-    }
-    at
+    let len = room::put(room, at.len, b'\n');
+    Payload { len, fresh: true }
 }
 
 // The modes in which every byte stays as it is.
 fn as_it_is(mode: Escape) -> bool
     ensures { result ≡ as_it_is mode }
 {
-    match mode {
-        Escape::UnescapedAtNewline => true,
-        Escape::Spaces => false,
-        Escape::Special => false,
-        Escape::SpecialNoNewline => false,
-        Escape::Unescaped => true,
-    }
+    matches!(mode, Escape::UnescapedAtNewline | Escape::Unescaped)
 }
 
 // Whether a line starts after bytes that stay as they are.
 fn ends_line(start: bool, bytes: &[u8]) -> bool
     ensures { result ≡ line_start unescaped start bytes.now }
 {
-    if bytes.len() == 0 {
-        return start;
+    match bytes.last() {
+        Some(&c) => c == b'\n',
+        None => start,
     }
-    bytes[bytes.len() - 1] == b'\n'
 }
 
 // `FreeMonoid::push_str`, escaped at once. Bytes that stay as they are go out in one write, which for a mark that is written out in the code

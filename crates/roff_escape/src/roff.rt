@@ -42,11 +42,7 @@ pub fn put_preamble(room: &mut [u8]) -> Roff
 pub fn strip_newlines(m: Roff, state: bool) -> Roff
     ensures { (result.len ≡ m.len) × (result.fresh ≡ m.fresh) × (result.strip ≡ state) }
 {
-    Roff {
-        len: m.len,
-        fresh: m.fresh,
-        strip: state,
-    }
+    Roff { strip: state, ..m }
 }
 
 // `self.payload.push_str`
@@ -61,7 +57,7 @@ pub fn push(room: &mut [u8], m: Roff, mode: Escape, bytes: &[u8]) -> Roff
     Roff {
         len: line.len,
         fresh: line.fresh,
-        strip: m.strip,
+        ..m
     }
 }
 
@@ -115,7 +111,7 @@ fn plaintext(room: &mut [u8], m: Roff, bytes: &[u8], from: usize, to: usize) -> 
     Roff {
         len: line.len,
         fresh: line.fresh,
-        strip: m.strip,
+        ..m
     }
 }
 

@@ -1,16 +1,18 @@
 -- Laws of a room and a length: what is seen, what a write adds, what clearing leaves, what the text ends with. Assumes nothing.
-use Rattle.room.proofs.Names.{◌≡◌, sym, ◌∙◌, [], ◌∷◌, ◌++◌, append-nil, ⊎_elim, ℕ, suc, ◌+◌, ◌-◌, ◌≤◌, ◌<◌, arith, add-one, length, take, drop, get_or}
-use Rattle.room.proofs.Names.{set, replicate, length-append, length-drop, length-replicate, replicate-append-replicate, length-take-le, take-suc-set}
+use Rattle.room.proofs.Names.{◌≡◌, sym, ◌∙◌, [], ◌++◌, append-nil, ⊎_elim, ℕ, ◌+◌, ◌-◌, ◌≤◌, ◌<◌, arith, length, take, drop}
+use Rattle.room.proofs.Names.{replicate, length-append, length-drop, length-replicate, length-take-le}
 use mathlib.Core.Path.{ap}
-use mathlib.Core.List.{List, append_assoc}
-use mathlib.Core.Bool.{false}
+use mathlib.Core.List.{List, ◌∷◌, append_assoc}
 use native.Mathlib.Nat.{sub-zero}
-use lib.Seq.{take-suc, take-take, take_all, take-append_seam}
+use lib.Seq.{take-suc, take-suc-set, drop-drop, take-take, take_all, take-append_seam}
+use lib.ListN.{drop_of_length-le, get_or, set}
+use native.Mathlib.Numerals.{add-one}
+use Prim.Native.Nat.{suc}
+use Prim.Native.Nat.{min}
 use borrow.Author.Tests.{le-leb, lt-leb}
 use Rattle.base.specs.Result.{gives, refused, ◌>>=◌}
-use Rattle.base.specs.Bytes.{starts_with, ends_with, overwritten}
+use Rattle.base.specs.Bytes.{overwritten}
 use Rattle.base.proofs.Choice.{if_true, if_false, le_or_lt}
-use Rattle.base.proofs.Parts.{part_end}
 use Rattle.base.proofs.Pasting.{overwritten-whole}
 use Rattle.white.specs.White.{trim}
 use Rattle.white.proofs.White.{trim_prefix, trim_shorter}
@@ -73,22 +75,22 @@ extended_twice limit a b x =
     (λ (h : limit < length x + length a). rw (extended-out limit a x h) (sym (extended-out limit (a ++ b) x (omega arith))))
     (le_or_lt (length x + length a) limit)
 
--- some bytes copied over the part of a room that they fill, from a length on
-module _ (old part x : List ℕ) (len k : ℕ) (size : k ≡ length x) (fits : len + length x ≤ length old)
-    (e : part ≡ overwritten (take k (drop len old)) 0 x) where
-  filled-part : part ≡ x
-  filled-part = e ∙ overwritten-whole (take k (drop len old)) x (length-take-le k (drop len old) (omega (arith, length-drop len old)) ∙ size)
-
+-- some bytes in place of the part of a room that they fill, from a length on
+module _ (old part x : List ℕ) (len k : ℕ) (size : k ≡ length x) (fits : len + length x ≤ length old) (e : part ≡ x) where
   pub part_length : length (take len old ++ (part ++ drop k (drop len old))) ≡ length old
-  part_length = rw filled-part (simp (length-append, length-drop) (omega (arith, length-take-le len old (omega arith))))
+  part_length = rw e (simp (length-append, length-drop) (omega (arith, length-take-le len old (omega arith))))
 
   pub part_wrote : take (len + length x) (take len old ++ (part ++ drop k (drop len old))) ≡ take len old ++ x
   part_wrote =
       let n : length (take len old ++ x) ≡ len + length x = rw length-append (ap (λ (m : ℕ). m + length x) (length-take-le len old (omega arith))) in
-      rw (filled-part, ← append_assoc, ← n) (take-append_seam (take len old ++ x) _)
+      rw (e, ← append_assoc, ← n) (take-append_seam (take len old ++ x) _)
 
--- Loops that write
+-- they were copied there
+pub copied : (old part x : List ℕ) (len k : ℕ) → k ≡ length x → len + length x ≤ length old → part ≡ overwritten (take k (drop len old)) 0 x → part ≡ x
+copied old part x len k size fits e =
+    e ∙ overwritten-whole (take k (drop len old)) x (length-take-le k (drop len old) (omega (arith, length-drop len old)) ∙ size)
 
+-- one more of some bytes was written
 pub copied_more : (old new bs : List ℕ) (at i : ℕ) → at + i < length new → i < length bs
     → take (at + i) new ≡ take at old ++ take i bs
     → take (at + (i + 1)) (set new (at + i) (get_or bs i 0)) ≡ take at old ++ take (i + 1) bs
@@ -96,24 +98,29 @@ copied_more old new bs at i h k e =
     let s : at + (i + 1) ≡ suc (at + i) = omega arith in
     rw (s, take-suc-set new (at + i) (get_or bs i 0) h, e, add-one i, take-suc bs i 0 k) (append_assoc (take at old) (take i bs) (get_or bs i 0 ∷ []))
 
-pub filled_more : (old new : List ℕ) (at i b : ℕ) → at + i < length new
-    → take (at + i) new ≡ take at old ++ replicate i b
-    → take (at + (i + 1)) (set new (at + i) b) ≡ take at old ++ replicate (i + 1) b
-filled_more old new at i b h e =
-    let s : at + (i + 1) ≡ suc (at + i) = omega arith in
-    rw (s, take-suc-set new (at + i) b h, e)
-    (append_assoc (take at old) (replicate i b) (b ∷ []) ∙ ap (λ (l : List ℕ). take at old ++ l) (replicate-append-replicate i 1 b))
+-- one byte was written to all of it
+pub filled : (old part : List ℕ) (len k b : ℕ) → len + k ≤ length old → part ≡ replicate (length (take k (drop len old))) b → part ≡ replicate k b
+filled old part len k b h e = e ∙ ap (λ (n : ℕ). replicate n b) (length-take-le k (drop len old) (omega (arith, length-drop len old)))
+
+pub spaced : (old part : List ℕ) (len n k : ℕ) → k ≡ n → len + n ≤ length old → part ≡ replicate (length (take k (drop len old))) 0x20
+    → seen (take len old ++ (part ++ drop k (drop len old))) (len + n) ≡ (seen old len >>= extended (length old) (replicate n 0x20))
+spaced old part len n k q h e =
+    let x : List ℕ = replicate n 0x20 in
+    let size : length x ≡ n = length-replicate n 0x20 in
+    let f : part ≡ x = rw q at (filled old part len k 0x20 (omega arith) e) in
+    let fits : len + length x ≤ length old = omega arith in
+    let w = part_wrote old part x len k (omega arith) fits f in
+    wrote old _ x len n size (part_length old part x len k (omega arith) fits f) h (rw size at w)
 
 -- Clearing
 
--- zeros from a place on
-pub cleared : (old new : List ℕ) (at : ℕ) → length new ≡ length old → at ≤ length old
-    → take (at + (length old - at)) new ≡ take at old ++ replicate (length old - at) 0
-    → new ≡ padded (length old) (take at old)
+-- zeros in place of all from a place on
+pub cleared : (old part : List ℕ) (at : ℕ) → at ≤ length old → part ≡ replicate (length old - at) 0
+    → take at old ++ (part ++ drop (length old - at) (drop at old)) ≡ padded (length old) (take at old)
 unfolding padded
-cleared old new at e h w =
-    let z : at + (length old - at) ≡ length old = omega arith in
-    sym (take_all (at + (length old - at)) new (omega arith)) ∙ w ∙ rw (length-take-le at old h)
+cleared old part at h e =
+    let z : length old ≤ at + (length old - at) = omega arith in
+    rw (e, drop-drop, drop_of_length-le old z, append-nil, length-take-le at old h)
 
 pub nothing-to_clear : (room : List ℕ) (at : ℕ) → length room ≤ at → room ≡ padded (length room) (take at room)
 unfolding padded
@@ -129,20 +136,13 @@ pub length-padded : (limit : ℕ) (x : List ℕ) → length x ≤ limit → leng
 unfolding padded
 length-padded limit x h = simp (length-append, length-replicate) (omega arith)
 
--- Ends
-
 -- the end that is looked at
-pub cut_over : (room : List ℕ) (len : ℕ) → length room < len → take len room ≡ take (length room) room
-cut_over room len h = take_all len room (omega arith) ∙ sym (take_all (length room) room (omega arith))
-
-module _ (room tail : List ℕ) (len to : ℕ) (same : take len room ≡ take to room) (inside : to ≤ length room) where
-  pub ends_short : to < length tail → ends_with tail (take len room) ≡ false
-  unfolding ends_with
-  ends_short k = rw (same, length-take-le to room inside, lt-leb (length tail) to k)
-
-  pub ends_in : length tail ≤ to → ends_with tail (take len room) ≡ starts_with tail (take (to - (to - length tail)) (drop (to - length tail) room))
-  unfolding ends_with
-  ends_in k = rw (same, length-take-le to room inside, le-leb (length tail) to k, part_end to (to - length tail) room)
+pub cut : (room : List ℕ) (len : ℕ) → take (min len (length room)) room ≡ take len room
+cut room len =
+    ⊎_elim (λ (h : len ≤ length room). let e : min len (length room) ≡ len = omega arith in rw e)
+    (λ (h : length room < len).
+    let e : min len (length room) ≡ length room = omega arith in
+    rw e (take_all (length room) room (omega arith) ∙ sym (take_all len room (omega arith)))) (le_or_lt len (length room))
 
 -- Trimming
 

@@ -25,37 +25,22 @@ pub fn put(room: &mut [u8], len: usize, byte: u8) -> usize
 pub fn put_all(room: &mut [u8], len: usize, bytes: &[u8]) -> usize
     ensures { seen room.new result ≡ bind (seen room.old len) (extended (length room.old) bytes.now) }
 {
-    if len <= room.len() {
-        if bytes.len() <= room.len() - len {
-            let to = len + bytes.len();
-            base::copy_from_slice(&mut room[len..to], 0, bytes);
-            return to;
-        }
+    if len <= room.len() && bytes.len() <= room.len() - len {
+        let to = len + bytes.len();
+        // a part of the room is lent, for which fewer instructions run than for the whole from `len` on
+        base::copy_from_slice(&mut room[len..to], 0, bytes);
+        return to;
     }
     room.len() + 1
-}
-
-// One byte `n` times into a room from `at` on, where they fit.
-fn fill_at(room: &mut [u8], at: usize, n: usize, byte: u8)
-    requires { at + n ≤ length room.old }
-    ensures { take (at + n) room.new ≡ take at room.old ++ replicate n byte }
-{
-    let mut k: usize = 0;
-    while k < n {
-        room[at + k] = byte;
-        k += 1;
-    }
 }
 
 // Some spaces more.
 pub fn put_spaces(room: &mut [u8], len: usize, n: usize) -> usize
     ensures { seen room.new result ≡ bind (seen room.old len) (extended (length room.old) (replicate n 0x20)) }
 {
-    if len <= room.len() {
-        if n <= room.len() - len {
-            fill_at(room, len, n, b' ');
-            return len + n;
-        }
+    if len <= room.len() && n <= room.len() - len {
+        room[len..len + n].fill(b' ');
+        return len + n;
     }
     room.len() + 1
 }
@@ -65,31 +50,16 @@ pub fn clear_from(room: &mut [u8], at: usize)
     ensures { room.new ≡ padded (length room.old) (take at room.old) }
 {
     if at < room.len() {
-        let n = room.len() - at;
-        fill_at(room, at, n, 0);
+        room[at..].fill(0);
     }
-}
-
-// A length, or the room's where it is past that.
-fn within(room: &[u8], len: usize) -> usize
-    ensures { (result ≤ length room.now) × (take len room.now ≡ take result room.now) }
-{
-    if room.len() < len {
-        return room.len();
-    }
-    len
 }
 
 // Whether the bytes up to a length end with some others.
 pub fn ends_with(room: &[u8], len: usize, tail: &[u8]) -> bool
     ensures { result ≡ ends_with tail.now (take len room.now) }
 {
-    let to = within(room, len);
-    if to < tail.len() {
-        return false;
-    }
-    let from = to - tail.len();
-    base::starts_with(&room[from..to], 0, tail)
+    let to = len.min(room.len());
+    room[..to].ends_with(tail)
 }
 
 // 'trimming lowers the length': the length without the White_Space at the text's end.

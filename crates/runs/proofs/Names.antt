@@ -3,13 +3,13 @@ pub use Prim.Native.Nat.{◌+◌, ◌-◌, ◌<◌, ◌≤◌, min, suc, zero, �
 pub use Rattle.base.proofs.Choice.{if_false, if_true, le_or_lt, pick}
 unfoldable pub use Rattle.base.specs.Choice.{when◌then◌else◌}
 pub use Rattle.runs.specs.InnerRuns.{Reached}
-unfoldable pub use Rattle.runs.specs.InnerRuns.{among, any}
+unfoldable pub use Rattle.runs.specs.InnerRuns.{among}
 pub use borrow.Author.Rules.{rules}
-pub use borrow.Author.Tests.{eq-eqb, le-leb, lt-leb, ne_eqb}
+pub use borrow.Author.Tests.{le-leb, lt-leb}
 pub use lib.ListN.{drop, get_or, length, length-append, length-drop, take, take-append-drop}
-pub use lib.Seq.{drop-drop, get_or-drop, get_or-take, length-take-le, take-suc}
+pub use lib.Seq.{drop-drop, get_or-drop, get_or-take, length-take-le}
 pub use mathlib.Core.Bool.{Bool, ◌||◌, false, false≢true, true}
 pub use mathlib.Core.List.{List, [], ◌++◌, ◌∷◌}
 pub use mathlib.Core.Logic.{◌⊎◌, inl, inr, ⊎_elim}
-pub use mathlib.Core.Path.{◌∙◌, ◌≡◌, ap, refl, subst, sym}
+pub use mathlib.Core.Path.{◌∙◌, ◌≡◌, ap, refl, sym}
 pub use native.Mathlib.Omega.{arith}

@@ -1,71 +1,22 @@
 -- Runs of bytes up to the first that passes a test. Assumes nothing.
-use Rattle.runs.proofs.Names.{ℕ, zero, suc, ◌+◌, ◌≤◌, ◌<◌, min, ◌≡◌, refl, sym, ap, ◌∙◌, Bool, true, false, ◌||◌, false≢true, ◌⊎◌, inl, inr, ⊎_elim}
-use Rattle.runs.proofs.Names.{List, [], ◌∷◌, ◌++◌, length, take, drop, get_or, length-drop, take-append-drop, length-append, length-take-le, take-suc}
-use Rattle.runs.proofs.Names.{get_or-drop, get_or-take, drop-drop, arith, when◌then◌else◌, pick, if_true, if_false, le_or_lt, among, any, Reached}
-use lib.Dec.{eqb}
+use Rattle.runs.proofs.Names.{ℕ, zero, suc, ◌+◌, ◌-◌, ◌≤◌, ◌<◌, min, ◌≡◌, refl, sym, ap, ◌∙◌, Bool, true, false, ◌||◌, false≢true, ◌⊎◌, inl, inr, ⊎_elim}
+use Rattle.runs.proofs.Names.{List, [], ◌∷◌, ◌++◌, length, take, drop, get_or, length-drop, take-append-drop, length-append, length-take-le}
+use Rattle.runs.proofs.Names.{get_or-drop, get_or-take, drop-drop, arith, when◌then◌else◌, pick, if_true, if_false, le_or_lt, Reached}
+use Rattle.std.specs.List.{list_any}
+use lib.Seq.{take_all}
 use native.Mathlib.Nat.{le_refl}
 use native.Mathlib.Numerals.{add-one}
 use Rattle.splitter.specs.Split.{before}
 use Rattle.splitter.proofs.Before.{before-stop, before-go, before-none, before-short}
 
--- A mark
-
--- set by one test after another: by both
-either : (s t : Bool) (m p q : ℕ) → p ≡ when s then 1 else m → q ≡ when t then 1 else p → q ≡ when s || t then 1 else m
-unfolding when◌then◌else◌
-either true true m p q e f = f
-either true false m p q e f = f ∙ e
-either false true m p q e f = f
-either false false m p q e f = f ∙ e
-
-pub mark_four : (x a b c d m p q r z : ℕ) → p ≡ when eqb x a then 1 else m → q ≡ when eqb x b then 1 else p → r ≡ when eqb x c then 1 else q
-    → z ≡ when eqb x d then 1 else r → z ≡ when among a b c d x then 1 else m
-unfolding among
-mark_four x a b c d m p q r z e f g h =
-    either (eqb x a || eqb x b || eqb x c) (eqb x d) m r z (either (eqb x a || eqb x b) (eqb x c) m q r (either (eqb x a) (eqb x b) m p q e f) g) h
-
--- it tells the test
-pub mark_tells : (t : Bool) (m : ℕ) → m ≡ when t then 1 else 0 → eqb m 1 ≡ t
-unfolding when◌then◌else◌
-mark_tells true m e = rw e refl
-mark_tells false m e = rw e refl
-
 module _ (stop : ℕ → Bool) where
   -- Some bytes of which none passes
-
-  any-more : (x : List ℕ) (b : ℕ) → any stop (x ++ b ∷ []) ≡ (any stop x || stop b)
-  unfolding any
-  any-more [] b = or_false (stop b)
-    where
-      or_false : (t : Bool) → (t || false) ≡ t
-      or_false true = refl
-      or_false false = refl
-  any-more (a ∷ x) b = rw (any-more x b) (or_assoc (stop a) (any stop x) (stop b))
-    where
-      or_assoc : (p q r : Bool) → (p || (q || r)) ≡ ((p || q) || r)
-      or_assoc true q r = refl
-      or_assoc false q r = refl
-
-  -- none is marked yet
-  pub marked_start : (s : List ℕ) → ◌≡◌ {A = ℕ} 0 (when any stop (take 0 s) then 1 else 0)
-  unfolding any when◌then◌else◌
-  marked_start s = refl
-
-  -- one byte more is marked
-  pub marked_more : (s : List ℕ) (at i m n : ℕ) → at + i < length s → m ≡ when any stop (take i (drop at s)) then 1 else 0
-      → n ≡ when stop (get_or s (at + i) 0) then 1 else m → n ≡ when any stop (take (i + 1) (drop at s)) then 1 else 0
-  marked_more s at i m n h e f =
-      let k : i < length (drop at s) = omega (arith, length-drop at s) in
-      let g : take (i + 1) (drop at s) ≡ take i (drop at s) ++ get_or s (at + i) 0 ∷ [] =
-      rw (add-one i) (take-suc (drop at s) i 0 k ∙ ap (λ (b : ℕ). take i (drop at s) ++ b ∷ []) (get_or-drop at s i 0)) in
-      rw (g, any-more (take i (drop at s)) (get_or s (at + i) 0)) (either (any stop (take i (drop at s))) (stop (get_or s (at + i) 0)) 0 m n e f)
-
-  before-append : (x y : List ℕ) → any stop x ≡ false → before stop (x ++ y) ≡ x ++ before stop y
-  unfolding any before when◌then◌else◌
+  before-append : (x y : List ℕ) → list_any stop x ≡ false → before stop (x ++ y) ≡ x ++ before stop y
+  unfolding before when◌then◌else◌
   before-append [] y e = refl
   before-append (b ∷ x) y e = go (stop b) refl e (before-append x y)
     where
-      go : (t : Bool) → stop b ≡ t → (t || any stop x) ≡ false → (any stop x ≡ false → before stop (x ++ y) ≡ x ++ before stop y)
+      go : (t : Bool) → stop b ≡ t → (t || list_any stop x) ≡ false → (list_any stop x ≡ false → before stop (x ++ y) ≡ x ++ before stop y)
           → before stop (b ∷ x ++ y) ≡ b ∷ x ++ before stop y
       go true f e h = absurd (false≢true (sym e))
       go false f e h = rw f (ap (λ (l : List ℕ). b ∷ l) (h e))
@@ -80,7 +31,7 @@ module _ (stop : ℕ → Bool) where
 
     module _ {to : ℕ} (r : Reached stop s at to) where
       -- a block of which none passes
-      pub reached_block : (n : ℕ) → to + n ≤ length s → any stop (take n (drop to s)) ≡ false → Reached stop s at (to + n)
+      pub reached_block : (n : ℕ) → to + n ≤ length s → list_any stop (take n (drop to s)) ≡ false → Reached stop s at (to + n)
       reached_block n h e =
           let x = take n (drop to s) in
           let long : length x ≡ n = length-take-le n (drop to s) (omega (arith, length-drop to s)) in
@@ -108,6 +59,27 @@ module _ (stop : ℕ → Bool) where
 
       pub reached_end : length s ≤ to → to ≡ at + length (before stop (drop at s))
       reached_end h = omega (arith, r.ends, ap length (before-none stop s to h))
+
+      -- so many bytes on
+      pub reached_found : (n : ℕ) {k : ℕ} → n ≡ length s - to → length (before stop (take n (drop to s))) ≡ k → to + k ≡ at + length (before stop (drop at s))
+      reached_found n {k} e f =
+          let whole : take n (drop to s) ≡ drop to s = take_all n (drop to s) (omega (arith, length-drop to s)) in
+          omega (arith, r.ends, rw whole at f)
+
+-- A run by its first byte
+
+module _ (stop : ℕ → Bool) where
+  pub run_empty : length (before stop []) ≡ 0
+  unfolding before
+  run_empty = refl
+
+  pub run_stops : (b : ℕ) (x : List ℕ) → stop b ≡ true → length (before stop (b ∷ x)) ≡ 0
+  unfolding before when◌then◌else◌
+  run_stops b x e = rw e
+
+  pub run_goes : (b : ℕ) (x : List ℕ) → stop b ≡ false → length (before stop (b ∷ x)) ≡ length (before stop x) + 1
+  unfolding before when◌then◌else◌
+  run_goes b x e = rw (e, add-one)
 
 -- The first that passes, as the least place
 

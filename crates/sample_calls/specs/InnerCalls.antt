@@ -1,8 +1,8 @@
 -- A call of the list of samples, whose first lines tell its form, beside the wanted answer. No rule of 01 stands here.
-use Rattle.std.specs.Prelude.{ℕ, Bool, true, false, ◌&&◌, List, [], leb, eqb, length}
+use Rattle.std.specs.Prelude.{ℕ, Bool, true, false, ◌&&◌, List, [], leb, eqb, length, Result, Ok, Err}
 use Rattle.base.specs.Bytes.{part}
 use Rattle.base.specs.Choice.{when◌then◌else◌}
-use Rattle.base.specs.Result.{Result}
+use Rattle.base.specs.Result as answer
 use Rattle.document.specs.Document.{check}
 use Rattle.console_rules.specs.Console.{console}
 use Rattle.console_rules.specs.declared.Measure.TheVariants as measure
@@ -10,11 +10,13 @@ use Rattle.html_rules.specs.Html.{html}
 use Rattle.html_rules.specs.Markdown.{markdown}
 use Rattle.manpage.specs.Roff.{roff}
 use Rattle.compared.specs.InnerCompared.{is_answer}
-use Rattle.sample_calls.specs.declared.Wanted.{Wanted}
+use Rattle.sample_calls.specs.declared.Refused.{Refused}
+use Rattle.sample_calls.specs.declared.Call.{Call}
+use Rattle.sample_calls.specs.declared.Call.TheVariants as call
 
 -- '> a call for each letter: k check, c console, b console with `full` off, h HTML and s strict HTML, both without CSS, m Markdown, r roff': what
 -- the rules answer, in a room of n bytes
-unfoldable pub by_letter : ℕ → ℕ → ℕ → List ℕ → Result (List ℕ)
+unfoldable pub by_letter : ℕ → ℕ → ℕ → List ℕ → answer.Result (List ℕ)
 by_letter letter width n document =
     when eqb letter 0x6B then check document else
     when eqb letter 0x63 then console (record { width = width; full = true; measure = measure.Bytes }) n document else
@@ -35,17 +37,26 @@ is_call letter =
     when eqb letter 0x6D then true else
     eqb letter 0x72
 
--- '= the wanted text, for roff after the preamble': it stands with the preamble before it
-unfoldable pub wanted_text : ℕ → List ℕ → Wanted → List ℕ
-wanted_text letter text w = when eqb letter 0x72 then part text 0 w.size else part text 35 w.size
+-- the letter of a call
+abbrev pub letter_of : Call → ℕ
+letter_of call.Check = 0x6B
+letter_of call.Console = 0x63
+letter_of call.Brief = 0x62
+letter_of call.Html = 0x68
+letter_of call.StrictHtml = 0x73
+letter_of call.Markdown = 0x6D
+letter_of call.Roff = 0x72
 
--- the rules answer as wanted: '! 10 60 the wanted refusal and its place', or the text
-unfoldable pub is_wanted : ℕ → ℕ → ℕ → List ℕ → Wanted → List ℕ → Bool
-is_wanted letter width n document w text =
-    when eqb w.number 0
-    then is_answer n (by_letter letter width n document) 0 (length (wanted_text letter text w)) (wanted_text letter text w)
-    else is_answer n (by_letter letter width n document) w.number w.place []
+-- '= the wanted text, for roff after the preamble': it stands with the preamble before it
+unfoldable pub wanted_text : ℕ → List ℕ → ℕ → List ℕ
+wanted_text letter text size = when eqb letter 0x72 then part text 0 size else part text 35 size
+
+-- the rules answer as wanted: the text, or '! 10 60 the wanted refusal and its place'
+unfoldable pub is_wanted : ℕ → ℕ → ℕ → List ℕ → Result ℕ Refused → List ℕ → Bool
+is_wanted letter width n document (Ok size) text =
+    is_answer n (by_letter letter width n document) 0 (length (wanted_text letter text size)) (wanted_text letter text size)
+is_wanted letter width n document (Err r) text = is_answer n (by_letter letter width n document) r.number r.place []
 
 -- .. to a call, in a room of at most 512 bytes
-unfoldable pub agrees : ℕ → ℕ → ℕ → List ℕ → Wanted → List ℕ → Bool
+unfoldable pub agrees : ℕ → ℕ → ℕ → List ℕ → Result ℕ Refused → List ℕ → Bool
 agrees letter width n document w text = is_call letter && leb n 512 && is_wanted letter width n document w text

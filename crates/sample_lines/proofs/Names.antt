@@ -3,7 +3,7 @@ pub use Prim.Native.Nat.{◌%◌, ◌*◌, ◌+◌, ◌-◌, ◌/◌, ◌<◌, �
 pub use Rattle.base.proofs.Choice.{and_both, if_false, if_true, le_or_lt}
 pub use Rattle.base.specs.Result.{Result, gives}
 unfoldable pub use Rattle.base.specs.Result.{◌>>=◌}
-pub use Rattle.compared.specs.InnerCompared.{same}
+unfoldable pub use Rattle.compared.specs.InnerCompared.{same}
 pub use Rattle.room.specs.Room.{extended, seen}
 unfoldable pub use Rattle.sample_lines.specs.InnerAdding.{repeated, style_of}
 pub use Rattle.sample_lines.specs.InnerLines.{next_number, number_at, text_from}

@@ -3,7 +3,7 @@ ghost use Rattle.std.specs.Prelude.{◌≡◌, ◌%◌, ◌≤◌, length};
 ghost use Rattle.base.specs.Result.{◌>>=◌ as bind};
 ghost use Rattle.room.specs.Room.{seen, extended};
 ghost use Rattle.sample_lines.specs.InnerLines.{text_from};
-ghost use Rattle.sample_lines.specs.InnerAdding.{repeated, head, text_record, block_records, style_of, added_by};
+ghost use Rattle.sample_lines.specs.InnerAdding.{repeated, head, text_record, block_records, added_by};
 
 fn low(n: usize) -> u8
     ensures { result ≡ n % 256 }
@@ -16,10 +16,8 @@ fn put_times(d: &mut [u8], len: usize, bytes: &[u8], times: usize) -> usize
     ensures { seen d.new result ≡ bind (seen d.old len) (extended (length d.old) (repeated times bytes.now)) }
 {
     let mut n = len;
-    let mut i: usize = 0;
-    while i < times {
+    for _ in 0..times {
         n = room::put_all(d, n, bytes);
-        i += 1;
     }
     n
 }
@@ -50,37 +48,20 @@ fn put_blocks(line: &[u8], d: &mut [u8], n: usize, first: usize) -> usize
     put_heads(d, n, 0, first + index.value, times.value)
 }
 
-// The kind of text that a letter stands for, 0 where it stands for none.
-fn style_of(letter: u8) -> usize
-    ensures { result ≡ style_of letter }
-{
-    match letter {
-        b'T' => 0x0001,
-        b'E' => 0x0002,
-        b'L' => 0x0003,
-        b'M' => 0x0004,
-        b'I' => 0x0005,
-        _ => 0,
-    }
-}
-
-// Adds what a line adds to the document.
+// Adds what a line adds to the document: a text record in one of five styles, starts or ends of a block, zeros, or else bytes.
 pub fn add(line: &[u8], d: &mut [u8], n: usize) -> usize
     ensures { seen d.new result ≡ bind (seen d.old n) (extended (length d.old) (added_by line.now)) }
 {
     let letter = compared::byte_or(line, 0, 0);
-    let kind = style_of(letter);
-    if 0 < kind {
-        return put_record(line, d, n, kind);
+    match letter {
+        b'T' => put_record(line, d, n, 0x0001),
+        b'E' => put_record(line, d, n, 0x0002),
+        b'L' => put_record(line, d, n, 0x0003),
+        b'M' => put_record(line, d, n, 0x0004),
+        b'I' => put_record(line, d, n, 0x0005),
+        b'(' => put_blocks(line, d, n, 0x0100),
+        b')' => put_blocks(line, d, n, 0x0200),
+        b'Z' => put_times(d, n, b"\0", crate::number_at(line, 2).value),
+        _ => crate::put_text(d, n, line, 2),
     }
-    if letter == b'(' {
-        return put_blocks(line, d, n, 0x0100);
-    }
-    if letter == b')' {
-        return put_blocks(line, d, n, 0x0200);
-    }
-    if letter == b'Z' {
-        return put_times(d, n, b"\0", crate::number_at(line, 2).value);
-    }
-    crate::put_text(d, n, line, 2)
 }

@@ -4,12 +4,13 @@
 #![tactic(auto)]
 
 ghost use Rattle.std.specs.Prelude.{◌≡◌, ◌<◌, ◌≤◌, ◌∷◌, length};
+ghost use Rattle.std.specs.Iterator.{YieldsFirst, item_count};
 ghost use Rattle.base.specs.Result.{◌>>=◌ as bind};
 ghost use Rattle.room.specs.Room.{seen, extended};
 ghost use Rattle.splitter.specs.Answers.{chunk_of};
 ghost use Rattle.splitter.specs.Split.{raw};
 ghost use Rattle.compared.specs.InnerCompared.{same};
-ghost use Rattle.sample_lines.specs.InnerLines.{number_at, next_number, hex_digit, text_from, is_chunk, tally_of};
+ghost use Rattle.sample_lines.specs.InnerLines.{number_at, next_number, hex_digit, written, text_from, is_chunk, tally_of};
 
 use compared::byte_or;
 use splitter::Piece;
@@ -25,20 +26,15 @@ pub struct Tally {
     pub differ: u64,
 }
 
-// One answer more.
-pub fn tallied(t: Tally, same: bool) -> Tally
-    ensures { result ≡ tally_of t same }
-{
-    let compared = std::num::wrapping_add_u64(t.compared, 1);
-    if same {
-        return Tally {
-            compared,
-            differ: t.differ,
-        };
-    }
-    Tally {
-        compared,
-        differ: std::num::wrapping_add_u64(t.differ, 1),
+impl Tally {
+    // One answer more.
+    pub fn add(&mut self, same: bool)
+        ensures { self.new ≡ tally_of self.old same }
+    {
+        self.compared = self.compared.wrapping_add(1);
+        if !same {
+            self.differ = self.differ.wrapping_add(1);
+        }
     }
 }
 
@@ -53,20 +49,15 @@ pub struct Number {
 pub fn number_at(line: &[u8], from: usize) -> Number
     ensures { (result ≡ number_at line.now from) × (result.value ≤ 10_000_255) }
 {
+    // A counter, since the place after the last digit is a part of the answer.
     let mut value: usize = 0;
     let mut at = from;
     while at < line.len() {
         let b = line[at];
-        if b < b'0' {
+        if !b.is_ascii_digit() || 1_000_000 < value {
             break;
         }
-        if b'9' < b {
-            break;
-        }
-        if 1_000_000 < value {
-            break;
-        }
-        value = value * 10 + base::usize_from(b - b'0');
+        value = value * 10 + usize::from(b - b'0');
         at += 1;
     }
     Number { value, next: at }
@@ -82,42 +73,50 @@ pub fn next_number(line: &[u8], n: Number) -> Number
 fn hex_digit(b: u8) -> u8
     ensures { (result ≡ hex_digit b) × (result < 16) }
 {
-    if b < b'0' {
-        return 0;
+    match b {
+        b'0'..=b'9' => b - b'0',
+        b'A'..=b'F' => b - b'A' + 10,
+        _ => 0,
     }
-    if b <= b'9' {
-        return b - b'0';
-    }
-    if b < b'A' {
-        return 0;
-    }
-    if b <= b'F' {
-        return b - b'A' + 10;
-    }
-    0
 }
 
-// A byte of a text, and the place after what stands for it.
-#[derive(Clone, Copy)]
-struct Written {
-    byte: u8,
-    next: usize,
-}
-
-// A backslash and two hexadecimal digits are one byte; any other byte is itself.
-fn written_at(line: &[u8], at: usize) -> Written
-    requires { at < length line.now }
-    ensures { (text_from line.now at ≡ result.byte ∷ text_from line.now result.next) × (at < result.next) × (result.next ≤ length line.now) }
+// The byte that a part of a line begins with, and the part after it: a backslash and two hexadecimal digits are one byte, any other byte is
+// itself.
+fn first_written<'a>(byte: u8, rest: &'a [u8]) -> (u8, &'a [u8])
+    ensures { written 0 (byte ∷ rest.now) ≡ result.0 ∷ written 0 result.1.now }
 {
-    let byte = line[at];
-    if line.len() - at < 3 {
-        return Written { byte, next: at + 1 };
+    let left = rest.len();
+    if byte == b'\\' && 2 <= left {
+        let byte = hex_digit(rest[0]) * 16 + hex_digit(rest[1]);
+        return (byte, base::get_from(rest, 2));
     }
-    if byte != b'\\' {
-        return Written { byte, next: at + 1 };
+    (byte, rest)
+}
+
+// The bytes that a part of a line stands for.
+#[derive(Clone, Copy)]
+struct Text<'a>(&'a [u8]);
+
+impl<'a> Iterator for Text<'a> {
+    type Item = u8;
+
+    ghost next_gives = { YieldsFirst (λ t. written 0 t.0.now) };
+
+    ghost remaining = { item_count (λ t. written 0 t.0.now) };
+
+    fn next(&mut self) -> Option<u8> {
+        let (first, others) = self.0.split_first()?;
+        let (byte, rest) = first_written(*first, others);
+        self.0 = rest;
+        Some(byte)
     }
-    let byte = hex_digit(line[at + 1]) * 16 + hex_digit(line[at + 2]);
-    Written { byte, next: at + 3 }
+}
+
+// The text from a place of a line on.
+fn text_of<'a>(line: &'a [u8], from: usize) -> Text<'a>
+    ensures { written 0 result.0.now ≡ text_from line.now from }
+{
+    Text(base::get_from(line, from))
 }
 
 // Adds the text from a place of a line on.
@@ -125,11 +124,8 @@ pub fn put_text(room: &mut [u8], len: usize, line: &[u8], from: usize) -> usize
     ensures { seen room.new result ≡ bind (seen room.old len) (extended (length room.old) (text_from line.now from)) }
 {
     let mut n = len;
-    let mut i = from;
-    while i < line.len() {
-        let w = written_at(line, i);
-        n = room::put(room, n, w.byte);
-        i = w.next;
+    for b in text_of(line, from) {
+        n = room::put(room, n, b);
     }
     n
 }
@@ -138,48 +134,34 @@ pub fn put_text(room: &mut [u8], len: usize, line: &[u8], from: usize) -> usize
 fn text_size(line: &[u8], from: usize) -> usize
     ensures { result ≡ length (text_from line.now from) }
 {
-    let mut n: usize = 0;
-    let mut i = from;
-    while i < line.len() {
-        let w = written_at(line, i);
-        n += 1;
-        i = w.next;
-    }
-    n
+    text_of(line, from).count()
 }
 
 // Whether a text is the one from a place of a line on.
 fn is_text(text: &[u8], line: &[u8], from: usize) -> bool
     ensures { result ≡ same text.now (text_from line.now from) }
 {
-    let mut at: usize = 0;
-    let mut i = from;
-    while i < line.len() {
-        let w = written_at(line, i);
-        if text.len() <= at {
+    let mut rest = text;
+    for b in text_of(line, from) {
+        let Some((first, others)) = rest.split_first() else {
+            return false;
+        };
+        if *first != b {
             return false;
         }
-        if text[at] != w.byte {
-            return false;
-        }
-        at += 1;
-        i = w.next;
+        rest = others;
     }
-    at == text.len()
+    rest.is_empty()
 }
 
 // Whether a text with its width is the chunk of a line `~`.
 fn is_raw(line: &[u8], text: &[u8], width: usize) -> bool
     ensures { result ≡ is_chunk line.now (raw text.now width) }
 {
-    if byte_or(line, 0, 0) != b'~' {
-        return false;
-    }
     let number = number_at(line, 2);
-    if width != number.value {
-        return false;
-    }
-    is_text(text, base::get_from(line, number.next), 1)
+    byte_or(line, 0, 0) == b'~'
+        && width == number.value
+        && is_text(text, base::get_from(line, number.next), 1)
 }
 
 // Whether a chunk of a body is the one of a line: `~` with the width and the text, `P`, a paragraph, or `B`, a line break.

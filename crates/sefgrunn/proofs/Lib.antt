@@ -3,6 +3,5 @@ pub mod Numbers
 pub mod Pages
 pub mod HouseShape
 pub mod RoomBound
-pub mod Figures
 pub mod Merge
 pub mod Drafts

@@ -1,10 +1,11 @@
 -- What is said of two lists that are merged; and that the rules settle it. Assumes nothing.
-use Rattle.sefgrunn.proofs.Names.{ℕ, ◌≡◌, sym, ap, ◌∙◌, List, length, Result, measured, answered, filled, Rendered, number_of, length_or_place}
-use Rattle.merge.specs.Answers.{Answer}
+use Rattle.sefgrunn.proofs.Names.{ℕ, ◌≡◌, sym, ap, ◌∙◌, List, length, Result, measured, answered, filled, Refusal, number_of, length_or_place}
+use Rattle.merge.specs.Answers.{Answer as Merged}
+use Rattle.sefgrunn.proofs.Names.{Answer}
 use Rattle.sefgrunn.specs.Merge.{MergeTold}
 use Rattle.sefgrunn.proofs.Numbers.{rendered-number}
 
-pub merge_told : {room s t new : List ℕ} {r : Rendered} {k p : ℕ} → Answer room s t r new → k ≡ number_of (answered r) → p ≡ length_or_place (answered r)
+pub merge_told : {room s t new : List ℕ} {r : Answer ℕ Refusal} {k p : ℕ} → Merged room s t r new → k ≡ number_of (answered r) → p ≡ length_or_place (answered r)
     → MergeTold room s t k p new
 merge_told {r = r} a e f =
     let n = rendered-number r a.result a.answer in

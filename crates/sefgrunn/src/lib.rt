@@ -2,15 +2,18 @@
 
 #![tactic(auto)]
 
-ghost use Rattle.std.specs.Prelude.{◌≡◌, true, false, ◌≤◌, length, take, drop};
-ghost use Rattle.base.specs.Result.{measured};
+ghost use Rattle.std.specs.Prelude.{◌≡◌, true, false, ◌≤◌, List, ℕ, IfErr, length, take, drop};
+ghost use Rattle.base.specs.Result.{Result, measured, ◌>>=◌ as bind};
 ghost use Rattle.document.specs.Document.{check};
 ghost use Rattle.refusal.specs.Numbers.{refusal_number, refusal_place};
-ghost use Rattle.renderer.specs.Rendered.{answered, filled};
+ghost use Rattle.refusal.specs.Answers.{answered};
+ghost use Rattle.renderer.specs.Rendered.{filled};
 ghost use Rattle.console_rules.specs.Console.{tabstop_in, settled_in, console};
 ghost use Rattle.console.specs.Answers.{Demand3};
 ghost use Rattle.console_bound.specs.Bound.{bound, room_bound};
-ghost use Rattle.buffer.specs.Answers.{built_as, kept};
+ghost use Rattle.buffer.specs.Answers.{kept, Follows};
+ghost use Rattle.records.specs.declared.Style.{Style};
+ghost use Rattle.records.specs.declared.Block.{Block};
 ghost use Rattle.buffer.specs.Builder.{adds_doc, adds_em_doc};
 ghost use Rattle.notes_rules.specs.Notes.{taken_in};
 ghost use Rattle.notes_rules.specs.Laws.{Faithful};
@@ -23,24 +26,16 @@ ghost use Rattle.joined_rules.specs.Joined.{check_joined, joins_into, unjoins_in
 ghost use Rattle.joined_render_rules.specs.Render.{joined_console, joined_html, joined_markdown, joined_roff};
 ghost use Rattle.figures.specs.Bundle.{figures};
 ghost use Rattle.sefgrunn.specs.Figures.{or_none};
-ghost use Rattle.draft.specs.Draft.{draft_in, Sound};
+ghost use Rattle.draft.specs.Draft.{draft_in, Sound, Calls};
 ghost use Rattle.sefgrunn.specs.Drafts.{WordsAfter, Drafts, resumes, DraftTold};
 ghost use Rattle.sefgrunn.specs.HouseShape.{ShapeTold};
 ghost use Rattle.sefgrunn.specs.Merge.{MergeTold};
-ghost use Rattle.sefgrunn.specs.Numbers.{number_of, place_of, length_or_place, or_zero, length_after, caller_reads, measure_asked, settings, writes_in, opens_in, closes_in};
+ghost use Rattle.sefgrunn.specs.Numbers.{number_of, place_of, length_or_place, or_zero, length_after, caller_reads, measure_asked, settings, in_style, in_block, writes_in, opens_in, closes_in};
 
-use buffer::Built;
-use console_bound::Lend;
 use console_rules::{Measure, Settings};
-use console_tabstop::Searched;
-use document::Checked;
-use draft::Drafted;
-use figures::Shelf;
-use pages::{Counted, Paged};
-use records::Kind;
+use draft::Draft;
+use records::{Block, Style};
 use refusal::Refusal;
-use renderer::Rendered;
-use shape::Shape;
 
 // Accepted, where no length is stored.
 fn accepted(place: &mut usize) -> u32
@@ -56,16 +51,19 @@ fn refused(a: Refusal, place: &mut usize) -> u32
     ensures number { result ≡ refusal_number a }
     ensures place { place.new ≡ refusal_place a }
 {
-    *place = refusal::refusal_place(a);
-    refusal::refusal_number(a)
+    *place = a.place();
+    a.number()
 }
 
-// A style or block number outside its range: 3 with place 0.
-fn out_of_range(place: &mut usize) -> u32
-    ensures number { result ≡ 3 }
-    ensures place { place.new ≡ 0 }
+// The number of a verdict, and its place.
+fn checked(verdict: Result<(), Refusal>, place: &mut usize) -> u32
+    ensures number { result ≡ number_of (answered verdict) }
+    ensures place { place.new ≡ place_of (answered verdict) }
 {
-    refused(Refusal::UnknownKind(0), place)
+    match verdict {
+        Ok(()) => accepted(place),
+        Err(a) => refused(a, place),
+    }
 }
 
 // Refusals 1 to 8; `place` is the refusal's, and 0 where the document is accepted.
@@ -73,24 +71,20 @@ pub fn sefgrunn_check(document: &[u8], place: &mut usize) -> u32
     ensures number { result ≡ number_of (check document.now) }
     ensures place { place.new ≡ place_of (check document.now) }
 {
-    let answer = document::check(document);
-    match answer {
-        Checked::Accepted => accepted(place),
-        Checked::Refused(a) => refused(a, place),
-    }
+    checked(document::check(document), place)
 }
 
 // The number of an answer, and its length or place.
-fn numbers_of(answer: Rendered, at: &mut usize) -> u32
+fn numbers_of(answer: Result<usize, Refusal>, at: &mut usize) -> u32
     ensures number { result ≡ number_of (answered answer) }
     ensures at { at.new ≡ length_or_place (answered answer) }
 {
     match answer {
-        Rendered::Text(n) => {
+        Ok(n) => {
             *at = n;
             0
         }
-        Rendered::Refused(a) => refused(a, at),
+        Err(a) => refused(a, at),
     }
 }
 
@@ -136,14 +130,7 @@ pub fn sefgrunn_room_bound(document: &[u8], at: &mut usize) -> u32
     ensures number { result ≡ number_of (room_bound document.now) }
     ensures at { at.new ≡ length_or_place (room_bound document.now) }
 {
-    let answer = console_bound::room_bound(document);
-    match answer {
-        Lend::Bound(bytes) => {
-            *at = bytes;
-            0
-        }
-        Lend::Refused(a) => refused(a, at),
-    }
+    numbers_of(console_bound::room_bound(document), at)
 }
 
 // The chunk of a body at a cursor, which moves past it; 0 where there is none.
@@ -177,14 +164,13 @@ pub fn sefgrunn_tabstop(document: &[u8], tabstop: &mut usize, at: &mut usize) ->
     ensures tabstop { tabstop.new ≡ or_zero (tabstop_in document.now) }
     ensures at { at.new ≡ length_or_place (settled_in document.now) }
 {
-    let answer = console_tabstop::search_tabstop(document);
-    match answer {
-        Searched::Found(found) => {
+    match console_tabstop::search_tabstop(document) {
+        Ok(found) => {
             *tabstop = found.columns.0;
             *at = found.at;
             0
         }
-        Searched::Refused(a) => {
+        Err(a) => {
             *tabstop = 0;
             refused(a, at)
         }
@@ -195,18 +181,17 @@ pub fn sefgrunn_tabstop(document: &[u8], tabstop: &mut usize, at: &mut usize) ->
 pub fn sefgrunn_house_shape(document: &[u8], shaped: &mut u32, place: &mut usize) -> u32
     ensures { ShapeTold document.now result shaped.new place.new }
 {
-    let answer = shape::house_shape(document);
-    match answer {
-        Shape::Shaped => {
+    match shape::house_shape(document) {
+        Ok(None) => {
             *shaped = 1;
             accepted(place)
         }
-        Shape::Unshaped(p) => {
+        Ok(Some(p)) => {
             *shaped = 0;
             *place = p;
             0
         }
-        Shape::Refused(a) => {
+        Err(a) => {
             *shaped = 0;
             refused(a, place)
         }
@@ -238,11 +223,7 @@ pub fn sefgrunn_joined_check(joined: &[u8], place: &mut usize) -> u32
     ensures number { result ≡ number_of (check_joined joined.now) }
     ensures place { place.new ≡ place_of (check_joined joined.now) }
 {
-    let verdict = joined_check::check(joined);
-    match verdict {
-        Checked::Accepted => accepted(place),
-        Checked::Refused(r) => refused(r, place),
-    }
+    checked(joined_check::check(joined), place)
 }
 
 // The figures of a bundle, or 16, 15, 14: `texts` are the accepted documents, `others` the refused ones. After a refusal the four numbers are 0.
@@ -261,16 +242,15 @@ pub fn sefgrunn_figures(
     ensures characters { characters.new ≡ (or_none (figures bundle.now)).characters }
     ensures place { place.new ≡ place_of (figures bundle.now) }
 {
-    let answer = figures::figures_of(bundle);
-    match answer {
-        Shelf::Counted(f) => {
+    match figures::figures_of(bundle) {
+        Ok(f) => {
             *documents = f.documents;
             *texts = f.accepted;
             *others = f.refused;
             *characters = f.characters;
             accepted(place)
         }
-        Shelf::Refused(a) => {
+        Err(a) => {
             *documents = 0;
             *texts = 0;
             *others = 0;
@@ -417,15 +397,14 @@ pub fn sefgrunn_page_count(text: &[u8], height: usize, count: &mut usize) -> u32
     ensures number { result ≡ number_of (page_count height text.now) }
     ensures count { count.new ≡ or_zero (page_count height text.now) }
 {
-    let answer = pages::page_count(text, height);
-    match answer {
-        Counted::Pages(n) => {
+    match pages::page_count(text, height) {
+        Ok(n) => {
             *count = n;
             0
         }
-        Counted::Refused(a) => {
+        Err(a) => {
             *count = 0;
-            refusal::refusal_number(a)
+            a.number()
         }
     }
 }
@@ -443,34 +422,77 @@ pub fn sefgrunn_page(
     ensures length { len.new ≡ or_zero (measured (page_of height page text.now)) }
     ensures part { take len.new (drop start.new text.now) ≡ shown (page_of height page text.now) }
 {
-    let answer = pages::find_page(text, height, page);
-    match answer {
-        Paged::Part(from, size) => {
-            *start = from;
-            *len = size;
+    match pages::find_page(text, height, page) {
+        Ok(part) => {
+            *start = part.start;
+            *len = part.size;
             0
         }
-        Paged::Refused(a) => {
+        Err(a) => {
             *start = 0;
             *len = 0;
-            refusal::refusal_number(a)
+            a.number()
         }
     }
 }
 
 // The number of what the builder answers; the length changes only where it accepts.
-fn stored(built: Built, len: &mut usize, place: &mut usize) -> u32
-    ensures number { result ≡ number_of (built_as built) }
-    ensures length { len.new ≡ length_after len.old (built_as built) }
-    ensures place { place.new ≡ place_of (built_as built) }
+fn stored(built: Result<usize, Refusal>, len: &mut usize, place: &mut usize) -> u32
+    ensures number { result ≡ number_of (answered built) }
+    ensures length { len.new ≡ length_after len.old (answered built) }
+    ensures place { place.new ≡ place_of (answered built) }
 {
     match built {
-        Built::Length(n) => {
+        Ok(n) => {
             *len = n;
             accepted(place)
         }
-        Built::Refused(a) => refused(a, place),
+        Err(a) => refused(a, place),
     }
+}
+
+// The style with a number from 1 to 5; any other is refused as 3 with place 0.
+fn style_asked(style: u32) -> Result<Style, Refusal>
+    ensures asked { (f : Style → Result (List ℕ)) → bind (answered result) f ≡ in_style style f }
+    ensures numbers { IfErr result (λ a. refusal_number a ≤ 13) }
+{
+    match Style::try_from(style as usize) {
+        Ok(s) => Ok(s),
+        Err(_) => Err(Refusal::UnknownKind(0)),
+    }
+}
+
+// The block with an index from 0 to 11, likewise.
+fn block_asked(block: u32) -> Result<Block, Refusal>
+    ensures asked { (f : Block → Result (List ℕ)) → bind (answered result) f ≡ in_block block f }
+    ensures numbers { IfErr result (λ a. refusal_number a ≤ 13) }
+{
+    match Block::try_from(block as usize) {
+        Ok(b) => Ok(b),
+        Err(_) => Err(Refusal::UnknownKind(0)),
+    }
+}
+
+// The builder's calls in the style with a number, or of the block with an index.
+fn write_in(room: &mut [u8], len: usize, style: u32, text: &[u8]) -> Result<usize, Refusal>
+    ensures { Follows (writes_in room.old len style text.now) room.old room.new result }
+{
+    let style = style_asked(style)?;
+    buffer::write_str(room, len, style, text)
+}
+
+fn open_in(room: &mut [u8], len: usize, block: u32) -> Result<usize, Refusal>
+    ensures { Follows (opens_in room.old len block) room.old room.new result }
+{
+    let b = block_asked(block)?;
+    buffer::open_block(room, len, b)
+}
+
+fn close_in(room: &mut [u8], len: usize, block: u32) -> Result<usize, Refusal>
+    ensures { Follows (closes_in room.old len block) room.old room.new result }
+{
+    let b = block_asked(block)?;
+    buffer::close_block(room, len, b)
 }
 
 // `Doc::write_str`, in the style with a number from 1 to 5.
@@ -486,16 +508,8 @@ pub fn sefgrunn_write(
     ensures place { place.new ≡ place_of (writes_in room.old len.old style text.now) }
     ensures room { room.new ≡ kept room.old (writes_in room.old len.old style text.now) }
 {
-    let kind = records::kind_of(style as usize);
-    match kind {
-        Kind::Text(s) => {
-            let built = buffer::write_str(room, *len, s, text);
-            stored(built, len, place)
-        }
-        Kind::Start(_) => out_of_range(place),
-        Kind::End(_) => out_of_range(place),
-        Kind::Unknown => out_of_range(place),
-    }
+    let built = write_in(room, *len, style, text);
+    stored(built, len, place)
 }
 
 // The start of the block with an index from 0 to 11.
@@ -505,16 +519,8 @@ pub fn sefgrunn_open(room: &mut [u8], len: &mut usize, block: u32, place: &mut u
     ensures place { place.new ≡ place_of (opens_in room.old len.old block) }
     ensures room { room.new ≡ kept room.old (opens_in room.old len.old block) }
 {
-    let kind = records::kind_of(0x0100 + block as usize);
-    match kind {
-        Kind::Text(_) => out_of_range(place),
-        Kind::Start(b) => {
-            let built = buffer::open_block(room, *len, b);
-            stored(built, len, place)
-        }
-        Kind::End(_) => out_of_range(place),
-        Kind::Unknown => out_of_range(place),
-    }
+    let built = open_in(room, *len, block);
+    stored(built, len, place)
 }
 
 // The end of the block with an index from 0 to 11.
@@ -524,16 +530,8 @@ pub fn sefgrunn_close(room: &mut [u8], len: &mut usize, block: u32, place: &mut 
     ensures place { place.new ≡ place_of (closes_in room.old len.old block) }
     ensures room { room.new ≡ kept room.old (closes_in room.old len.old block) }
 {
-    let kind = records::kind_of(0x0100 + block as usize);
-    match kind {
-        Kind::Text(_) => out_of_range(place),
-        Kind::Start(b) => {
-            let built = buffer::close_block(room, *len, b);
-            stored(built, len, place)
-        }
-        Kind::End(_) => out_of_range(place),
-        Kind::Unknown => out_of_range(place),
-    }
+    let built = close_in(room, *len, block);
+    stored(built, len, place)
 }
 
 // `Doc::doc`.
@@ -567,15 +565,15 @@ pub fn sefgrunn_merge(first: &[u8], second: &[u8], room: &mut [u8], at: &mut usi
 }
 
 // The number of what a call by a draft answers, and the new draft's words, which change only where it accepts.
-fn drafted(answer: Drafted, draft: &mut [u64; 8], place: &mut usize) -> u32
+fn drafted(answer: Result<Draft, Refusal>, draft: &mut [u64; 8], place: &mut usize) -> u32
     ensures { DraftTold answer draft.old draft.new result place.new }
 {
     match answer {
-        Drafted::Next(d) => {
-            *draft = draft::words_of(d);
+        Ok(d) => {
+            *draft = <[u64; 8]>::from(d);
             accepted(place)
         }
-        Drafted::Refused(a) => refused(a, place),
+        Err(a) => refused(a, place),
     }
 }
 
@@ -594,6 +592,28 @@ pub fn sefgrunn_draft_resume(
     drafted(answer, draft, place)
 }
 
+// The calls by a draft in the style with a number, or of the block with an index.
+fn write_by(room: &mut [u8], d: Draft, style: u32, text: &[u8]) -> Result<Draft, Refusal>
+    ensures { Calls (Sound room.old d) (writes_in room.old d.length style text.now) room.old room.new result }
+{
+    let style = style_asked(style)?;
+    draft::write_str(room, d, style, text)
+}
+
+fn open_by(room: &mut [u8], d: Draft, block: u32) -> Result<Draft, Refusal>
+    ensures { Calls (Sound room.old d) (opens_in room.old d.length block) room.old room.new result }
+{
+    let b = block_asked(block)?;
+    draft::open_block(room, d, b)
+}
+
+fn close_by(room: &mut [u8], d: Draft, block: u32) -> Result<Draft, Refusal>
+    ensures { Calls (Sound room.old d) (closes_in room.old d.length block) room.old room.new result }
+{
+    let b = block_asked(block)?;
+    draft::close_block(room, d, b)
+}
+
 // `sefgrunn_write` by a draft.
 pub fn sefgrunn_draft_write(
     room: &mut [u8],
@@ -605,17 +625,8 @@ pub fn sefgrunn_draft_write(
     ensures numbers { result ≤ 13 }
     ensures does { Sound room.old (draft_in draft.old) → Drafts (writes_in room.old (draft_in draft.old).length style text.now) room.old room.new draft.old draft.new result place.new }
 {
-    let kind = records::kind_of(style as usize);
-    match kind {
-        Kind::Text(s) => {
-            let d = draft::draft_of(draft);
-            let answer = draft::write_str(room, d, s, text);
-            drafted(answer, draft, place)
-        }
-        Kind::Start(_) => out_of_range(place),
-        Kind::End(_) => out_of_range(place),
-        Kind::Unknown => out_of_range(place),
-    }
+    let answer = write_by(room, Draft::from(*draft), style, text);
+    drafted(answer, draft, place)
 }
 
 // `sefgrunn_open` by a draft.
@@ -628,17 +639,8 @@ pub fn sefgrunn_draft_open(
     ensures numbers { result ≤ 13 }
     ensures does { Sound room.old (draft_in draft.old) → Drafts (opens_in room.old (draft_in draft.old).length block) room.old room.new draft.old draft.new result place.new }
 {
-    let kind = records::kind_of(0x0100 + block as usize);
-    match kind {
-        Kind::Text(_) => out_of_range(place),
-        Kind::Start(b) => {
-            let d = draft::draft_of(draft);
-            let answer = draft::open_block(room, d, b);
-            drafted(answer, draft, place)
-        }
-        Kind::End(_) => out_of_range(place),
-        Kind::Unknown => out_of_range(place),
-    }
+    let answer = open_by(room, Draft::from(*draft), block);
+    drafted(answer, draft, place)
 }
 
 // `sefgrunn_close` by a draft.
@@ -651,17 +653,8 @@ pub fn sefgrunn_draft_close(
     ensures numbers { result ≤ 13 }
     ensures does { Sound room.old (draft_in draft.old) → Drafts (closes_in room.old (draft_in draft.old).length block) room.old room.new draft.old draft.new result place.new }
 {
-    let kind = records::kind_of(0x0100 + block as usize);
-    match kind {
-        Kind::Text(_) => out_of_range(place),
-        Kind::Start(b) => {
-            let d = draft::draft_of(draft);
-            let answer = draft::close_block(room, d, b);
-            drafted(answer, draft, place)
-        }
-        Kind::End(_) => out_of_range(place),
-        Kind::Unknown => out_of_range(place),
-    }
+    let answer = close_by(room, Draft::from(*draft), block);
+    drafted(answer, draft, place)
 }
 
 // `sefgrunn_doc` by a draft.
@@ -674,8 +667,7 @@ pub fn sefgrunn_draft_doc(
     ensures numbers { result ≤ 13 }
     ensures does { Sound room.old (draft_in draft.old) → Drafts (adds_doc room.old (draft_in draft.old).length added.now) room.old room.new draft.old draft.new result place.new }
 {
-    let d = draft::draft_of(draft);
-    let answer = draft::doc(room, d, added);
+    let answer = draft::doc(room, Draft::from(*draft), added);
     drafted(answer, draft, place)
 }
 
@@ -689,7 +681,6 @@ pub fn sefgrunn_draft_em_doc(
     ensures numbers { result ≤ 13 }
     ensures does { Sound room.old (draft_in draft.old) → Drafts (adds_em_doc room.old (draft_in draft.old).length added.now) room.old room.new draft.old draft.new result place.new }
 {
-    let d = draft::draft_of(draft);
-    let answer = draft::em_doc(room, d, added);
+    let answer = draft::em_doc(room, Draft::from(*draft), added);
     drafted(answer, draft, place)
 }

@@ -1,14 +1,14 @@
 -- An accepted document: each end record is that of the innermost open block, so that the code need not ask which block it ends, and no
 -- block is open at the end. What the code finds is 02's answer. Assumes nothing.
-use Rattle.shape.proofs.Names.{ℕ, zero, suc, ◌+◌, ◌≡◌, refl, sym, ap, subst, ◌∙◌, Bool, true, false, List, [], ◌∷◌, ◌++◌, Option, none, some, length}
+use Rattle.shape.proofs.Names.{ℕ, zero, suc, ◌+◌, ◌≡◌, refl, sym, ap, subst, ◌∙◌, Bool, true, false, List, [], ◌∷◌, ◌++◌, Option, None, Some, length}
 use Rattle.shape.proofs.Names.{get_or, length-append, arith, eq-eqb, when◌then◌else◌, Result, gives, refused, ◌>>=◌, top, pushed, popped, length-pushed}
 use Rattle.shape.proofs.Names.{popped-pushed, bind_gives, gives_same, Token, index, size, tokens, reads, open_blocks, check, Block, Kind, kinds}
-use Rattle.shape.proofs.Names.{Shaped, OutOfPlace, Want, parts, Inside, opens, refuses, inside, texts, closes, go, stray, Walked, Answers, Way}
+use Rattle.shape.proofs.Names.{Shaped, OutOfPlace, Want, parts, Inside, opens, refuses, inside, texts, closes, go, stray, Walked, Answers}
+use Rattle.shape.proofs.Names.{Answer, Ok, Err, Misplaced}
 use lib.Seq.{get_or-append_seam}
 use Rattle.records.specs.declared.Kind.TheVariants as kind
 use Rattle.document.proofs.Walks.{Allowed, open_after, accept-gives, first_gives, check-gives}
 use Rattle.shape.specs.InnerSteps as loose
-use Rattle.shape.specs.declared.Way.TheVariants as way
 use Rattle.shape.proofs.Blocks.{part, list}
 use Rattle.shape.proofs.Runs.{Run, done, text, wrapped}
 use Rattle.shape.proofs.Machine.{Frame, State, on, out, entered, left, step, onward, run, text-on, start-on, end_on, unknown_on, unwind, flatten}
@@ -91,9 +91,9 @@ step-opens kind.Unknown w fs e = absurd (unknown_on w fs e)
 -- all records
 
 data Judged (ts : List Token) (w : Want) (fs : List Frame) (last : List ℕ) : Option ℕ → Type 0 where
-  fine : (v : Want) (gs : List Frame) → run (kinds ts) w fs ≡ on v gs → last ≡ indices gs → Judged ts w fs last none
+  fine : (v : Want) (gs : List Frame) → run (kinds ts) w fs ≡ on v gs → last ≡ indices gs → Judged ts w fs last None
   bad : (before : List Token) (here : Token) (after : List Token) (v : Want) (gs : List Frame) → ts ≡ before ++ here ∷ after
-      → run (kinds before) w fs ≡ on v gs → run (kinds (before ++ here ∷ [])) w fs ≡ out → Judged ts w fs last (some here.place)
+      → run (kinds before) w fs ≡ on v gs → run (kinds (before ++ here ∷ [])) w fs ≡ out → Judged ts w fs last (Some here.place)
 
 run_on : (t : Token) (ts : List Token) (w : Want) (fs : List Frame) {v : Want} {gs : List Frame} → step t.kind w fs ≡ on v gs
     → run (kinds (t ∷ ts)) w fs ≡ run (kinds ts) v gs
@@ -144,18 +144,18 @@ module _ (s : List ℕ) (accepted : check s ≡ gives []) where
   unfolding indices laters
   judged = judge (check-nested s [] accepted) parts [] refl
 
-  no_stray : stray (tokens 0 0 s) parts [] ≡ none → Shaped (kinds (tokens 0 0 s))
+  no_stray : stray (tokens 0 0 s) parts [] ≡ None → Shaped (kinds (tokens 0 0 s))
   no_stray e = of (subst (λ (o : Option ℕ). Judged (tokens 0 0 s) parts [] [] o) e judged)
     where
-      of : Judged (tokens 0 0 s) parts [] [] none → Shaped (kinds (tokens 0 0 s))
+      of : Judged (tokens 0 0 s) parts [] [] None → Shaped (kinds (tokens 0 0 s))
       of (fine v gs r i) =
           let q = r ∙ ap (λ (x : List Frame). on v x) (none_open gs i) in
           run_shaped _ v q (ap closes (stays (flatten (unwind _ parts [] v q))))
 
-  a-stray : {p : ℕ} → stray (tokens 0 0 s) parts [] ≡ some p → OutOfPlace (tokens 0 0 s) p
+  a-stray : {p : ℕ} → stray (tokens 0 0 s) parts [] ≡ Some p → OutOfPlace (tokens 0 0 s) p
   a-stray {p} e = of (subst (λ (o : Option ℕ). Judged (tokens 0 0 s) parts [] [] o) e judged)
     where
-      of : {p : ℕ} → Judged (tokens 0 0 s) parts [] [] (some p) → OutOfPlace (tokens 0 0 s) p
+      of : {p : ℕ} → Judged (tokens 0 0 s) parts [] [] (Some p) → OutOfPlace (tokens 0 0 s) p
       of (bad before here after v gs l r q) = record {
         before = before;
         here = here;
@@ -171,16 +171,16 @@ module _ (s : List ℕ) (accepted : check s ≡ gives []) where
   by_steps = of (stray (tokens 0 0 s) parts []) refl
     where
       of : (o : Option ℕ) → stray (tokens 0 0 s) parts [] ≡ o → Answers s (gives o)
-      of none e = (accepted, no_stray e)
-      of (some p) e = (accepted, a-stray e)
+      of None e = (accepted, no_stray e)
+      of (Some p) e = (accepted, a-stray e)
 
   -- by the way that the code found
-  module _ {a : Way} (walked : Walked s parts 0 0 a) where
-    pub found_out : {p : ℕ} → a ≡ way.Out p → Answers s (gives (some p))
-    found_out e = let k = subst (λ (x : Way). Walked s parts 0 0 x) e walked in (accepted, a-stray (k []))
+  module _ {a : Answer ℕ Misplaced} (walked : Walked s parts 0 0 a) where
+    pub found_out : {o : Misplaced} → a ≡ Err o → Answers s (gives (Some o.place))
+    found_out e = let k = subst (λ (x : Answer ℕ Misplaced). Walked s parts 0 0 x) e walked in (accepted, a-stray (k []))
 
-    pub found_none : {q : ℕ} → a ≡ way.Stops q → Answers s (gives none)
-    found_none e = let k = subst (λ (x : Way). Walked s parts 0 0 x) e walked in (accepted, no_stray (k.whole refl []))
+    pub found_none : {q : ℕ} → a ≡ Ok q → Answers s (gives None)
+    found_none e = let k = subst (λ (x : Answer ℕ Misplaced). Walked s parts 0 0 x) e walked in (accepted, no_stray (k.whole refl []))
 
 -- a document's answer by steps, after 1 to 8
 unfoldable pub by_step : List ℕ → Result (Option ℕ)

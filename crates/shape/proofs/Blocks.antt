@@ -1,7 +1,6 @@
 -- Which blocks may stand where, and blocks told apart by their index. Assumes nothing.
-use Rattle.shape.proofs.Names.{ℕ, ◌≡◌, refl, sym, ap, subst, ◌∙◌, Bool, true, false, not, ◌||◌, get_or, arith, eqb-true, eq-eqb, when◌then◌else◌, if_true}
-use Rattle.shape.proofs.Names.{if_false, blocks, index, Block, same, other, inline, Want, parts, pairs, inlines, body, opens, refuses, inside, texts}
-use Rattle.shape.proofs.Names.{closes}
+use Rattle.shape.proofs.Names.{ℕ, ◌≡◌, refl, sym, ap, subst, ◌∙◌, Bool, true, false, get_or, arith, eqb-true, eq-eqb, ne_eqb, when◌then◌else◌}
+use Rattle.shape.proofs.Names.{if_false, blocks, index, Block, same, other, inline, Want, parts, pairs, inlines, body, opens, refuses, inside}
 use Rattle.records.specs.declared.Block.TheVariants as block
 
 named : (b : Block) → get_or blocks (index b) block.Header ≡ b
@@ -69,82 +68,33 @@ inside_fits pairs b e = one b (same b block.ItemTerm) (λ s. subst (λ (x : Bloc
 inside_fits inlines b e = one b (inline b) (λ s. wrap s) e
 inside_fits body b e = one b (same b block.ItemBody) (λ s. subst (λ (x : Block). Fits body x parts pairs) (sym (same-is b block.ItemBody s)) its_body) e
 
--- the tests of the code, one after another
-
-module _ (a b c : Bool) where
-  pub first_of : a ≡ true → true ≡ (a || b || c)
-  first_of e = rw e
-
-  pub second_of : a ≡ false → b ≡ true → true ≡ (a || b || c)
-  second_of e f = rw (e, f)
-
-  pub third_of : (r : Bool) → a ≡ false → b ≡ false → r ≡ c → r ≡ (a || b || c)
-  third_of r e f g = rw (e, f) g
-
-  pub none_of : (r : Bool) → a ≡ false → b ≡ false → r ≡ c → not r ≡ not (a || b || c)
-  none_of r e f g = ap not (third_of r e f g)
-
 -- what is in a block, by the tests of the code
+
+other_block : (a b : Block) → (a ≡ b → ⊥) → same a b ≡ false
+other_block a b n = ne_eqb (index a) (index b) (λ e. n (same_index a b e))
 
 module _ (b : Block) where
   pub is_wrap : inline b ≡ true → inside inlines b ≡ opens inlines inlines
-  unfolding inside
-  is_wrap e = if_true _ _ e
+  is_wrap e = fits_inside (wrap e)
 
   pub no_wrap : inline b ≡ false → inside inlines b ≡ refuses
   unfolding inside
   no_wrap e = if_false _ _ e
 
   pub is-part : other b ≡ true → inside parts b ≡ opens parts parts
+  is-part e = fits_inside (part e)
+
+  pub is-list : b ≡ block.DefinitionList → inside parts b ≡ opens pairs parts
+  is-list e = rw e (fits_inside list)
+
+  pub no_part : other b ≡ false → (b ≡ block.DefinitionList → ⊥) → inside parts b ≡ refuses
   unfolding inside
-  is-part e = if_true _ _ e
+  no_part e n = if_false _ _ e ∙ if_false _ _ (other_block b block.DefinitionList n)
 
-  pub is-list : other b ≡ false → same b block.DefinitionList ≡ true → inside parts b ≡ opens pairs parts
+  pub no-term : (b ≡ block.ItemTerm → ⊥) → inside pairs b ≡ refuses
   unfolding inside
-  is-list e f = if_false _ _ e ∙ if_true _ _ f
+  no-term n = if_false _ _ (other_block b block.ItemTerm n)
 
-  pub no_part : other b ≡ false → same b block.DefinitionList ≡ false → inside parts b ≡ refuses
+  pub no_body : (b ≡ block.ItemBody → ⊥) → inside body b ≡ refuses
   unfolding inside
-  no_part e f = if_false _ _ e ∙ if_false _ _ f
-
-  pub is-term : same b block.ItemTerm ≡ true → inside pairs b ≡ opens inlines body
-  unfolding inside
-  is-term e = if_true _ _ e
-
-  pub no-term : same b block.ItemTerm ≡ false → inside pairs b ≡ refuses
-  unfolding inside
-  no-term e = if_false _ _ e
-
-  pub is_body : same b block.ItemBody ≡ true → inside body b ≡ opens parts pairs
-  unfolding inside
-  is_body e = if_true _ _ e
-
-  pub no_body : same b block.ItemBody ≡ false → inside body b ≡ refuses
-  unfolding inside
-  no_body e = if_false _ _ e
-
--- in a list: pairs, or a body that is due
-
-abbrev pub wanted : Bool → Want
-wanted true = body
-wanted false = pairs
-
-pub no_text : (due : Bool) → texts (wanted due) ≡ false
-no_text true = refl
-no_text false = refl
-
-pub no_end : (due : Bool) → due ≡ true → closes (wanted due) ≡ false
-no_end due e = rw e
-
-module _ (b : Block) (due : Bool) where
-  pub due_body : due ≡ true → same b block.ItemBody ≡ true → inside (wanted due) b ≡ opens parts (wanted (not due))
-  due_body e f = rw e (is_body b f)
-
-  pub due_other : due ≡ true → same b block.ItemBody ≡ false → inside (wanted due) b ≡ refuses
-  due_other e f = rw e (no_body b f)
-
-  pub next-term : due ≡ false → same b block.ItemTerm ≡ true → inside (wanted due) b ≡ opens inlines (wanted (not due))
-  next-term e f = rw e (is-term b f)
-
-  pub next-other : due ≡ false → same b block.ItemTerm ≡ false → inside (wanted due) b ≡ refuses
-  next-other e f = rw e (no-term b f)
+  no_body n = if_false _ _ (other_block b block.ItemBody n)

@@ -1,7 +1,7 @@
 -- 02's answer is settled by its rules: at most one place is that of the first record out of place, a document of the shape has none, and
 -- two answers that hold of a document are the same (`an_answer` in `Accepted`: there is one). Assumes nothing.
 use Rattle.shape.proofs.Names.{ℕ, ◌≡◌, refl, sym, ap, subst, ◌∙◌, ◌↔◌, List, [], ◌∷◌, ◌++◌, append_assoc, append-nil, tail-eq_of_cons-eq}
-use Rattle.shape.proofs.Names.{head-eq_of_cons-eq, Option, none, some, Result, gives, refused, refused-gives, Token, tokens, check, Kind, kinds}
+use Rattle.shape.proofs.Names.{head-eq_of_cons-eq, Option, None, Some, Result, gives, refused, refused-gives, Token, tokens, check, Kind, kinds}
 use Rattle.shape.proofs.Names.{Shaped, Viable, OutOfPlace, Answers, TheAnswer}
 
 kinds-append : (x y : List Token) → kinds (x ++ y) ≡ kinds x ++ kinds y
@@ -53,14 +53,14 @@ one_place ts p q o u = of (apart o.before o.here o.after u.before u.here u.after
 
 -- two answers that hold of a document are the same
 pub one_answer : (s : List ℕ) (a b : Result (Option ℕ)) → Answers s a → Answers s b → a ≡ b
-one_answer s (gives none) (gives none) x y = refl
-one_answer s (gives none) (gives (some q)) x y = absurd (shaped_placed _ q x.1 y.1)
-one_answer s (gives none) (refused n q) x y = absurd (refused-gives (sym y ∙ x.0))
-one_answer s (gives (some p)) (gives none) x y = absurd (shaped_placed _ p y.1 x.1)
-one_answer s (gives (some p)) (gives (some q)) x y = ap (λ (n : ℕ). gives (some n)) (one_place _ p q x.1 y.1)
-one_answer s (gives (some p)) (refused n q) x y = absurd (refused-gives (sym y ∙ x.0))
-one_answer s (refused n p) (gives none) x y = absurd (refused-gives (sym x ∙ y.0))
-one_answer s (refused n p) (gives (some q)) x y = absurd (refused-gives (sym x ∙ y.0))
+one_answer s (gives None) (gives None) x y = refl
+one_answer s (gives None) (gives (Some q)) x y = absurd (shaped_placed _ q x.1 y.1)
+one_answer s (gives None) (refused n q) x y = absurd (refused-gives (sym y ∙ x.0))
+one_answer s (gives (Some p)) (gives None) x y = absurd (shaped_placed _ p y.1 x.1)
+one_answer s (gives (Some p)) (gives (Some q)) x y = ap (λ (n : ℕ). gives (Some n)) (one_place _ p q x.1 y.1)
+one_answer s (gives (Some p)) (refused n q) x y = absurd (refused-gives (sym y ∙ x.0))
+one_answer s (refused n p) (gives None) x y = absurd (refused-gives (sym x ∙ y.0))
+one_answer s (refused n p) (gives (Some q)) x y = absurd (refused-gives (sym x ∙ y.0))
 one_answer s (refused n p) (refused m q) x y = of (sym x ∙ y)
   where
     of : {n p m q : ℕ} → ◌≡◌ {A = Result (List ℕ)} (refused n p) (refused m q) → ◌≡◌ {A = Result (Option ℕ)} (refused n p) (refused m q)
@@ -70,5 +70,5 @@ pub the_answer : (s : List ℕ) (a : Result (Option ℕ)) → Answers s a → Th
 the_answer s a h = record { holds = h; alone = λ b k. one_answer s b a k h }
 
 -- 'Answer yes exactly for documents of that shape'
-pub yes_exactly : (s : List ℕ) (a : Result (Option ℕ)) → check s ≡ gives [] → Answers s a → (a ≡ gives none) ↔ Shaped (kinds (tokens 0 0 s))
-yes_exactly s a c h = (λ e. (subst (λ (x : Result (Option ℕ)). Answers s x) e h).1, λ k. one_answer s a (gives none) h (c, k))
+pub yes_exactly : (s : List ℕ) (a : Result (Option ℕ)) → check s ≡ gives [] → Answers s a → (a ≡ gives None) ↔ Shaped (kinds (tokens 0 0 s))
+yes_exactly s a c h = (λ e. (subst (λ (x : Result (Option ℕ)). Answers s x) e h).1, λ k. one_answer s a (gives None) h (c, k))

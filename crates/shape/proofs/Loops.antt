@@ -1,11 +1,13 @@
 -- The loops over records: what holds before each record, and what follows from it at the record, by what the code finds there. Assumes nothing.
-use Rattle.shape.proofs.Names.{ℕ, zero, suc, ◌+◌, ◌-◌, ◌≤◌, ◌<◌, ◌≡◌, refl, sym, subst, ◌∙◌, true, false, List, ◌∷◌, length, arith, tokens_from, Read}
-use Rattle.shape.proofs.Names.{Style, Block, Head, Want, opens, refuses, inside, texts, closes, ahead, stray, OpenAt, Stopped, Way}
+use Rattle.shape.proofs.Names.{ℕ, zero, suc, ◌+◌, ◌-◌, ◌≤◌, ◌<◌, ◌≡◌, refl, sym, ap, subst, ◌∙◌, true, false, List, ◌∷◌, length, arith, tokens_from, Read}
+use Rattle.shape.proofs.Names.{Style, Block, Kind, Head, Want, ⊎_elim, le_or_lt, opens, refuses, inside, texts, closes, pairs, inlines, body}
+use Rattle.shape.proofs.Names.{ahead, stray, OpenAt, Stopped, Walked, Answer, Ok, Err, Misplaced}
 use native.Mathlib.Numerals.{add-one}
 use Rattle.records.specs.declared.Kind.TheVariants as kind
-use Rattle.shape.specs.declared.Way.TheVariants as way
+use Rattle.records.specs.declared.Block.TheVariants as block
+use Rattle.shape.proofs.Blocks.{fits_inside, term, no-term, no_body}
 use Rattle.shape.proofs.Opened.{open_end, open_text, start_bare, end_bare, open_start, open_closes, open_closed}
-use Rattle.shape.proofs.Records.{Strays, Turned, stray-end, read_one, text-on, text_out, unknown_out, end-out, start-out, start-leads, end-leads}
+use Rattle.shape.proofs.Records.{Strays, stray-end, read_one, text-on, text_out, unknown_out, end-out, start-out, start-leads, end-leads}
 
 -- so many blocks are open, after each of which the same is wanted
 abbrev pub again : ℕ → Want → List Want → List Want
@@ -37,6 +39,10 @@ module _ {s : List ℕ} {w v : Want} {depth from inner at : ℕ} (i : Before s w
     closed = λ outer e. absurd (omega (arith, open_end opened h, e));
     whole = λ _ later. i.leads later ∙ stray-end s at h v (again inner w later);
   }
+
+  -- with a block open around the loop it goes on
+  pub goes_on : 1 ≤ depth → at < length s
+  goes_on o = ⊎_elim (λ h. absurd (omega (arith, open_end opened h, o))) (λ h. h) (le_or_lt (length s) at)
 
   module _ {h : Head} (r : Read s at h) (l : at < length s) where
     -- text
@@ -78,16 +84,53 @@ module _ {s : List ℕ} {w v : Want} {depth from inner at : ℕ} (i : Before s w
       pub enters : {t : ℕ} → ahead s from ≡ t → (ahead s h.start < t) × ((all + 1 ≤ 32) × OpenAt s h.start (all + 1))
       enters f = (omega (arith, start_fewer e, i.fewer, f), open_start (i.around all d) r l e)
 
-      -- and what was found of the block
-      module _ (u : Want) {a : Way} (t : Turned s v u all at h.start a) where
-        pub on-block : {q : ℕ} → a ≡ way.Stops q → (ahead s q < ahead s at) × Before s w u depth from inner q
+      -- and what was found of the block, that holds x, with u wanted after it
+      module _ {x u : Want} (n : inside v b ≡ opens x u) {a : Answer ℕ Misplaced} (k : Walked s x (all + 1) h.start a) where
+        pub on-block : {q : ℕ} → a ≡ Ok q → (ahead s q < ahead s at) × Before s w u depth from inner q
         on-block {q} f =
-            let g = subst (λ (x : Way). Turned s v u all at h.start x) f t in
-            let n : ahead s q < ahead s at = omega (arith, start_fewer e, g.0) in
-            (n, record { fewer = omega (arith, n, i.fewer); leads = λ later. i.leads later ∙ g.1 (again inner w later); around = so_many g.2 d })
+            let g = subst (λ (y : Answer ℕ Misplaced). Walked s x (all + 1) h.start y) f k in
+            let m : ahead s q < ahead s at = omega (arith, start_fewer e, g.fewer) in
+            let c = g.closed all refl in (
+              m,
+              record {
+                fewer = omega (arith, m, i.fewer);
+                leads = λ later. i.leads later ∙ start-leads s r l v e (bare e) n (again inner w later) ∙ c.0 u (again inner w later);
+                around = so_many c.1 d;
+              },
+            )
 
-        pub block_strays : {p : ℕ} → a ≡ way.Out p → Strays s w from p
-        block_strays f later = i.leads later ∙ subst (λ (x : Way). Turned s v u all at h.start x) f t (again inner w later)
+        pub block_strays : {o : Misplaced} → a ≡ Err o → Strays s w from o.place
+        block_strays f later =
+            let g = subst (λ (y : Answer ℕ Misplaced). Walked s x (all + 1) h.start y) f k in
+            i.leads later ∙ start-leads s r l v e (bare e) n (again inner w later) ∙ g (u ∷ again inner w later)
+
+-- in a list: what is no term where one may stand, and what is no body where one is due
+
+module _ {s : List ℕ} {depth from at : ℕ} {h : Head} (r : Read s at h) (l : at < length s) where
+  pub no_term_strays : {w : Want} → Before s w pairs depth from 0 at
+      → ((b : Block) → h.kind ≡ kind.End b → ⊥) → (h.kind ≡ kind.Start block.ItemTerm → ⊥) → Strays s w from at
+  no_term_strays {w} i n m = of h.kind refl
+    where
+      of : (k : Kind) → h.kind ≡ k → Strays s w from at
+      of (kind.Text st) e = text_strays i r l e refl
+      of (kind.Start b) e = start_strays i r l e (no-term b (λ f. m (e ∙ ap (λ (x : Block). kind.Start x) f)))
+      of (kind.End b) e = absurd (n b e)
+      of kind.Unknown e = unknown_strays i r l e
+
+  pub no_body_strays : {w : Want} → Before s w body depth from 0 at → (h.kind ≡ kind.Start block.ItemBody → ⊥) → Strays s w from at
+  no_body_strays {w} i m = of h.kind refl
+    where
+      of : (k : Kind) → h.kind ≡ k → Strays s w from at
+      of (kind.Text st) e = text_strays i r l e refl
+      of (kind.Start b) e = start_strays i r l e (no_body b (λ f. m (e ∙ ap (λ (x : Block). kind.Start x) f)))
+      of (kind.End b) e = end_strays i r l e refl
+      of kind.Unknown e = unknown_strays i r l e
+
+  -- after a term a body is due, and in a block the document goes on
+  pub body_due : Before s pairs pairs depth from 0 at → h.kind ≡ kind.Start block.ItemTerm → 1 ≤ depth
+      → {a : Answer ℕ Misplaced} → Walked s inlines (depth + 1) h.start a → {q : ℕ} → a ≡ Ok q
+      → (ahead s q < ahead s at) × (q < length s) × Before s pairs body depth from 0 q
+  body_due i e o k f = let n = on-block i r l {all = depth} (omega arith) e (fits_inside term) k f in (n.0, goes_on n.1 o, n.1)
 
 -- a block that holds what stands around it is entered without a call
 pub on-start : {s : List ℕ} {w : Want} {depth from inner at : ℕ} → Before s w w depth from inner at → {h : Head} → Read s at h → at < length s

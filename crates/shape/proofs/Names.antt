@@ -1,6 +1,6 @@
 -- Names of other crates and libraries that the proofs of this crate cite, by where they are from.
 pub use Prim.Native.Nat.{◌+◌, ◌-◌, ◌<◌, ◌≤◌, suc, zero, ℕ}
-pub use Rattle.base.proofs.Choice.{if_false, if_true}
+pub use Rattle.base.proofs.Choice.{if_false, if_true, le_or_lt}
 pub use Rattle.base.proofs.Results.{bind_gives, gives_same, refused-gives}
 pub use Rattle.base.proofs.Stack.{length-popped, length-pushed, popped-pushed}
 unfoldable pub use Rattle.base.specs.Choice.{when◌then◌else◌}
@@ -20,13 +20,13 @@ pub use Rattle.shape.specs.InnerSteps.{Inside, Leads, OpenAt, Stopped, Walked, W
 unfoldable pub use Rattle.shape.specs.InnerSteps.{entered, go, inside, left, step, stray}
 pub use Rattle.shape.specs.Shape.{Content, Holds, OutOfPlace, Shaped, Viable, around, inline, other, same}
 unfoldable pub use Rattle.shape.specs.Shape.{kinds}
-pub use Rattle.shape.specs.declared.Way.{Way}
+pub use Rattle.shape.specs.declared.OutOfPlace.{OutOfPlace as Misplaced}
 pub use borrow.Author.Rules.{rules}
-pub use borrow.Author.Tests.{eq-eqb, eqb-true, lt-ltb}
+pub use borrow.Author.Tests.{eq-eqb, eqb-true, lt-ltb, ne_eqb}
 pub use lib.ListN.{get_or, length, length-append}
 pub use mathlib.Core.Bool.{Bool, ◌||◌, false, false≢true, not, true}
 pub use mathlib.Core.List.{List, [], ◌++◌, ◌∷◌, append_assoc, append-nil, head-eq_of_cons-eq, map, tail-eq_of_cons-eq}
 pub use mathlib.Core.Logic.{◌↔◌, ⊎_elim}
-pub use mathlib.Core.Option.{Option, none, some}
+pub use Rattle.std.specs.Prelude.{Option, None, Some, Result as Answer, Ok, Err}
 pub use mathlib.Core.Path.{◌∙◌, ◌≡◌, ap, ap₂, refl, subst, sym}
 pub use native.Mathlib.Omega.{arith}

@@ -1,21 +1,15 @@
 -- One record on the way of the code, by what may stand next. Assumes nothing.
-use Rattle.shape.proofs.Names.{ℕ, ◌+◌, ◌≤◌, ◌<◌, ◌≡◌, refl, ap, ◌∙◌, true, false, List, ◌∷◌, none, some, length, arith, lt-ltb, when◌then◌else◌}
+use Rattle.shape.proofs.Names.{ℕ, ◌≤◌, ◌<◌, ◌≡◌, ap, ◌∙◌, true, false, List, ◌∷◌, None, Some, length, arith, lt-ltb, when◌then◌else◌}
 use Rattle.shape.proofs.Names.{if_true, Token, tokens_from, Read, Style, Block, Kind, Head, Want, opens, refuses, inside, texts, closes, entered, left}
-use Rattle.shape.proofs.Names.{step, go, stray, ahead, Leads, OpenAt, Walked, Way}
+use Rattle.shape.proofs.Names.{step, go, stray, ahead, Leads}
 use Rattle.records.specs.declared.Kind.TheVariants as kind
 use Rattle.records.proofs.Tokens.{tokens-end}
-use Rattle.shape.specs.declared.Way.TheVariants as way
 
 -- whatever is wanted later, the first record from a place on that is out of place is at p
 abbrev pub Strays : List ℕ → Want → ℕ → ℕ → Type 0
-Strays s w at p = (later : List Want) → stray (tokens_from s at) w later ≡ some p
+Strays s w at p = (later : List Want) → stray (tokens_from s at) w later ≡ Some p
 
--- a block from its start record on: what may stand after it is wanted after its end record; or a record in it is out of place
-abbrev pub Turned : List ℕ → Want → Want → ℕ → ℕ → ℕ → Way → Type 0
-Turned s w u depth at next (way.Stops q) = (ahead s q ≤ ahead s next) × Leads s w at u q × OpenAt s q depth
-Turned s w u depth at next (way.Out p) = Strays s w at p
-
-pub stray-end : (s : List ℕ) (at : ℕ) → length s ≤ at → (w : Want) (later : List Want) → stray (tokens_from s at) w later ≡ none
+pub stray-end : (s : List ℕ) (at : ℕ) → length s ≤ at → (w : Want) (later : List Want) → stray (tokens_from s at) w later ≡ None
 unfolding stray
 stray-end s at h w later = ap (λ (ts : List Token). stray ts w later) (tokens-end s at h)
 
@@ -55,12 +49,6 @@ module _ (s : List ℕ) {at : ℕ} {h : Head} (r : Read s at h) (l : at < length
   pub start-out : {b : Block} → h.kind ≡ kind.Start b → inside w b ≡ refuses → Strays s w at at
   unfolding step go entered
   start-out {b} e i later = stray-here (kind.Start b) e later ∙ rw i
-
-  pub turned : {b : Block} {v u : Want} (depth : ℕ) → h.kind ≡ kind.Start b → h.start ≡ h.next → inside w b ≡ opens v u
-      → (a : Way) → Walked s v (depth + 1) h.start a → Turned s w u depth at h.start a
-  turned {b} {v} {u} depth e q i (way.Stops p) k =
-      let c = k.closed depth refl in (k.fewer, λ later. start-leads e q i later ∙ c.0 u later, c.1)
-  turned {b} {v} {u} depth e q i (way.Out p) k = λ later. start-leads e q i later ∙ k (u ∷ later)
 
   -- where the block around may end, what may stand after it is wanted after its end record
   pub end-leads : {b : Block} → h.kind ≡ kind.End b → h.start ≡ h.next → closes w ≡ true

@@ -1,7 +1,6 @@
 -- What the functions inside this crate promise each other; no rule of 02 stands here. Records are taken one at a time: what may stand
 -- next, and for each open block what may stand after it.
-use Rattle.std.specs.Prelude.{ℕ, ◌+◌, ◌≤◌, ◌≡◌, Bool, true, false, List, [], ◌∷◌, length, drop}
-use Rattle.std.proofs.Math.Option.{Option, none, some}
+use Rattle.std.specs.Prelude.{ℕ, ◌+◌, ◌≤◌, ◌≡◌, Bool, true, false, List, [], ◌∷◌, length, drop, Option, None, Some, Result as Answer, Ok, Err}
 use Rattle.base.specs.Choice.{when◌then◌else◌}
 use Rattle.base.specs.Result.{gives}
 use Rattle.records.specs.Records.{Token, tokens_from}
@@ -11,8 +10,7 @@ use Rattle.records.specs.declared.Kind.{Kind}
 use Rattle.records.specs.declared.Kind.TheVariants as kind
 use Rattle.document.specs.Document.{reads, max_open}
 use Rattle.shape.specs.Shape.{same, other, inline}
-use Rattle.shape.specs.declared.Way.{Way}
-use Rattle.shape.specs.declared.Way.TheVariants as way
+use Rattle.shape.specs.declared.OutOfPlace.{OutOfPlace}
 
 -- what may stand next: parts, pairs, what a term holds, or a body after its term
 pub data Want : Type 0 where
@@ -68,11 +66,11 @@ step kind.Unknown w later = out
 
 unfoldable pub go : ℕ → Next → (Want → List Want → Option ℕ) → Option ℕ
 go p (on w later) f = f w later
-go p out f = some p
+go p out f = Some p
 
 -- the place of the first record that may not stand where it does
 unfoldable pub stray : List Token → Want → List Want → Option ℕ
-stray [] w later = none
+stray [] w later = None
 stray (t ∷ ts) w later = go t.place (step t.kind w later) (stray ts)
 
 -- the number of records from a place on
@@ -96,9 +94,9 @@ pub record Stopped (s : List ℕ) (w : Want) (depth from at : ℕ) : Type 0 wher
   pub fewer : ahead s at ≤ ahead s from
   pub closed : (outer : ℕ) → depth ≡ outer + 1
       → ((u : Want) (later : List Want) → stray (tokens_from s from) w (u ∷ later) ≡ stray (tokens_from s at) u later) × OpenAt s at outer
-  pub whole : depth ≡ 0 → (later : List Want) → stray (tokens_from s from) w later ≡ none
+  pub whole : depth ≡ 0 → (later : List Want) → stray (tokens_from s from) w later ≡ None
 
 -- a run from a place on: where it stops, or what is out of place in it
-abbrev pub Walked : List ℕ → Want → ℕ → ℕ → Way → Type 0
-Walked s w depth from (way.Stops at) = Stopped s w depth from at
-Walked s w depth from (way.Out p) = (later : List Want) → stray (tokens_from s from) w later ≡ some p
+abbrev pub Walked : List ℕ → Want → ℕ → ℕ → Answer ℕ OutOfPlace → Type 0
+Walked s w depth from (Ok at) = Stopped s w depth from at
+Walked s w depth from (Err o) = (later : List Want) → stray (tokens_from s from) w later ≡ Some o.place

@@ -1,6 +1,5 @@
 -- Documents, each with its answer: as one list, and the one claim about them.
-use Rattle.std.specs.Prelude.{ℕ, zero, suc, List, [], ◌∷◌, ◌++◌}
-use Rattle.std.proofs.Math.Option.{Option, none, some}
+use Rattle.std.specs.Prelude.{ℕ, zero, suc, List, [], ◌∷◌, ◌++◌, Option, None, Some}
 use Rattle.base.specs.Result.{Result, gives, refused}
 use Rattle.records.specs.Stored.{text, start, end, around}
 use Rattle.records.specs.declared.Style.TheVariants as style
@@ -13,10 +12,10 @@ pub record Sample : Type 0 where
 
 -- the document has the shape; has not, by the record at a place; is refused
 abbrev pub has : List ℕ → Sample
-has d = record { document = d; answer = gives none }
+has d = record { document = d; answer = gives None }
 
 abbrev pub wrong : List ℕ → ℕ → Sample
-wrong d p = record { document = d; answer = gives (some p) }
+wrong d p = record { document = d; answer = gives (Some p) }
 
 abbrev pub refuses : List ℕ → ℕ → ℕ → Sample
 refuses d n p = record { document = d; answer = refused n p }

@@ -1,6 +1,9 @@
 -- The skip counter. Assumes nothing.
 use Rattle.skip.proofs.Names.{refl, sym, arith, lt-ltb, le-ltb, pick, if_true, if_false, Block, skip_start, skip_end, new_if_fits}
-use Prim.Native.Nat.{ℕ, ◌+◌, ◌-◌, ◌≤◌, ◌<◌, ◌^◌}
+use Rattle.base.proofs.Choice.{le_or_lt}
+use mathlib.Core.Logic.{⊎_elim}
+use mathlib.Core.Path.{◌∙◌}
+use Prim.Native.Nat.{ℕ, min, ◌+◌, ◌-◌, ◌≤◌, ◌<◌, ◌^◌}
 use mathlib.Core.Path.{◌≡◌}
 use Rattle.records.specs.declared.Block.TheVariants as block
 
@@ -38,11 +41,16 @@ pop_one n = if_true _ _ refl
 
 -- and as the code holds them
 module _ (n : ℕ) where
-  pub pushes : 0 < n → n < 0xFFFF_FFFF_FFFF_FFFF → n + 1 ≡ new_if_fits n (skip_start block.InlineBlock n)
-  pushes h k = sym (rw (push_over n h) (new_fits n (n + 1) (omega arith)))
-
-  pub pushes-no-further : 0 < n → 0xFFFF_FFFF_FFFF_FFFF ≤ n → n ≡ new_if_fits n (skip_start block.InlineBlock n)
-  pushes-no-further h k = sym (rw (push_over n h) (old_stays n (n + 1) (omega arith)))
+  pub pushes : 0 < n → n < 2 ^ 64 → min (n + 1) 0xFFFF_FFFF_FFFF_FFFF ≡ new_if_fits n (skip_start block.InlineBlock n)
+  pushes h k =
+      ⊎_elim
+      (λ (l : n + 1 ≤ 0xFFFF_FFFF_FFFF_FFFF).
+      let m : min (n + 1) 0xFFFF_FFFF_FFFF_FFFF ≡ n + 1 = omega arith in
+      m ∙ sym (rw (push_over n h) (new_fits n (n + 1) (omega arith))))
+      (λ (l : 0xFFFF_FFFF_FFFF_FFFF < n + 1).
+      let m : min (n + 1) 0xFFFF_FFFF_FFFF_FFFF ≡ n = omega arith in
+      m ∙ sym (rw (push_over n h) (old_stays n (n + 1) (omega arith))))
+      (le_or_lt (n + 1) 0xFFFF_FFFF_FFFF_FFFF)
 
   pub pushes-none : n ≤ 0 → n ≡ new_if_fits n (skip_start block.InlineBlock n)
   pushes-none h = sym (rw (push-none n h) (new_fits n n (omega arith)))

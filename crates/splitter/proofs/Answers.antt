@@ -2,12 +2,11 @@
 use Rattle.splitter.proofs.Names.{ℕ, ◌+◌, ◌-◌, ◌≤◌, ◌<◌, ◌≡◌, refl, sym, ap, ap₂, ◌∙◌, Bool, true, false, and-true, List, [], ◌∷◌, eqb, length, drop}
 use Rattle.splitter.proofs.Names.{get_or, length-drop, drop-drop, drop-cons, arith, eq-eqb, ne_eqb, when◌then◌else◌, starts_with, Chunk, raw, paragraph}
 use Rattle.splitter.proofs.Names.{line_break, line, word, ticks, four, is_line_end, Step, after_line_end, ticked, step, stripped, Follows, word_from, Code}
-use Rattle.splitter.proofs.Names.{Cursor, Piece, Raw, Space, Paragraph, LineBreak, Take, Done}
+use Rattle.splitter.proofs.Names.{Cursor, Piece, Raw, Space, Paragraph, LineBreak, Some, None, Option}
 use Rattle.base.specs.Bytes.{part}
 use Rattle.splitter.specs.Answers.{piece_at, answer, first_chunk, placed_of, cursor, placed_from, piece_text, PieceWithin, Within}
 use Rattle.splitter.specs.declared.Code.TheVariants as code
 use Rattle.splitter.specs.declared.Word.{Word}
-use Rattle.splitter.specs.declared.Step.{Step as Answer}
 use Rattle.splitter.proofs.Before.{before-after}
 use Rattle.splitter.proofs.Starts.{word-no_space}
 use Rattle.splitter.proofs.Stripped.{shorter_starts, shorter_drop, shorter_place, whole-starts-not}
@@ -17,9 +16,9 @@ use Rattle.splitter.proofs.Steps.{space_piece, word_piece, line-piece, first-non
 -- an answer is that of a step of the rules where its parts are
 module _ (at : ℕ) where
   given : (s : Step) (p : Piece) (to : ℕ) (d : Code) → piece_at (at + s.begins) s.chunk ≡ p → to ≡ at + s.used → d ≡ s.code
-      → Take p (cursor to d) ≡ answer at s
+      → Some (p, cursor to d) ≡ answer at s
   unfolding answer
-  given s p to d e f g = ap₂ Take (sym e) (ap₂ cursor f g)
+  given s p to d e f g = ap₂ (λ (q : Piece) (x : Cursor). Some (q, x)) (sym e) (ap₂ cursor f g)
 
   -- for a chunk that begins at the first of the bytes
   at_first : (c : Chunk) (p : Piece) → piece_at at c ≡ p → piece_at (at + 0) c ≡ p
@@ -30,19 +29,19 @@ module _ (body : List ℕ) (at to : ℕ) (e : to ≡ at + length (line (drop at 
   tick-piece : piece_at (at + 0) (raw (line (drop at body)) 1_000_001) ≡ Raw at to 1_000_001
   tick-piece = at_first at _ _ (line-piece at (line (drop at body)) 1_000_001 to e refl)
 
-  pub ticked-on : (last : Bool) → last ≡ false → Take (Raw at to 1_000_001) (cursor (to + 1) code.Rest) ≡ answer at (ticked last (drop at body))
+  pub ticked-on : (last : Bool) → last ≡ false → Some (Raw at to 1_000_001, cursor (to + 1) code.Rest) ≡ answer at (ticked last (drop at body))
   unfolding ticked when◌then◌else◌
   ticked-on last f = rw f (given at (ticked false (drop at body)) (Raw at to 1_000_001) (to + 1) code.Rest tick-piece (omega arith) refl)
 
   module _ (last : Bool) (f : last ≡ true) where
     pub ticked-kept : starts_with (0x0A ∷ 0x0A ∷ []) (drop to body) ≡ true
-        → Take (Raw at to 1_000_001) (cursor to code.No) ≡ answer at (ticked last (drop at body))
+        → Some (Raw at to 1_000_001, cursor to code.No) ≡ answer at (ticked last (drop at body))
     unfolding ticked when◌then◌else◌
     ticked-kept g =
         rw f (given at (ticked true (drop at body)) (Raw at to 1_000_001) to code.No tick-piece (rw (before-after is_line_end body at to e, g) e) refl)
 
     pub ticked-last : starts_with (0x0A ∷ 0x0A ∷ []) (drop to body) ≡ false
-        → Take (Raw at to 1_000_001) (cursor (to + 1) code.No) ≡ answer at (ticked last (drop at body))
+        → Some (Raw at to 1_000_001, cursor (to + 1) code.No) ≡ answer at (ticked last (drop at body))
     unfolding ticked when◌then◌else◌
     ticked-last g =
         rw f (given at (ticked true (drop at body)) (Raw at to 1_000_001) (to + 1) code.No tick-piece
@@ -50,7 +49,7 @@ module _ (body : List ℕ) (at to : ℕ) (e : to ≡ at + length (line (drop at 
 
 -- After a line end, which stands at `at`
 module _ (body tail : List ℕ) (at : ℕ) (f : Follows body at tail) where
-  abbrev Answers : Answer → Type 0
+  abbrev Answers : Option (Piece × Cursor) → Type 0
   Answers r = r ≡ answer at (after_line_end tail)
 
   -- what stands after a prefix of the tail begins so far on
@@ -62,7 +61,7 @@ module _ (body tail : List ℕ) (at : ℕ) (f : Follows body at tail) where
 
   pub after-code : (rest : List ℕ) (to : ℕ) → rest ≡ stripped four tail → length rest < length tail
       → to ≡ length body - length rest + length (line (drop (length body - length rest) body))
-      → Answers (Take (Raw (length body - length rest) to 1_000_000) (cursor to code.No))
+      → Answers (Some (Raw (length body - length rest) to 1_000_000, cursor to code.No))
   unfolding after_line_end when◌then◌else◌
   after-code rest to e h k =
       let p : at + 5 ≡ length body - length rest = omega (arith, tail_place four rest e h) in
@@ -74,18 +73,18 @@ module _ (body tail : List ℕ) (at : ℕ) (f : Follows body at tail) where
       (rw p (line-piece from (line (drop from body)) 1_000_000 to k refl)) (omega arith) refl)
 
   module _ (na : starts_with four tail ≡ false) where
-    pub after-ticks : starts_with (0x0A ∷ ticks) tail ≡ true → Answers (Take (Paragraph at) (cursor (at + 1 + 1) code.First))
+    pub after-ticks : starts_with (0x0A ∷ ticks) tail ≡ true → Answers (Some (Paragraph at, cursor (at + 1 + 1) code.First))
     unfolding after_line_end when◌then◌else◌ piece_at
     after-ticks e = rw (na, e) (given at _ (Paragraph at) (at + 1 + 1) code.First (at_first at paragraph _ refl) (omega arith) refl)
 
     module _ (nb : starts_with (0x0A ∷ ticks) tail ≡ false) where
-      pub after-four : starts_with (0x0A ∷ four) tail ≡ true → Answers (Take (Paragraph at) (cursor (at + 1) code.No))
+      pub after-four : starts_with (0x0A ∷ four) tail ≡ true → Answers (Some (Paragraph at, cursor (at + 1) code.No))
       unfolding after_line_end when◌then◌else◌ piece_at
       after-four e = rw (na, nb, e) (given at _ (Paragraph at) (at + 1) code.No (at_first at paragraph _ refl) refl refl)
 
       module _ (nc : starts_with (0x0A ∷ four) tail ≡ false) where
         pub after_para : (rest : List ℕ) → rest ≡ stripped (0x0A ∷ []) tail → length rest < length tail
-            → Answers (Take (Paragraph at) (cursor (length body - length rest) code.No))
+            → Answers (Some (Paragraph at, cursor (length body - length rest) code.No))
         unfolding after_line_end when◌then◌else◌ piece_at
         after_para rest e h =
             rw (na, nb, nc, shorter_starts (0x0A ∷ []) tail rest e h)
@@ -94,14 +93,14 @@ module _ (body tail : List ℕ) (at : ℕ) (f : Follows body at tail) where
 
         module _ (nd : starts_with (0x0A ∷ []) tail ≡ false) where
           pub after_break : (rest : List ℕ) → rest ≡ stripped (0x20 ∷ []) tail → length rest < length tail
-              → Answers (Take (LineBreak at) (cursor (length body - length rest) code.No))
+              → Answers (Some (LineBreak at, cursor (length body - length rest) code.No))
           unfolding after_line_end when◌then◌else◌ piece_at
           after_break rest e h =
               rw (na, nb, nc, nd, shorter_starts (0x20 ∷ []) tail rest e h)
               (given at _ (LineBreak at) (length body - length rest) code.No (at_first at line_break _ refl)
               (omega (arith, tail_place (0x20 ∷ []) rest e h)) refl)
 
-          pub after_space : starts_with (0x20 ∷ []) tail ≡ false → Answers (Take (Space at) (cursor (at + 1) code.No))
+          pub after_space : starts_with (0x20 ∷ []) tail ≡ false → Answers (Some (Space at, cursor (at + 1) code.No))
           unfolding after_line_end when◌then◌else◌ piece_at
           after_space e =
               rw (na, nb, nc, nd, e)
@@ -109,16 +108,16 @@ module _ (body tail : List ℕ) (at : ℕ) (f : Follows body at tail) where
 
 -- Outside ticks
 module _ (body : List ℕ) (at : ℕ) (h : at < length body) where
-  abbrev Plain : Answer → Type 0
+  abbrev Plain : Option (Piece × Cursor) → Type 0
   Plain r = r ≡ answer at (step code.No (drop at body))
 
   module _ (n : starts_with (0x0A ∷ []) (drop at body) ≡ false) where
-    space_step : starts_with (0x20 ∷ []) (drop at body) ≡ true → Plain (Take (Space at) (cursor (at + 1) code.No))
+    space_step : starts_with (0x20 ∷ []) (drop at body) ≡ true → Plain (Some (Space at, cursor (at + 1) code.No))
     unfolding step when◌then◌else◌
     space_step e = rw (n, e) (given at _ (Space at) (at + 1) code.No (at_first at (raw (0x20 ∷ []) 1) _ (space_piece at)) refl refl)
 
     word-step : (w : Word) → starts_with (0x20 ∷ []) (drop at body) ≡ false → w ≡ word_from body at
-        → Plain (Take (Raw at w.to w.width) (cursor w.to code.No))
+        → Plain (Some (Raw at w.to w.width, cursor w.to code.No))
     unfolding step when◌then◌else◌
     word-step w m e =
         let f = ap (λ (x : Word). x.to) e in
@@ -139,7 +138,7 @@ module _ (body : List ℕ) (at : ℕ) (h : at < length body) where
       pub line_follows : Follows body at tail
       line_follows = (h, shorter_drop (0x0A ∷ []) input tail e l ∙ ap (drop 1) i ∙ drop-drop 1 at body)
 
-      pub after_line : (r : Answer) → r ≡ answer at (after_line_end tail) → Plain r
+      pub after_line : (r : Option (Piece × Cursor)) → r ≡ answer at (after_line_end tail) → Plain r
       unfolding step when◌then◌else◌
       after_line r g =
           let q : drop 1 (drop at body) ≡ tail = sym (shorter_drop (0x0A ∷ []) input tail e l ∙ ap (drop 1) i) in
@@ -150,13 +149,13 @@ module _ (body : List ℕ) (at : ℕ) (h : at < length body) where
       no_line = sym (ap (starts_with (0x0A ∷ [])) i) ∙ whole-starts-not (0x0A ∷ []) input tail e (omega arith) l
 
       pub a_space : (rest : List ℕ) → rest ≡ stripped (0x20 ∷ []) input → length rest < length input
-          → Plain (Take (Space at) (cursor (length body - length rest) code.No))
+          → Plain (Some (Space at, cursor (length body - length rest) code.No))
       a_space rest f k =
           rw (shorter_place (0x20 ∷ []) input rest f k body at (omega arith) i)
           (space_step no_line (sym (ap (starts_with (0x20 ∷ [])) i) ∙ shorter_starts (0x20 ∷ []) input rest f k))
 
       pub a_word : (rest : List ℕ) (w : Word) → rest ≡ stripped (0x20 ∷ []) input → length input ≤ length rest → w ≡ word_from body at
-          → Plain (Take (Raw at w.to w.width) (cursor w.to code.No))
+          → Plain (Some (Raw at w.to w.width, cursor w.to code.No))
       a_word rest w f k g = word-step no_line w (sym (ap (starts_with (0x20 ∷ [])) i) ∙ whole-starts-not (0x20 ∷ []) input rest f (omega arith) k) g
 
   -- by the byte at the place, as a reader of single bytes knows it
@@ -165,15 +164,15 @@ module _ (body : List ℕ) (at : ℕ) (h : at < length body) where
   starts-one x = rw (drop-cons body at 0 h) (and-true _)
 
   module _ (n : get_or body at 0 ≡ 0x0A → ⊥) where
-    pub plain_space : get_or body at 0 ≡ 0x20 → Plain (Take (Space at) (cursor (at + 1) code.No))
+    pub plain_space : get_or body at 0 ≡ 0x20 → Plain (Some (Space at, cursor (at + 1) code.No))
     plain_space e = space_step (starts-one 0x0A ∙ ne_eqb _ _ n) (starts-one 0x20 ∙ eq-eqb _ _ e)
 
     pub plain_word : (w : Word) → (get_or body at 0 ≡ 0x20 → ⊥) → w ≡ word_from body at
-        → Plain (Take (Raw at w.to w.width) (cursor w.to code.No))
+        → Plain (Some (Raw at w.to w.width, cursor w.to code.No))
     plain_word w m e = word-step (starts-one 0x0A ∙ ne_eqb _ _ n) w (starts-one 0x20 ∙ ne_eqb _ _ m) e
 
 -- In ticks
-module _ (body : List ℕ) (at : ℕ) (r : Answer) where
+module _ (body : List ℕ) (at : ℕ) (r : Option (Piece × Cursor)) where
   pub first-tick : r ≡ answer at (ticked false (drop at body)) → r ≡ answer at (step code.First (drop at body))
   unfolding step
   first-tick g = g
@@ -186,18 +185,19 @@ module _ (body : List ℕ) (at : ℕ) (r : Answer) where
 -- A step at a cursor
 
 -- the two promises of a step
-abbrev pub Answered : List ℕ → Cursor → Answer → Type 0
+abbrev pub Answered : List ℕ → Cursor → Option (Piece × Cursor) → Type 0
 Answered body c r = (r ≡ first_chunk body c) × Within body c r
 
 module _ (body : List ℕ) (c : Cursor) where
-  within : (r : Answer) → r ≡ first_chunk body c → Answered body c r
+  within : (r : Option (Piece × Cursor)) → r ≡ first_chunk body c → Answered body c r
   within r e = (e, rw e (first-within body c))
 
-  pub answers_some : (d : Code) (r : Answer) → c.at < length body → c.code ≡ d → r ≡ answer c.at (step d (drop c.at body)) → Answered body c r
+  pub answers_some : (d : Code) (r : Option (Piece × Cursor)) → c.at < length body → c.code ≡ d → r ≡ answer c.at (step d (drop c.at body))
+      → Answered body c r
   answers_some d r h e g = within r (rw (← e) at g ∙ sym (first_some body c h))
 
-  pub answers_none : length body ≤ c.at → Answered body c Done
-  answers_none h = within Done (sym (first-none body c h))
+  pub answers_none : length body ≤ c.at → Answered body c None
+  answers_none h = within None (sym (first-none body c h))
 
 -- What a loop over cursors learns of an answer
 
@@ -208,10 +208,10 @@ pub record Took (body : List ℕ) (c : Cursor) (p : Piece) (d : Cursor) : Type 0
   pub further : c.at + 1 ≤ d.at
   pub short : d.at ≤ length body + 1
 
-module _ (body : List ℕ) (c : Cursor) (r : Answer) where
-  pub took : (p : Piece) (d : Cursor) → r ≡ Take p d → Answered body c r → Took body c p d
+module _ (body : List ℕ) (c : Cursor) (r : Option (Piece × Cursor)) where
+  pub took : (p : Piece) (d : Cursor) → r ≡ Some (p, d) → Answered body c r → Took body c p d
   took p d e a =
-      let b : Answered body c (Take p d) = rw e at a in
+      let b : Answered body c (Some (p, d)) = rw e at a in
       record {
         chunks = placed-take body c p d b.0;
         piece = b.1.0;
@@ -220,8 +220,8 @@ module _ (body : List ℕ) (c : Cursor) (r : Answer) where
       }
 
   -- none: none is left
-  pub ended : r ≡ Done → Answered body c r → placed_from body c ≡ []
-  ended e a = let b : Answered body c Done = rw e at a in placed-done body c b.0
+  pub ended : r ≡ None → Answered body c r → placed_from body c ≡ []
+  ended e a = let b : Answered body c None = rw e at a in placed-done body c b.0
 
 -- The text of a piece
 pub text-raw : (body : List ℕ) (from to width : ℕ) (p : Piece) → p ≡ Raw from to width → part body from to ≡ piece_text body p

@@ -12,7 +12,6 @@ pub use Rattle.splitter.specs.declared.Code.{Code}
 pub use Rattle.splitter.specs.declared.Cursor.{Cursor}
 pub use Rattle.splitter.specs.declared.Piece.{Piece}
 pub use Rattle.splitter.specs.declared.Piece.TheVariants.{LineBreak, Paragraph, Raw, Space}
-pub use Rattle.splitter.specs.declared.Step.TheVariants.{Done, Take}
 pub use Rattle.utf8.specs.Utf8.{characters, continues}
 pub use borrow.Author.Rules.{rules}
 pub use borrow.Author.Tests.{eq-eqb, eqb-true, le-leb, lt-leb, ne_eqb}
@@ -25,3 +24,4 @@ pub use mathlib.Core.Logic.{⊎_elim}
 pub use mathlib.Core.Path.{◌∙◌, ◌≡◌, ap, ap₂, refl, subst, sym}
 pub use native.Mathlib.Nat.{le_refl}
 pub use native.Mathlib.Omega.{arith}
+pub use Rattle.std.specs.Prelude.{None, Option, Some}

@@ -2,7 +2,7 @@
 use Rattle.splitter.proofs.Names.{ℕ, zero, suc, ◌+◌, ◌-◌, ◌≤◌, ◌<◌, ◌≡◌, refl, sym, ap, ap₂, ◌∙◌, true, false, ◌&&◌, and-false, ⊎_elim, List, [], ◌∷◌}
 use Rattle.splitter.proofs.Names.{eqb, length, take, drop, length-drop, drop_of_length-le, drop-drop, drop-cons, arith, eqb-true, le-leb, lt-leb}
 use Rattle.splitter.proofs.Names.{when◌then◌else◌, starts_with, pick, and_left, and_right, le_or_lt, starts-length, drop_less, Chunk, raw, paragraph}
-use Rattle.splitter.proofs.Names.{line_break, is_space, Step, step, Placed, placed, split, Code, Cursor, Piece, Raw, Space, Take, Done}
+use Rattle.splitter.proofs.Names.{line_break, is_space, Step, step, Placed, placed, split, Code, Cursor, Piece, Raw, Space, Some, None}
 use Rattle.splitter.specs.Answers.{piece_at, answer, first_chunk, placed_of, cursor, start, placed_from, PieceWithin, Within}
 use Rattle.splitter.proofs.Starts.{starts-take, is_space-one}
 use Rattle.splitter.proofs.Fits.{Moves, moves, step_moves, Stands, text_stands, line_end_stands, paragraph_stands, break_stands, width_of, Fits, step_fits}
@@ -95,7 +95,7 @@ abbrev pub next_from : List ℕ → Cursor → Cursor
 next_from body c = cursor (c.at + (step_from body c).used) (step_from body c).code
 
 module _ (body : List ℕ) (c : Cursor) where
-  pub first-none : length body ≤ c.at → first_chunk body c ≡ Done
+  pub first-none : length body ≤ c.at → first_chunk body c ≡ None
   unfolding first_chunk when◌then◌else◌
   first-none h = rw (le-leb _ _ h)
 
@@ -122,12 +122,14 @@ module _ (body : List ℕ) (c : Cursor) where
         f ∙ ap (λ (l : List ℕ). placed_at c.at r ∷ placed (c.at + r.used) r.code 0 l) (drop-drop r.used c.at body)
 
     -- what an answer says of the chunk and of the next cursor
-    next-is : (p : Piece) (d : Cursor) → Take p d ≡ first_chunk body c → (placed_of body p ≡ placed_at c.at (step_from body c)) × (d ≡ next_from body c)
+    next-is : (p : Piece) (d : Cursor) → Some (p, d) ≡ first_chunk body c
+        → (placed_of body p ≡ placed_at c.at (step_from body c)) × (d ≡ next_from body c)
     unfolding answer
     next-is p d e =
-        let f = e ∙ first_some h in
-        let g : p ≡ piece_at (c.at + (step_from body c).begins) (step_from body c).chunk = cc in
-        (ap (placed_of body) g ∙ piece-chunk body (c.at + (step_from body c).begins) (step_from body c).chunk from-stands, cc)
+        let e' = e ∙ first_some h in
+        let f : (p, d) ≡ (piece_at (c.at + (step_from body c).begins) (step_from body c).chunk, next_from body c) = cc in
+        let g = piece-chunk body (c.at + (step_from body c).begins) (step_from body c).chunk from-stands in
+        (ap (λ (x : Piece × Cursor). placed_of body x.0) f ∙ g, ap (λ (x : Piece × Cursor). x.1) f)
 
     some-within : Within body c (answer c.at (step_from body c))
     unfolding answer
@@ -146,14 +148,14 @@ module _ (body : List ℕ) (c : Cursor) where
       (λ (h : c.at < length body). rw (first_some h) (some-within h)) (le_or_lt (length body) c.at)
 
   -- where no chunk is left
-  pub placed-done : Done ≡ first_chunk body c → placed_from body c ≡ []
+  pub placed-done : None ≡ first_chunk body c → placed_from body c ≡ []
   unfolding placed answer
   placed-done e =
       ⊎_elim (λ (h : length body ≤ c.at). rw (drop_of_length-le body h))
       (λ (h : c.at < length body). let f = e ∙ first_some h in cc) (le_or_lt (length body) c.at)
 
   -- a chunk that a step gives, and the chunks from the next cursor on
-  pub placed-take : (p : Piece) (d : Cursor) → Take p d ≡ first_chunk body c → placed_from body c ≡ placed_of body p ∷ placed_from body d
+  pub placed-take : (p : Piece) (d : Cursor) → Some (p, d) ≡ first_chunk body c → placed_from body c ≡ placed_of body p ∷ placed_from body d
   placed-take p d e =
       ⊎_elim (λ (h : length body ≤ c.at). let f = e ∙ first-none h in cc)
       (λ (h : c.at < length body).

@@ -1,5 +1,5 @@
 -- What the step over a slice and a cursor answers, as the rules have it.
-use Rattle.std.specs.Prelude.{ℕ, ◌+◌, ◌≤◌, ◌<◌, ◌&&◌, List, [], ◌∷◌, eqb, leb, length, drop}
+use Rattle.std.specs.Prelude.{ℕ, ◌+◌, ◌≤◌, ◌<◌, ◌&&◌, List, [], ◌∷◌, eqb, leb, length, drop, Option, Some, None}
 use Rattle.base.specs.Bytes.{part}
 use Rattle.base.specs.Choice.{when◌then◌else◌}
 use Rattle.splitter.specs.Split.{Chunk, raw, paragraph, line_break, is_space, step, Placed, placed, chunk_ticked_code}
@@ -9,8 +9,6 @@ use Rattle.splitter.specs.declared.Code.TheVariants as code
 use Rattle.splitter.specs.declared.Cursor.{Cursor}
 use Rattle.splitter.specs.declared.Piece.{Piece}
 use Rattle.splitter.specs.declared.Piece.TheVariants.{Raw, Space, Paragraph, LineBreak}
-use Rattle.splitter.specs.declared.Step.{Step}
-use Rattle.splitter.specs.declared.Step.TheVariants.{Take, Done}
 
 -- the piece that a chunk is at a place of a body: 'A word or line is handed back as a part of that body'; 'the chunk of one space' is a case of
 -- its own, for a space of the body and for a line end, which the byte at its place tells apart.
@@ -27,12 +25,12 @@ abbrev pub start : Cursor
 start = cursor 0 code.No
 
 -- a step of the rules for the bytes from a place of a body on, as an answer
-unfoldable pub answer : ℕ → rules.Step → Step
-answer at s = Take (piece_at (at + s.begins) s.chunk) (cursor (at + s.used) s.code)
+unfoldable pub answer : ℕ → rules.Step → Option (Piece × Cursor)
+answer at s = Some (piece_at (at + s.begins) s.chunk, cursor (at + s.used) s.code)
 
 -- 'a step giving a chunk and a cursor'; 'a cursor at or past the body's end has no further chunk'
-unfoldable pub first_chunk : List ℕ → Cursor → Step
-first_chunk body c = when leb (length body) c.at then Done else answer c.at (step c.code (drop c.at body))
+unfoldable pub first_chunk : List ℕ → Cursor → Option (Piece × Cursor)
+first_chunk body c = when leb (length body) c.at then None else answer c.at (step c.code (drop c.at body))
 
 -- the chunk that a piece of a body is
 abbrev pub chunk_of : List ℕ → Piece → Chunk
@@ -71,6 +69,6 @@ PieceWithin n (Paragraph at) = at < n
 PieceWithin n (LineBreak at) = at < n
 
 -- and the next cursor is past the last one, and at most one past the end
-abbrev pub Within : List ℕ → Cursor → Step → Type 0
-Within body c (Take p d) = PieceWithin (length body) p × (c.at + 1 ≤ d.at) × (d.at ≤ length body + 1)
-Within body c Done = length body ≤ c.at
+abbrev pub Within : List ℕ → Cursor → Option (Piece × Cursor) → Type 0
+Within body c (Some x) = PieceWithin (length body) x.0 × (c.at + 1 ≤ x.1.at) × (x.1.at ≤ length body + 1)
+Within body c None = length body ≤ c.at

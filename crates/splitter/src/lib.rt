@@ -2,12 +2,11 @@
 
 #![tactic(auto)]
 
-ghost use Rattle.std.specs.Prelude.{◌≡◌, false, ◌+◌, ◌<◌, length, drop};
+ghost use Rattle.std.specs.Prelude.{◌≡◌, false, Some, ◌+◌, ◌<◌, length, drop};
 ghost use Rattle.splitter.specs.Split.{line, step, stripped, ticked as ticked_line, after_line_end};
 ghost use Rattle.splitter.specs.Answers.{cursor, answer, first_chunk, place_of, piece_text, Within};
 ghost use Rattle.splitter.specs.InnerParts.{Follows, word_from};
 ghost use Rattle.splitter.specs.declared.Code.TheVariants as code;
-ghost use Rattle.splitter.specs.declared.Step.TheVariants.{Take};
 
 // The width of a code line: the source's `Chunk::CODE`.
 pub const CODE: usize = 1_000_000;
@@ -16,7 +15,7 @@ pub const CODE: usize = 1_000_000;
 pub const TICKED_CODE: usize = 1_000_001;
 
 // Whether a place in a body is in ticks: outside them, at their first line, at a later one.
-#[derive(Clone, Copy)]
+#[derive(Clone, Copy, Debug, PartialEq, Eq)]
 pub enum Code {
     No,
     First,
@@ -24,7 +23,7 @@ pub enum Code {
 }
 
 // A place in a body, and how the body stands there.
-#[derive(Clone, Copy)]
+#[derive(Clone, Copy, Debug, PartialEq, Eq)]
 pub struct Cursor {
     pub at: usize,
     pub code: Code,
@@ -32,19 +31,12 @@ pub struct Cursor {
 
 // A chunk and where in the body it begins: a part of the body from a place up to another with its width; the chunk of one space, for the space or
 // the line end at a place; a paragraph, a line break.
-#[derive(Clone, Copy)]
+#[derive(Clone, Copy, Debug, PartialEq, Eq)]
 pub enum Piece {
     Raw(usize, usize, usize),
     Space(usize),
     Paragraph(usize),
     LineBreak(usize),
-}
-
-// A chunk with the cursor after it, or that there is none.
-#[derive(Clone, Copy)]
-pub enum Step {
-    Take(Piece, Cursor),
-    Done,
 }
 
 // Where the line that starts at `at` ends.
@@ -77,37 +69,28 @@ fn word_end(body: &[u8], at: usize) -> Word
     while to < body.len() {
         let x = body[to];
         if x == b' ' {
-            return Word {
-                to: to,
-                width: width,
-            };
+            return Word { to, width };
         }
         if x == b'\n' {
-            return Word {
-                to: to,
-                width: width,
-            };
+            return Word { to, width };
         }
         if x >> 6 != 2 {
             width += 1;
         }
         to += 1;
     }
-    Word {
-        to: to,
-        width: width,
-    }
+    Word { to, width }
 }
 
 // A chunk, and where the next one starts, and how.
-fn found(piece: Piece, at: usize, code: Code) -> Step
-    ensures { result ≡ Take piece (cursor at code) }
+fn found(piece: Piece, at: usize, code: Code) -> Option<(Piece, Cursor)>
+    ensures { result ≡ Some (piece, cursor at code) }
 {
-    Step::Take(piece, Cursor { at: at, code: code })
+    Some((piece, Cursor { at, code }))
 }
 
 // A line in ticks.
-fn ticked(body: &[u8], at: usize, last: bool) -> Step
+fn ticked(body: &[u8], at: usize, last: bool) -> Option<(Piece, Cursor)>
     requires { at < length body.now }
     ensures { result ≡ answer at (ticked_line last (drop at body.now)) }
 {
@@ -134,7 +117,7 @@ pub fn strip_prefix<'a>(text: &'a [u8], prefix: &[u8]) -> &'a [u8]
 }
 
 // What the line end at `start` begins; `tail` is what follows it.
-fn after_line_end(body: &[u8], start: usize, tail: &[u8]) -> Step
+fn after_line_end(body: &[u8], start: usize, tail: &[u8]) -> Option<(Piece, Cursor)>
     requires { Follows body.now start tail.now }
     ensures { result ≡ answer start (after_line_end tail.now) }
 {
@@ -163,7 +146,7 @@ fn after_line_end(body: &[u8], start: usize, tail: &[u8]) -> Step
 }
 
 // Outside ticks.
-fn plain(body: &[u8], at: usize) -> Step
+fn plain(body: &[u8], at: usize) -> Option<(Piece, Cursor)>
     requires { at < length body.now }
     ensures { result ≡ answer at (step code.No (drop at body.now)) }
 {
@@ -182,7 +165,7 @@ fn plain(body: &[u8], at: usize) -> Step
 }
 
 // In ticks, after their first line.
-fn later(body: &[u8], at: usize) -> Step
+fn later(body: &[u8], at: usize) -> Option<(Piece, Cursor)>
     requires { at < length body.now }
     ensures { result ≡ answer at (step code.Rest (drop at body.now)) }
 {
@@ -190,14 +173,14 @@ fn later(body: &[u8], at: usize) -> Step
     ticked(body, at, last)
 }
 
-// The first chunk from a cursor on, and the cursor after it.
-pub fn step_at(body: &[u8], c: Cursor) -> Step
+// The first chunk from a cursor on, and the cursor after it; none at the body's end.
+pub fn step_at(body: &[u8], c: Cursor) -> Option<(Piece, Cursor)>
     ensures chunk { result ≡ first_chunk body.now c }
     ensures within { Within body.now c result }
 {
     let at = c.at;
     if body.len() <= at {
-        return Step::Done;
+        return None;
     }
     let code = c.code;
     match code {

@@ -1,16 +1,14 @@
 -- The chunks that are left: a step takes the first of them, and there are at most as many as bytes. Assumes nothing.
-use Rattle.splitter_iter.proofs.Names.{arith, Code, Step, placed-take, placed-done, body_of, cursor_of, left, has_chunk, Splitter, splitter, after_step, first_chunk}
+use Rattle.splitter_iter.proofs.Names.{arith, Code, placed-take, placed-done, left, Splitter, Steps}
 use Prim.Native.Nat.{ℕ, zero, suc, ◌+◌, ◌-◌, ◌≤◌}
-use mathlib.Core.Path.{◌≡◌, ap, sym}
-use mathlib.Core.Bool.{true, false, false≢true}
+use mathlib.Core.Path.{◌≡◌, ap}
 use mathlib.Core.List.{List, [], ◌∷◌}
 use lib.ListN.{length}
+use Rattle.std.specs.Prelude.{Some, None}
+use Rattle.std.specs.Iterator.{Yields, Drains}
 use Rattle.splitter.specs.Split.{step, placed, split}
-use Rattle.splitter.specs.declared.Step.TheVariants.{Take, Done}
-
--- what `next` says: the first chunk that is left, and the splitter after it
-abbrev pub Said : Splitter → Step → Splitter → Type 0
-Said h r z = (r ≡ first_chunk (body_of h) (cursor_of h)) × (z ≡ splitter h.input (after_step r (cursor_of h)))
+use Rattle.splitter.specs.declared.Cursor.{Cursor}
+use Rattle.splitter.specs.declared.Piece.{Piece}
 
 placed_few : (at : ℕ) (c : Code) (pass : ℕ) (s : List ℕ) → length (placed at c pass s) ≤ length s
 unfolding placed
@@ -23,11 +21,17 @@ unfolding split
 split_few body = placed_few 0 _ 0 body
 
 -- after a chunk there is one less
-pub one_less : (h : Splitter) (r : Step) (z : Splitter) → Said h r z → has_chunk r ≡ true → length (left h) ≡ length (left z) + 1
-one_less h (Take p d) z e t = omega (arith, ap length (placed-take (body_of h) (cursor_of h) p d e.0), ap (λ (y : Splitter). length (left y)) e.1)
-one_less h Done z e t = absurd (false≢true t)
+pub one_less : (s t : Splitter) (x : Piece × Cursor) → Steps s (Some x) t → length (left s) ≡ length (left t) + 1
+one_less s t x e = omega (arith, ap length (placed-take s.input.now s.cursor x.0 x.1 e.0), ap (λ (y : Splitter). length (left y)) e.1)
 
 -- where a step gives none, none is left
-pub none_left : (h : Splitter) (r : Step) (z : Splitter) → Said h r z → has_chunk r ≡ false → length (left h) ≡ 0
-none_left h (Take p d) z e t = absurd (false≢true (sym t))
-none_left h Done z e t = ap length (placed-done (body_of h) (cursor_of h) e.0)
+pub none_left : (s t : Splitter) → Steps s None t → length (left s) ≡ 0
+none_left s t e = ap length (placed-done s.input.now s.cursor e.0)
+
+yielded : (xs : List (Piece × Cursor)) (s t : Splitter) → Yields Steps s xs t → length (left s) ≡ length xs + length (left t)
+yielded [] s t e = omega (arith, ap (λ (y : Splitter). length (left y)) e)
+yielded (x ∷ xs) s t y = omega (arith, one_less s y.0 x y.1, yielded xs y.0 t y.2)
+
+-- as many steps give a chunk as are left
+pub drained : (xs : List (Piece × Cursor)) (s : Splitter) → Drains Steps s xs → length xs ≡ length (left s)
+drained xs s d = omega (arith, yielded xs s d.1.0 d.1.1, none_left d.1.0 d.0 d.1.2)

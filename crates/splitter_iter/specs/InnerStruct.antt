@@ -1,33 +1,24 @@
 -- The struct that holds a body and its tick state, as the splitter's rules see it; no rule of 01 stands here.
-use Rattle.std.specs.Prelude.{ℕ, Bool, true, false, List}
+use Rattle.std.specs.Prelude.{ℕ, ◌≡◌, List, Option, Some, None}
 use Rattle.std.specs.Borrow.{Bor}
 use Rattle.splitter.specs.Split.{Placed}
-use Rattle.splitter.specs.Answers.{cursor, placed_from}
+use Rattle.splitter.specs.Answers.{first_chunk, placed_from}
 use Rattle.splitter.specs.declared.Cursor.{Cursor}
-use Rattle.splitter.specs.declared.Step.{Step}
-use Rattle.splitter.specs.declared.Step.TheVariants.{Take, Done}
+use Rattle.splitter.specs.declared.Piece.{Piece}
 use Rattle.splitter_iter.specs.declared.Splitter.{Splitter}
 
 abbrev pub splitter : Bor (List ℕ) → Cursor → Splitter
-splitter x c = record { input = x; at = c.at; code = c.code }
-
-abbrev pub body_of : Splitter → List ℕ
-body_of s = s.input.now
-
--- the cursor at which a step goes on
-abbrev pub cursor_of : Splitter → Cursor
-cursor_of s = cursor s.at s.code
+splitter x c = record { input = x; cursor = c }
 
 -- the chunks that are left
 abbrev pub left : Splitter → List Placed
-left s = placed_from (body_of s) (cursor_of s)
+left s = placed_from s.input.now s.cursor
 
 -- the cursor after a step; where there was no chunk, the one before it
-abbrev pub after_step : Step → Cursor → Cursor
-after_step (Take p d) c = d
-after_step Done c = c
+abbrev pub after_step : Option (Piece × Cursor) → Cursor → Cursor
+after_step (Some x) c = x.1
+after_step None c = c
 
--- whether a step gave a chunk
-abbrev pub has_chunk : Step → Bool
-has_chunk (Take p d) = true
-has_chunk Done = false
+-- a step gives the first chunk that is left, which is then no longer left
+abbrev pub Steps : Splitter → Option (Piece × Cursor) → Splitter → Type 0
+Steps s r t = (r ≡ first_chunk s.input.now s.cursor) × (t ≡ splitter s.input (after_step r s.cursor))

@@ -2,24 +2,30 @@
 // counter's number after a paragraph, an InlineBlock's start and its end.
 #![tactic(auto)]
 
+use skip::Skip;
 use std::io;
 use std::io::Write;
 
-fn digit<W: Write>(writer: &mut W, n: usize) -> io::Result<()> {
-    match n {
-        0 => writer.write_all(b"0\n"),
-        1 => writer.write_all(b"1\n"),
-        2 => writer.write_all(b"2\n"),
-        3 => writer.write_all(b"3\n"),
-        4 => writer.write_all(b"4\n"),
-        5 => writer.write_all(b"5\n"),
-        _ => writer.write_all(b"more\n"),
+// Writes each of some numbers on a line.
+fn print_numbers<W: Write>(writer: &mut W, numbers: &[usize]) -> io::Result<()> {
+    for n in numbers {
+        writeln!(writer, "{n}")?;
     }
+    Ok(())
 }
 
 // The text after two hyphens, all of it if they aren't there.
 fn name<W: Write>(writer: &mut W, text: &[u8]) -> io::Result<()> {
     writer.write_all(splitter::strip_prefix(text, b"--"))
+}
+
+// A skip counter's number after a change.
+fn changed<F: FnOnce(&mut Skip)>(n: usize, change: F) -> usize
+    requires { F.IsAlwaysCallable change }
+{
+    let mut skip = Skip::from(n);
+    change(&mut skip);
+    skip.number()
 }
 
 // A write that fails ends the program with its error.
@@ -28,16 +34,18 @@ fn main(rt: HostRuntime) -> io::Result<()> {
     name(&mut writer, b"--port\n")?;
     name(&mut writer, b"-p\n")?;
     name(&mut writer, b"\n")?;
-    digit(&mut writer, splitter_iter::count_chunks(b""))?;
-    digit(&mut writer, splitter_iter::count_chunks(b"a b"))?;
-    digit(&mut writer, splitter_iter::count_chunks(b"a\n b\n\n"))?;
-    digit(
+    print_numbers(
         &mut writer,
-        splitter_iter::count_chunks(b"\n\n```\n\nx\n```\n"),
-    )?;
-    digit(&mut writer, skip::enable_number(3))?;
-    digit(&mut writer, skip::push_number(0))?;
-    digit(&mut writer, skip::push_number(3))?;
-    digit(&mut writer, skip::pop_number(0))?;
-    digit(&mut writer, skip::pop_number(3))
+        &[
+            splitter_iter::count_chunks(b""),
+            splitter_iter::count_chunks(b"a b"),
+            splitter_iter::count_chunks(b"a\n b\n\n"),
+            splitter_iter::count_chunks(b"\n\n```\n\nx\n```\n"),
+            changed(3, |s| s.enable()),
+            changed(0, |s| s.push()),
+            changed(3, |s| s.push()),
+            changed(0, |s| s.pop()),
+            changed(3, |s| s.pop()),
+        ],
+    )
 }

@@ -10,7 +10,6 @@ pub(crate) fn report<W: Write>(writer: &mut W, line: u64) -> io::Result<()> {
 
 // Writes how many answers were compared, and how many of them differ.
 pub(crate) fn print_tally<W: Write>(writer: &mut W, tally: Tally) -> io::Result<()> {
-    let compared = tally.compared;
-    let differ = tally.differ;
+    let Tally { compared, differ } = tally;
     writeln!(writer, "{compared} answers compared, {differ} differ")
 }

@@ -1,7 +1,6 @@
 -- Upper-casing a text from a place on, a character at a time. Assumes nothing.
 use Rattle.upper.proofs.Names.{◌≡◌, refl, sym, ap, ◌∙◌, ⊎_elim, true, false≢true, List, ◌++◌, append_assoc, ℕ, ◌<◌, ◌≤◌, arith, length, take, drop}
-use Rattle.upper.proofs.Names.{eq_or_not, utf8, encode_all, character_at, Char, read_character, no_character, maps_to, upper, Wrote, UppercasedAt}
-use Rattle.utf8.specs.declared.Decoded.TheVariants.{Nothing}
+use Rattle.upper.proofs.Names.{eq_or_not, utf8, encode_all, character_at, Some, None, read_character, no_character, maps_to, upper, Wrote, UppercasedAt}
 use Rattle.upper.specs.declared.Uppercased.{Uppercased}
 use Rattle.upper.proofs.Text.{upper-step}
 
@@ -19,7 +18,7 @@ module _ (s : List ℕ) (at : ℕ) where
 
   module _ {bytes : List ℕ} {len next : ℕ} (g : Going s at bytes len next) where
     -- one character more
-    pub going_more : {new x : List ℕ} {r c after : ℕ} → character_at s next ≡ Char c after
+    pub going_more : {new x : List ℕ} {r c after : ℕ} → character_at s next ≡ Some (c, after)
         → Wrote bytes new len 12 x r → x ≡ encode_all (maps_to c) → Going s at new r after
     going_more {new} {x} {r} {c} {after} e w q =
         let d = read_character s next c after e in
@@ -51,5 +50,5 @@ module _ (s : List ℕ) (at : ℕ) where
     going_full h = done (λ v l q. omega (arith, g.moved q))
 
     -- none stands there
-    pub going_none : character_at s next ≡ Nothing → UppercasedAt s at cased
+    pub going_none : character_at s next ≡ None → UppercasedAt s at cased
     going_none e = done (λ v l q. false≢true (sym (no_character s at (ap (character_at s) (sym q) ∙ e) l) ∙ v))

@@ -14,7 +14,7 @@ unfoldable pub use Rattle.upper.specs.Upper.{ascii_upper, maps_to, upper}
 pub use Rattle.utf8.proofs.Characters.{ascii_at, character_encoded, no_character, read_character}
 pub use Rattle.utf8.specs.Utf8.{character_at, decode, encode_all, utf8}
 unfoldable pub use Rattle.utf8.specs.Utf8.{bytes, encode, row_of, scalar}
-pub use Rattle.utf8.specs.declared.Decoded.TheVariants.{Char}
+pub use Rattle.std.specs.Prelude.{Some, None}
 pub use borrow.Author.Rules.{rules}
 pub use borrow.Author.Tests.{eq-eqb, eqb-true, le-leb, le-ltb, leb-true, lt-leb, lt-ltb, ltb-false, ltb-true, ne_eqb}
 pub use lib.Dec.{eqb, leb, ltb}

@@ -1,7 +1,7 @@
 -- Upper case of texts: it goes character by character, gives UTF-8 again, and leaves ASCII text as 01 had it. Assumes nothing.
 use Rattle.upper.proofs.Names.{◌≡◌, refl, sym, ap, ◌∙◌, Bool, true, ◌&&◌, List, [], ◌∷◌, ◌++◌, map, append_assoc, ℕ, suc, ◌+◌, ◌<◌, ◌≤◌, arith, leb}
 use Rattle.upper.proofs.Names.{eqb, length, get_or, drop, length-append, leb-true, among, pick, and_left, and_right, and_both, decode, encode}
-use Rattle.upper.proofs.Names.{encode_all, scalar, character_at, Char, read_character, ascii_at, Entry, table, from, to, entry_of, maps_to, map_all, upper}
+use Rattle.upper.proofs.Names.{encode_all, scalar, character_at, Some, read_character, ascii_at, Entry, table, from, to, entry_of, maps_to, map_all, upper}
 use Rattle.upper.proofs.Names.{scalars, in_order, ascii_upper}
 use Rattle.utf8.proofs.Text.{Valid, decode-append}
 use Rattle.utf8.proofs.Scalars.{Chars, none, char, text_chars, Encodes, chars_text}
@@ -64,7 +64,7 @@ upper_both a b v =
     ∙ encode_both (map_all (decode a)) (map_all (decode b))
 
 -- of the character at a place, and then of what follows it
-pub upper-step : (s : List ℕ) (at c next : ℕ) → character_at s at ≡ Char c next → upper (drop at s) ≡ encode_all (maps_to c) ++ upper (drop next s)
+pub upper-step : (s : List ℕ) (at c next : ℕ) → character_at s at ≡ Some (c, next) → upper (drop at s) ≡ encode_all (maps_to c) ++ upper (drop next s)
 unfolding upper
 upper-step s at c next e =
     ap (λ (l : List ℕ). encode_all (map_all l)) (read_character s at c next e).chars ∙ encode_both (maps_to c) (map_all (decode (drop next s)))

@@ -10,7 +10,6 @@ ghost use Rattle.upper.specs.InnerParts.{from_column, to_column, longer_column, 
 mod table;
 
 use table::{ALL, FAR, FROM, LONG, LONGER, NEAR, TO};
-use utf8::Decoded;
 
 // The characters that one maps to: a second and a third where these are not 0.
 #[derive(Clone, Copy)]
@@ -273,16 +272,11 @@ pub fn to_uppercase(from: &[u16], to: &[u16], text: &[u8], at: usize) -> Upperca
     let mut len: usize = 0;
     let mut next = at;
     while len <= 52 {
-        let d = utf8::decode(text, next);
-        match d {
-            Decoded::Char(c, after) => {
-                len = put_all(&mut bytes, len, maps_to(from, to, c));
-                next = after;
-            }
-            Decoded::Nothing => {
-                return Uppercased { bytes, len, next };
-            }
-        }
+        let Some((c, after)) = utf8::decode(text, next) else {
+            return Uppercased { bytes, len, next };
+        };
+        len = put_all(&mut bytes, len, maps_to(from, to, c));
+        next = after;
     }
     Uppercased { bytes, len, next }
 }

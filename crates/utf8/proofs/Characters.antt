@@ -4,7 +4,7 @@ use Rattle.utf8.proofs.Names.{◌≡◌, refl, ap, ap₂, sym, ◌∙◌, ⊎_el
 use Rattle.utf8.proofs.Names.{◌-◌, ◌*◌, ◌<◌, ◌≤◌, not-suc-le-zero, add-one, arith, lt-ltb, length, get_or, drop, take, take-append-drop, length-drop}
 use Rattle.utf8.proofs.Names.{drop_of_length-le, drop-cons, drop-drop, get_or-drop, when◌then◌else◌, eq_or_not, and_left, and_right, if_true, if_false}
 use Rattle.utf8.proofs.Names.{Range, within, row_of, begins, size_of, well_formed, utf8, emit, decode_from, decode, encode, scalar, first_of, character_at}
-use Rattle.utf8.proofs.Names.{Char, Nothing}
+use Rattle.utf8.proofs.Names.{Option, Some, None}
 use Rattle.utf8.proofs.Laws.{size-next, size-stop, size-yes, due_1}
 use Rattle.utf8.proofs.Text.{Valid, decode-append, row_follows, follows, follow, follows_rest}
 use Rattle.utf8.proofs.Scalars.{lead_of, led, One, Chars, none, char, text_chars}
@@ -54,11 +54,11 @@ head-one (b ∷ t) n =
     rw p.1 record { valid = d.0; chars = d.1 }
 
 module _ (s : List ℕ) (at : ℕ) where
-  pub character_none : size_of (drop at s) ≡ 0 → Nothing ≡ character_at s at
+  pub character_none : size_of (drop at s) ≡ 0 → None ≡ character_at s at
   unfolding character_at
   character_none e = rw e
 
-  character_some : (size_of (drop at s) ≡ 0 → ⊥) → character_at s at ≡ Char (head_of (drop at s)) (at + size_of (drop at s))
+  character_some : (size_of (drop at s) ≡ 0 → ⊥) → character_at s at ≡ Some (head_of (drop at s), at + size_of (drop at s))
   unfolding character_at
   character_some n = ap (λ (cs : List ℕ). first_of cs (at + size_of (drop at s))) (head-one (drop at s) n).chars
 
@@ -83,22 +83,30 @@ read-size s at n =
       text = x.rest ∙ ap utf8 (drop-drop k at s);
     }
 
+abbrev code_of : Option (ℕ × ℕ) → ℕ
+code_of None = 0
+code_of (Some p) = p.0
+
+abbrev next_of : Option (ℕ × ℕ) → ℕ
+next_of None = 0
+next_of (Some p) = p.1
+
 -- what stands there, once something does
-given : (s : List ℕ) (at c next : ℕ) → character_at s at ≡ Char c next
+given : (s : List ℕ) (at c next : ℕ) → character_at s at ≡ Some (c, next)
     → (size_of (drop at s) ≡ 0 → ⊥) × (head_of (drop at s) ≡ c) × (at + size_of (drop at s) ≡ next)
 given s at c next e =
     ⊎_elim (λ (z : size_of (drop at s) ≡ 0). let f = character_none s at z in let w : ◌≡◌ {A = ℕ} 0 1 = cc in absurd (omega arith))
-    (λ (n : size_of (drop at s) ≡ 0 → ⊥). let f = character_some s at n in (n, cc, cc))
+    (λ (n : size_of (drop at s) ≡ 0 → ⊥). let f = sym (character_some s at n) ∙ e in (n, ap code_of f, ap next_of f))
     (eq_or_not (size_of (drop at s)) 0)
 
-pub read_character : (s : List ℕ) (at c next : ℕ) → character_at s at ≡ Char c next → Read s at c next
+pub read_character : (s : List ℕ) (at c next : ℕ) → character_at s at ≡ Some (c, next) → Read s at c next
 read_character s at c next e = let g = given s at c next e in rw (← g.1, ← g.2) (read-size s at g.0)
 
 -- it is a Unicode scalar value, and its bytes are those of table 3-6
 one_encoded : {x : List ℕ} {c : ℕ} → Chars x (c ∷ []) → (scalar c ≡ true) × (x ≡ encode c)
 one_encoded (char c h none) = (h, append-nil (encode c))
 
-pub character_encoded : (s : List ℕ) (at c next : ℕ) → character_at s at ≡ Char c next → (scalar c ≡ true) × (take (next - at) (drop at s) ≡ encode c)
+pub character_encoded : (s : List ℕ) (at c next : ℕ) → character_at s at ≡ Some (c, next) → (scalar c ≡ true) × (take (next - at) (drop at s) ≡ encode c)
 character_encoded s at c next e =
     let g = given s at c next e in
     let o = head-one (drop at s) g.0 in
@@ -106,14 +114,14 @@ character_encoded s at c next e =
     rw (r, ← g.1) (one_encoded (rw o.chars at (text_chars (take (size_of (drop at s)) (drop at s)) o.valid)))
 
 -- where none stands before the end, the bytes from there on are no text
-pub no_character : (s : List ℕ) (at : ℕ) → character_at s at ≡ Nothing → at < length s → utf8 (drop at s) ≡ false
+pub no_character : (s : List ℕ) (at : ℕ) → character_at s at ≡ None → at < length s → utf8 (drop at s) ≡ false
 no_character s at e h =
     ⊎_elim (λ (z : size_of (drop at s) ≡ 0). size-stop (drop at s) (omega (arith, length-drop at s)) z)
     (λ (n : size_of (drop at s) ≡ 0 → ⊥). let f = character_some s at n in let w : ◌≡◌ {A = ℕ} 0 1 = cc in absurd (omega arith))
     (eq_or_not (size_of (drop at s)) 0)
 
 -- the code points of a text are that of its first character and those of the rest
-pub first_character : (s : List ℕ) → Valid s → 0 < length s → (c : ℕ) × (k : ℕ) × (character_at s 0 ≡ Char c k) × (decode s ≡ c ∷ decode (drop k s))
+pub first_character : (s : List ℕ) → Valid s → 0 < length s → (c : ℕ) × (k : ℕ) × (character_at s 0 ≡ Some (c, k)) × (decode s ≡ c ∷ decode (drop k s))
 first_character s v h =
     let n : size_of s ≡ 0 → ⊥ = λ z. false≢true (sym (size-stop s h z) ∙ v) in
     (head_of s, 0 + size_of s, character_some s 0 n, (read-size s 0 n).chars)
@@ -122,7 +130,7 @@ first_character s v h =
 pub record Going (s : List ℕ) (at k i c : ℕ) : Type 0 where
   pub room : at + k ≤ length s
   pub high : (j : ℕ) → 1 ≤ j → j < k → (0x80 ≤ get_or s (at + j) 0) × (get_or s (at + j) 0 ≤ 0xBF)
-  pub read : character_at s at ≡ Char (joined c (take (k - i) (drop (at + i) s))) (at + k)
+  pub read : character_at s at ≡ Some (joined c (take (k - i) (drop (at + i) s)), at + k)
 
 pub going_more : (s : List ℕ) (at k i c : ℕ) {d : ℕ} → Going s at k i c → i < k → d ≡ c * 64 + (get_or s (at + i) 0 - 0x80) → Going s at k (i + 1) d
 going_more s at k i c {d} g h e =
@@ -131,7 +139,7 @@ going_more s at k i c {d} g h e =
     let q : at + (i + 1) ≡ suc (at + i) = omega arith in
     record { room = g.room; high = g.high; read = g.read ∙ rw (p, drop-cons s (at + i) 0 l, e, q) }
 
-pub going_done : (s : List ℕ) (at k i c : ℕ) → Going s at k i c → k ≡ i → Char c (at + i) ≡ character_at s at
+pub going_done : (s : List ℕ) (at k i c : ℕ) → Going s at k i c → k ≡ i → Some (c, at + i) ≡ character_at s at
 going_done s at k i c g e =
     let z : k - i ≡ 0 = omega arith in
     sym (g.read ∙ rw (z, e))
@@ -157,7 +165,7 @@ started s at {k} h e n =
         room = omega (arith, (read-size s at m).room);
         high = λ j x y. let z : at + j ≡ suc at + (j - 1) = omega arith in
             rw (z, ← get_or-drop) (due_high (row_of b).after t (row_follows b) p.0 (j - 1) (omega arith));
-        read = character_some s at m ∙ ap₂ (λ (x y : ℕ). Char x (at + y)) (ap head_of q ∙ rw (l.lead, g, add-one)) (sym e);
+        read = character_some s at m ∙ ap₂ (λ (x y : ℕ). Some (x, at + y)) (ap head_of q ∙ rw (l.lead, g, add-one)) (sym e);
       };
     }
 
@@ -166,14 +174,14 @@ pub begun : (s : List ℕ) (at k : ℕ) {l : ℕ} {x : Bool} → at < length s �
     → lead_of (get_or s at 0) ≡ l → Started s at k l
 begun s at k h e t n q = rw (← q) (started s at h (sym (if_true k 0 t) ∙ e) n)
 
-pub not-begun : (s : List ℕ) (at k : ℕ) {x : Bool} → when x then k else 0 ≡ size_of (drop at s) → x ≡ false → Nothing ≡ character_at s at
+pub not-begun : (s : List ℕ) (at k : ℕ) {x : Bool} → when x then k else 0 ≡ size_of (drop at s) → x ≡ false → None ≡ character_at s at
 not-begun s at k e t = character_none s at (sym e ∙ if_false k 0 t)
 
 module _ (s : List ℕ) (at l : ℕ) {c d : ℕ} where
   first_two : (k : ℕ) → Started s at k l → 1 < k → c ≡ get_or s at 0 - l → d ≡ c * 64 + (get_or s (at + 1) 0 - 0x80) → Going s at k 2 d
   first_two k g h p q = going_more s at k 1 (get_or s at 0 - l) g.going h (rw (← p) q)
 
-  pub two-read : Started s at 2 l → c ≡ get_or s at 0 - l → d ≡ c * 64 + (get_or s (at + 1) 0 - 0x80) → Char d (at + 2) ≡ character_at s at
+  pub two-read : Started s at 2 l → c ≡ get_or s at 0 - l → d ≡ c * 64 + (get_or s (at + 1) 0 - 0x80) → Some (d, at + 2) ≡ character_at s at
   two-read g p q = going_done s at 2 2 d (first_two 2 g (omega arith) p q) refl
 
   first_three : (k : ℕ) {e : ℕ} → Started s at k l → 2 < k → c ≡ get_or s at 0 - l → d ≡ c * 64 + (get_or s (at + 1) 0 - 0x80)
@@ -181,20 +189,20 @@ module _ (s : List ℕ) (at l : ℕ) {c d : ℕ} where
   first_three k g h p q r = going_more s at k 2 d (first_two k g (omega arith) p q) h r
 
   pub three-read : {e : ℕ} → Started s at 3 l → c ≡ get_or s at 0 - l → d ≡ c * 64 + (get_or s (at + 1) 0 - 0x80) → e ≡ d * 64 + (get_or s (at + 2) 0 - 0x80)
-      → Char e (at + 3) ≡ character_at s at
+      → Some (e, at + 3) ≡ character_at s at
   three-read {e} g p q r = going_done s at 3 3 e (first_three 3 g (omega arith) p q r) refl
 
   pub four-read : {e f : ℕ} → Started s at 4 l → c ≡ get_or s at 0 - l → d ≡ c * 64 + (get_or s (at + 1) 0 - 0x80) → e ≡ d * 64 + (get_or s (at + 2) 0 - 0x80)
-      → f ≡ e * 64 + (get_or s (at + 3) 0 - 0x80) → Char f (at + 4) ≡ character_at s at
+      → f ≡ e * 64 + (get_or s (at + 3) 0 - 0x80) → Some (f, at + 4) ≡ character_at s at
   four-read {e} {f} g p q r t = going_done s at 4 4 f (going_more s at 4 3 e (first_three 4 g (omega arith) p q r) (omega arith) t) refl
 
-pub ascii_at : (s : List ℕ) (at : ℕ) → at < length s → get_or s at 0 < 0x80 → Char (get_or s at 0) (at + 1) ≡ character_at s at
+pub ascii_at : (s : List ℕ) (at : ℕ) → at < length s → get_or s at 0 < 0x80 → Some (get_or s at 0, at + 1) ≡ character_at s at
 unfolding when◌then◌else◌ lead_of
 ascii_at s at h l =
     let f = started s at h (size-yes s at [] h (due_1 _ l) refl refl) (λ z. omega arith) in
     let q : get_or s at 0 - lead_of (get_or s at 0) ≡ get_or s at 0 = rw (lt-ltb (get_or s at 0) 0x80 l) (omega arith) in
     going_done s at 1 1 (get_or s at 0) (rw (← q) f.going) refl
 
-pub past_end : (s : List ℕ) (at : ℕ) → length s ≤ at → Nothing ≡ character_at s at
+pub past_end : (s : List ℕ) (at : ℕ) → length s ≤ at → None ≡ character_at s at
 unfolding size_of
 past_end s at h = character_none s at (rw (drop_of_length-le s h))

@@ -1,14 +1,14 @@
 -- Laws of the definitions of `specs/Utf8.antt`.
 -- Assumes nothing.
-use Rattle.utf8.proofs.Names.{◌≡◌, refl, ap, sym, ◌∙◌, Bool, true, false, ◌&&◌, and-true, and-false, and_assoc, false≢true, ⊎_elim, List, [], ◌∷◌, ℕ}
-use Rattle.utf8.proofs.Names.{zero, suc, ◌+◌, ◌/◌, ◌<◌, ◌≤◌, suc-le-suc, add-one, not-suc-le-zero, add-zero, arith, leb, leb-zero, length, get_or, drop}
-use Rattle.utf8.proofs.Names.{drop_of_length-le, length-drop, le-leb, lt-leb, drop-cons, drop-drop, when◌then◌else◌, le_or_lt, and_right, Range, ◌to◌}
-use Rattle.utf8.proofs.Names.{within, continues, table, row_of, well_formed, characters, never, begins, size_of, AtMost}
-use borrow.Author.Count.{below_more}
-
-pub count_step : (s : List ℕ) (i : ℕ) → i < length s
-    → characters (drop i s) ≡ (when continues (get_or s i 0) then 0 else 1) + characters (drop (i + 1) s)
-count_step s i h = rw (add-one, drop-cons s i 0)
+use Rattle.utf8.proofs.Names.{◌≡◌, refl, ap, sym, ◌∙◌, Bool, true, false, not, ◌||◌, ◌&&◌, and-true, and-false, and_assoc, false≢true, ⊎_elim, List, [], ◌∷◌, ℕ}
+use Rattle.utf8.proofs.Names.{zero, suc, ◌+◌, ◌/◌, ◌<◌, ◌≤◌, suc-le-suc, add-one, not-suc-le-zero, add-zero, arith, leb, leb-zero, leb-false, length, get_or, take, drop}
+use Rattle.utf8.proofs.Names.{drop_of_length-le, length-drop, length-take-le, get_or-take, get_or-drop, le-leb, lt-leb, ne_eqb, drop-cons, drop-drop, when◌then◌else◌, le_or_lt, eq_or_not, and_right, Range, ◌to◌}
+use Rattle.utf8.proofs.Names.{within, continues, table, row_of, well_formed, characters, never, begins, size_of, low, high}
+use Rattle.std.specs.Prelude.{cond}
+use Rattle.std.specs.List.{list_any, count_by}
+use Rattle.std.proofs.lemmas.List.Recursion.{is_count_by}
+use Rattle.base.proofs.Counting.{none_passes_part}
+use Rattle.utf8.specs.InnerParts.{is_ascii}
 
 -- what a byte adds to the count
 abbrev pub adds : ℕ → ℕ
@@ -214,6 +214,28 @@ module _ (a : ℕ) where
         le-leb a 0xF3 (omega arith),
       )
 
+-- by the range of its second byte
+pub any_range : (a : ℕ) → (a ≡ 0xE0 → ⊥) → (a ≡ 0xED → ⊥) → (a ≡ 0xF0 → ⊥) → (a ≡ 0xF4 → ⊥) → 0x80 to 0xBF ≡ low a to high a
+unfolding when◌then◌else◌ low high
+any_range a k l m n = rw (ne_eqb a 0xE0 k, ne_eqb a 0xED l, ne_eqb a 0xF0 m, ne_eqb a 0xF4 n)
+
+pub due_three : (a : ℕ) → 0xE0 ≤ a → a < 0xF0 → (row_of a).after ≡ low a to high a ∷ tail
+unfolding when◌then◌else◌ low high
+due_three a g h =
+    ⊎_elim (λ (e : a ≡ 0xE0). due_E0 a e ∙ rw e)
+    (λ (m : a ≡ 0xE0 → ⊥). ⊎_elim (λ (e : a ≡ 0xED). due_ED a e ∙ rw e)
+    (λ (n : a ≡ 0xED → ⊥). due_3 a g h m n ∙ ap (λ (r : Range). r ∷ tail) (any_range a m n (λ z. omega arith) (λ z. omega arith))) (eq_or_not a 0xED))
+    (eq_or_not a 0xE0)
+
+pub due_four : (a : ℕ) → 0xF0 ≤ a → a < 0xF5 → (row_of a).after ≡ low a to high a ∷ 0x80 to 0xBF ∷ tail
+unfolding when◌then◌else◌ low high
+due_four a g h =
+    ⊎_elim (λ (e : a ≡ 0xF0). due_F0 a e ∙ rw e)
+    (λ (m : a ≡ 0xF0 → ⊥). ⊎_elim (λ (e : a ≡ 0xF4). due_F4 a e ∙ rw e)
+    (λ (n : a ≡ 0xF4 → ⊥).
+    due_4 a g h m n ∙ ap (λ (r : Range). r ∷ 0x80 to 0xBF ∷ tail) (any_range a (λ z. omega arith) (λ z. omega arith) m n)) (eq_or_not a 0xF4))
+    (eq_or_not a 0xF0)
+
 pub record Went (s : List ℕ) (i k : ℕ) : Type 0 where
   pub within_s : i + k ≤ length s
   pub same : well_formed [] (drop i s) ≡ well_formed [] (drop (i + k) s)
@@ -231,10 +253,21 @@ stop_at s i h e z = sym (size-stop (drop i s) (omega (arith, length-drop i s)) (
 pub one_at : (s : List ℕ) (i : ℕ) → i < length s → get_or s i 0 < 0x80 → well_formed [] (drop i s) ≡ well_formed [] (drop (i + 1) s)
 one_at s i h l = (next_at s i h (size-yes s i [] h (due_1 _ l) refl refl) (λ z. omega arith)).same
 
--- the blocks
-pub most_more : (s : List ℕ) (a i m n : ℕ) → ((k : ℕ) → k < i → get_or s (a + k) 0 ≤ m) → m ≤ n → get_or s (a + i) 0 ≤ n
-    → (k : ℕ) → k < i + 1 → get_or s (a + k) 0 ≤ n
-most_more s a i m n h l g = below_more (λ k. get_or s (a + k) 0 ≤ n) i (λ k q. let w = h k q in omega arith) g
+-- ASCII by one test of all
+pub or_none : (x y : Bool) → x || y ≡ false → (x ≡ false) × (y ≡ false)
+or_none true y e = absurd (false≢true (sym e))
+or_none false y e = (refl, e)
+
+pub not_none : (x : Bool) → not x ≡ true → x ≡ false
+not_none true e = absurd (false≢true e)
+not_none false e = refl
+
+pub not_some : (x : Bool) → not x ≡ false → x ≡ true
+not_some true e = refl
+not_some false e = absurd (false≢true (sym e))
+
+pub ascii_part : (s : List ℕ) (i n m : ℕ) → i + n ≤ length s → m ≡ n → is_ascii (take m (drop i s)) ≡ true → (k : ℕ) → k < n → get_or s (i + k) 0 < 0x80
+ascii_part s i n m h q e k l = leb-false 0x80 _ (none_passes_part (λ b. leb 0x80 b) s i n m q h (not_none _ e) k l)
 
 -- a run of ASCII
 pub ascii_run : (s : List ℕ) (i n : ℕ) → i + n ≤ length s → ((k : ℕ) → k < n → get_or s (i + k) 0 < 0x80)
@@ -243,9 +276,6 @@ ascii_run s i zero h l = rw add-zero
 ascii_run s i (suc n) h l =
     let q : i + n + 1 ≡ i + suc n = omega arith in
     ascii_run s i n (omega arith) (λ k g. l k (omega arith)) ∙ one_at s (i + n) (omega arith) (l n (omega arith)) ∙ ap (λ (k : ℕ). well_formed [] (drop k s)) q
-
-pub block_run : (s : List ℕ) (i m : ℕ) → i + 64 ≤ length s → AtMost s i 64 m → m < 0x80 → well_formed [] (drop i s) ≡ well_formed [] (drop (i + 64) s)
-block_run s i m h t l = ascii_run s i 64 h (λ k g. let w = t.each k g in omega arith)
 
 -- a byte shifted by 6 tells whether it starts a character
 pub adds-by : (b : ℕ) → (b / 64 ≡ 2 → ⊥) → adds b ≡ 1
@@ -256,5 +286,20 @@ adds-by b n =
 pub adds-not : (b : ℕ) → b / 64 ≡ 2 → adds b ≡ 0
 adds-not b e = adds_none b (omega arith) (omega arith)
 
--- what each byte adds, by its two top bits
-pub ruleset counted = (adds-by, adds-not)
+-- and so does the test of that
+pub adds_start : (b : ℕ) {r : Bool} → r ≡ not (continues b) → r ≡ true → adds b ≡ 1
+unfolding when◌then◌else◌
+adds_start b e f = rw (not_none (continues b) (sym e ∙ f))
+
+pub adds_more : (b : ℕ) {r : Bool} → r ≡ not (continues b) → r ≡ false → adds b ≡ 0
+unfolding when◌then◌else◌
+adds_more b e f = rw (not_some (continues b) (sym e ∙ f))
+
+-- the number of characters as a count
+counted : (x : Bool) (n : ℕ) → (when x then 0 else 1) + n ≡ cond (not x) (1 + n) n
+unfolding when◌then◌else◌
+counted true n = omega arith
+counted false n = refl
+
+pub characters_counted : (s : List ℕ) → characters s ≡ count_by (λ b. not (continues b)) s
+characters_counted s = is_count_by characters (λ b. not (continues b)) refl (λ b s. counted (continues b) (characters s)) s

@@ -3,17 +3,16 @@ pub use Prim.Native.Nat.{◌%◌, ◌*◌, ◌+◌, ◌-◌, ◌/◌, ◌<◌, �
 pub use Rattle.base.proofs.Choice.{and_both, and_left, and_right, eq_or_not, if_false, if_true, le_or_lt, not-passed, pick, same_test}
 unfoldable pub use Rattle.base.specs.Choice.{when◌then◌else◌}
 unfoldable pub use Rattle.utf8.specs.InnerNeighbours.{high, low}
-pub use Rattle.utf8.specs.InnerParts.{Ascii, AtMost, Begun, Passed, Sure, sound_at}
+pub use Rattle.utf8.specs.InnerParts.{Ascii, Begun, Passed, sound_at}
 pub use Rattle.utf8.specs.Utf8.{Range, Row, ◌to◌, begins, characters, continues, decode, decode_from, emit, encode_all, find, first_of, never, utf8}
 pub use Rattle.utf8.specs.Utf8.{well_formed, within}
 unfoldable pub use Rattle.utf8.specs.Utf8.{bytes, character_at, encode, row_of, scalar, size_of, table}
-pub use Rattle.utf8.specs.declared.Decoded.TheVariants.{Char, Nothing}
-pub use borrow.Author.Rules.{rules}
-pub use borrow.Author.Tests.{eq-eqb, le-leb, le-ltb, leb-false, leb-true, lt-leb, lt-ltb, ltb-true, ne_eqb}
-pub use lib.Dec.{leb, leb-zero, ltb}
+pub use Rattle.std.specs.Prelude.{Option, Some, None}
+pub use borrow.Author.Tests.{eqb-false, eqb-true, le-leb, le-ltb, leb-false, leb-true, lt-leb, lt-ltb, ltb-true, ne_eqb}
+pub use lib.Dec.{eqb, leb, leb-zero, ltb}
 pub use lib.ListN.{drop, drop_of_length-le, get_or, length, length-drop, take, take-append-drop}
-pub use lib.Seq.{drop-cons, drop-drop, drop-length, get_or-drop}
-pub use mathlib.Core.Bool.{Bool, ◌&&◌, ◌||◌, and_assoc, and-false, and-true, false, false≢true, not, or-true, true}
+pub use lib.Seq.{drop-cons, drop-drop, drop-length, get_or-drop, get_or-take, length-take-le}
+pub use mathlib.Core.Bool.{Bool, beq, ◌&&◌, ◌||◌, and_assoc, and-false, and-true, false, false≢true, not, or-true, true}
 pub use mathlib.Core.List.{List, [], ◌++◌, ◌∷◌, append-nil}
 pub use mathlib.Core.Logic.{◌⊎◌, inl, inr, ⊎_elim}
 pub use mathlib.Core.Path.{◌∙◌, ◌≡◌, ap, ap₂, refl, subst, subst₂, sym}

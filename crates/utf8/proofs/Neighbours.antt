@@ -1,15 +1,16 @@
 -- Text is well-formed exactly where each byte may stand after the three before it and the last three leave no character open: `utf8-sound`.
 -- Then the same from a place on, as the code tests it by blocks.
 -- Assumes nothing.
-use Rattle.utf8.proofs.Names.{◌≡◌, refl, ap, sym, ◌∙◌, ⊎_elim, Bool, true, false, not, ◌&&◌, ◌||◌, or-true, false≢true, List, [], ◌∷◌, ℕ, zero, suc}
-use Rattle.utf8.proofs.Names.{◌+◌, ◌-◌, ◌/◌, ◌<◌, ◌≤◌, add-zero, add-one, arith, leb, length, get_or, drop, drop-cons, drop-length, le-leb, lt-leb}
-use Rattle.utf8.proofs.Names.{lt-ltb, le-ltb, ne_eqb, leb-true, leb-false, when◌then◌else◌, pick, le_or_lt, eq_or_not, and_left, and_right, and_both}
-use Rattle.utf8.proofs.Names.{if_true, if_false, same_test, not-passed, Range, ◌to◌, within, row_of, never, well_formed, utf8, low, high, AtMost, Ascii}
-use Rattle.utf8.proofs.Names.{sound_at, Sure, Passed, Begun}
+use Rattle.utf8.proofs.Names.{◌≡◌, refl, ap, sym, ◌∙◌, ⊎_elim, Bool, beq, true, false, not, ◌&&◌, ◌||◌, or-true, false≢true, List, [], ◌∷◌, ℕ, zero, suc}
+use Rattle.utf8.proofs.Names.{◌+◌, ◌-◌, ◌/◌, ◌<◌, ◌≤◌, add-zero, add-one, arith, leb, eqb, eqb-true, eqb-false, length, get_or, take, drop, drop-cons, drop-length, le-leb, lt-leb}
+use Rattle.utf8.proofs.Names.{lt-ltb, le-ltb, leb-true, leb-false, pick, le_or_lt, and_left, and_right, and_both}
+use Rattle.utf8.proofs.Names.{if_true, if_false, same_test, not-passed, Range, ◌to◌, within, row_of, never, well_formed, utf8, low, high, Ascii}
+use Rattle.utf8.proofs.Names.{sound_at, Passed, Begun}
 use Rattle.base.specs.Choice.{among}
 use Rattle.utf8.specs.InnerNeighbours.{asks, starts, beside, sound}
-use Rattle.utf8.proofs.Laws.{tail, begins-never, fits_begins, ascii_run, block_run}
-use Rattle.utf8.proofs.Laws.{due_1, due_none, due_over, due_2, due_E0, due_ED, due_3, due_F0, due_F4, due_4}
+use Rattle.utf8.proofs.Laws.{tail, begins-never, fits_begins, ascii_run, ascii_part, or_none, not_none, not_some, any_range}
+use Rattle.utf8.proofs.Laws.{due_1, due_none, due_over, due_2, due_three, due_four}
+use Rattle.utf8.specs.InnerParts.{is_ascii}
 
 module _ (r q p : ℕ) where
   pub asks_none : p < 0xC0 → q < 0xE0 → r < 0xF0 → asks r q p ≡ false
@@ -24,30 +25,11 @@ module _ (r q p : ℕ) where
   pub asks_r : 0xF0 ≤ r → asks r q p ≡ true
   asks_r h = simp (le-leb 0xF0 r h, or-true)
 
-or_none : (x y : Bool) → x || y ≡ false → (x ≡ false) × (y ≡ false)
-or_none true y e = absurd (false≢true (sym e))
-or_none false y e = (refl, e)
-
 pub asks-not : (r q p : ℕ) → asks r q p ≡ false → (p < 0xC0) × (q < 0xE0) × (r < 0xF0)
 asks-not r q p e =
     let f = or_none (leb 0xC0 p || leb 0xE0 q) (leb 0xF0 r) e in
     let g = or_none (leb 0xC0 p) (leb 0xE0 q) f.0 in
     (leb-false 0xC0 p g.0, leb-false 0xE0 q g.1, leb-false 0xF0 r f.1)
-
--- the range of the second byte is narrowed by four first bytes alone
-low_any : (p : ℕ) → (p ≡ 0xE0 → ⊥) → (p ≡ 0xF0 → ⊥) → low p ≡ 0x80
-unfolding when◌then◌else◌ low
-low_any p m n = rw (ne_eqb p 0xE0 m, ne_eqb p 0xF0 n)
-
-high-any : (p : ℕ) → (p ≡ 0xED → ⊥) → (p ≡ 0xF4 → ⊥) → high p ≡ 0xBF
-unfolding when◌then◌else◌ high
-high-any p m n = rw (ne_eqb p 0xED m, ne_eqb p 0xF4 n)
-
-any-after : (p : ℕ) → (p ≡ 0xE0 → ⊥) → (p ≡ 0xED → ⊥) → (p ≡ 0xF0 → ⊥) → (p ≡ 0xF4 → ⊥) → 0x80 to 0xBF ≡ low p to high p
-any-after p k l m n = rw (low_any p k m, high-any p l n)
-
-after_is : (p k : ℕ) → p ≡ k → low k to high k ≡ low p to high p
-after_is p k e = ap (λ (b : ℕ). low b to high b) (sym e)
 
 low_least : (p : ℕ) → 0x80 ≤ low p
 unfolding low
@@ -63,7 +45,7 @@ Due r q p [] = (p < 0xC0) × (q < 0xE0) × (r < 0xF0)
 Due r q p (x ∷ due) = (asks r q p ≡ true) × (x ≡ low p to high p) × ((b : ℕ) → 0x80 ≤ b → b ≤ 0xBF → Due q p b due)
 
 one_due : (r q p : ℕ) → asks r q p ≡ true → p < 0xE0 → q < 0xF0 → Due r q p tail
-one_due r q p e g h = (e, any-after p (λ z. omega arith) (λ z. omega arith) (λ z. omega arith) (λ z. omega arith), λ b l u. (omega arith, g, h))
+one_due r q p e g h = (e, any_range p (λ z. omega arith) (λ z. omega arith) (λ z. omega arith) (λ z. omega arith), λ b l u. (omega arith, g, h))
 
 two_due : (r q p : ℕ) (x : Range) → asks r q p ≡ true → ((b : ℕ) → asks q p b ≡ true) → p < 0xF0 → x ≡ low p to high p → Due r q p (x ∷ tail)
 two_due r q p x e f h n = (e, n, λ b l u. one_due q p b (f b) (omega arith) h)
@@ -73,7 +55,7 @@ three_due r q p x h n = (
   asks_p r q p (omega arith),
   n,
   λ b l u. two_due q p b (0x80 to 0xBF) (asks_q q p b (omega arith)) (λ c. asks_r p b c h) (omega arith)
-      (any-after b (λ z. omega arith) (λ z. omega arith) (λ z. omega arith) (λ z. omega arith)),
+      (any_range b (λ z. omega arith) (λ z. omega arith) (λ z. omega arith) (λ z. omega arith)),
 )
 
 -- what stands after the three, by whether they ask
@@ -108,33 +90,14 @@ module _ (r q p b : ℕ) (s : List ℕ) (n : Due r q p []) (rest : (due : List R
   begins-not : (row_of b).after ≡ never.after → starts b ≡ false → well_formed (row_of b).after s ≡ (beside r q p b && sound q p b s)
   begins-not e f = rw (e, beside-start r q p b (asks_none r q p n.0 n.1 n.2), f) (never_fits s)
 
-  -- a first byte of three: after 0xE0 and 0xED the range is narrowed
-  pair : (x : Range) → (row_of b).after ≡ x ∷ tail → x ≡ low b to high b → 0xE0 ≤ b → b < 0xF0 → well_formed (row_of b).after s ≡ (beside r q p b && sound q p b s)
-  pair x e f g h =
-      begins_with (x ∷ tail) e (starts_more b (omega arith) (omega arith)) (two_due q p b x (asks_p q p b (omega arith)) (λ c. asks_q p b c g) h f)
-
   starts-three : 0xE0 ≤ b → b < 0xF0 → well_formed (row_of b).after s ≡ (beside r q p b && sound q p b s)
-  unfolding when◌then◌else◌ low high
   starts-three g h =
-      ⊎_elim (λ (e : b ≡ 0xE0). pair _ (due_E0 b e) (after_is b 0xE0 e) g h)
-      (λ (m : b ≡ 0xE0 → ⊥).
-      ⊎_elim (λ (e : b ≡ 0xED). pair _ (due_ED b e) (after_is b 0xED e) g h)
-      (λ (n : b ≡ 0xED → ⊥). pair _ (due_3 b g h m n) (any-after b m n (λ z. omega arith) (λ z. omega arith)) g h) (eq_or_not b 0xED))
-      (eq_or_not b 0xE0)
-
-  -- one of four: after 0xF0 and 0xF4
-  triple : (x : Range) → (row_of b).after ≡ x ∷ 0x80 to 0xBF ∷ tail → x ≡ low b to high b → 0xF0 ≤ b → b < 0xF5
-      → well_formed (row_of b).after s ≡ (beside r q p b && sound q p b s)
-  triple x e f g h = begins_with (x ∷ 0x80 to 0xBF ∷ tail) e (starts_more b (omega arith) h) (three_due q p b x g f)
+      begins_with (low b to high b ∷ tail) (due_three b g h) (starts_more b (omega arith) (omega arith))
+      (two_due q p b _ (asks_p q p b (omega arith)) (λ c. asks_q p b c g) h refl)
 
   starts-four : 0xF0 ≤ b → b < 0xF5 → well_formed (row_of b).after s ≡ (beside r q p b && sound q p b s)
-  unfolding when◌then◌else◌ low high
   starts-four g h =
-      ⊎_elim (λ (e : b ≡ 0xF0). triple _ (due_F0 b e) (after_is b 0xF0 e) g h)
-      (λ (m : b ≡ 0xF0 → ⊥).
-      ⊎_elim (λ (e : b ≡ 0xF4). triple _ (due_F4 b e) (after_is b 0xF4 e) g h)
-      (λ (n : b ≡ 0xF4 → ⊥). triple _ (due_4 b g h m n) (any-after b (λ z. omega arith) (λ z. omega arith) m n) g h) (eq_or_not b 0xF4))
-      (eq_or_not b 0xF0)
+      begins_with (low b to high b ∷ 0x80 to 0xBF ∷ tail) (due_four b g h) (starts_more b (omega arith) h) (three_due q p b _ g refl)
 
   -- by the lines of table 3-7
   first_byte : well_formed (row_of b).after s ≡ (beside r q p b && sound q p b s)
@@ -222,82 +185,75 @@ first_three (a ∷ []) h = absurd (let z : ⊥ = omega arith in z)
 first_three (a ∷ b ∷ []) h = absurd (let z : ⊥ = omega arith in z)
 first_three (a ∷ b ∷ c ∷ s) h = utf8-sound (a ∷ b ∷ c ∷ s)
 
--- a test counted as a fault
-pub fault_none : (t : Bool) {f : ℕ} → f ≡ when t then 0 else 1 → f ≡ 0 → t ≡ true
-unfolding when◌then◌else◌
-fault_none true e z = refl
-fault_none false e z = let o : ⊥ = omega arith in absurd o
-
-pub fault_some : (t : Bool) {f : ℕ} → f ≡ when t then 0 else 1 → (f ≡ 0 → ⊥) → t ≡ false
-unfolding when◌then◌else◌
-fault_some true e n = absurd (n e)
-fault_some false e n = refl
-
-pub fault_most : (t : Bool) {f : ℕ} → f ≡ when t then 0 else 1 → f ≤ 1
-unfolding when◌then◌else◌
-fault_most true e = omega arith
-fault_most false e = omega arith
-
-pub fault_due : (r q p b : ℕ) {x : Bool} {lo hi f : ℕ} → x ≡ asks r q p → x ≡ true → lo ≡ low p → hi ≡ high p → f ≡ when among lo hi b then 0 else 1
-    → f ≡ when beside r q p b then 0 else 1
+-- a byte that may not stand there is a fault
+pub fault_due : (r q p b : ℕ) {x y : Bool} {lo hi : ℕ} → x ≡ asks r q p → x ≡ true → lo ≡ low p → hi ≡ high p → y ≡ not (among lo hi b) → y ≡ not (beside r q p b)
 fault_due r q p b e t l h d = rw (beside_due r q p b (sym e ∙ t), ← l, ← h) d
 
-pub fault_ascii : (r q p b : ℕ) {x : Bool} → x ≡ asks r q p → x ≡ false → b < 0x80 → ◌≡◌ {A = ℕ} 0 (when beside r q p b then 0 else 1)
-fault_ascii r q p b e t h = sym (if_true 0 1 (beside-start r q p b (sym e ∙ t) ∙ starts_ascii b h))
+pub fault_ascii : (r q p b : ℕ) {x : Bool} → x ≡ asks r q p → x ≡ false → b < 0x80 → false ≡ not (beside r q p b)
+fault_ascii r q p b e t h = ap not (sym (beside-start r q p b (sym e ∙ t) ∙ starts_ascii b h))
 
-pub fault_start : (r q p b : ℕ) {x : Bool} {f : ℕ} → x ≡ asks r q p → x ≡ false → 0x80 ≤ b → f ≡ when among 0xC2 0xF4 b then 0 else 1
-    → f ≡ when beside r q p b then 0 else 1
+pub fault_start : (r q p b : ℕ) {x y : Bool} → x ≡ asks r q p → x ≡ false → 0x80 ≤ b → y ≡ not (among 0xC2 0xF4 b) → y ≡ not (beside r q p b)
 fault_start r q p b e t h d = rw (beside-start r q p b (sym e ∙ t), le-ltb b 0x80 h) d
 
 -- where p narrows no range and b may stand in a text, b stands after the three where it goes on with a character exactly if they ask for that
-pub sure_due : (r q p b : ℕ) {x : Bool} → x ≡ asks r q p → x ≡ true → (p ≡ 0xE0 → ⊥) → (p ≡ 0xED → ⊥) → p < 0xF0 → b / 64 ≡ 2 → beside r q p b ≡ true
-sure_due r q p b e t k l h d =
-    let u = any-after p k l (λ z. omega arith) (λ z. omega arith) in
-    beside_due r q p b (sym e ∙ t) ∙ ap (within b) (sym u) ∙ and_both (le-leb 0x80 b (omega arith)) (le-leb b 0xBF (omega arith))
+pub sure_due : (r q p b : ℕ) → asks r q p ≡ true → (p ≡ 0xE0 → ⊥) → (p ≡ 0xED → ⊥) → p < 0xF0 → b / 64 ≡ 2 → beside r q p b ≡ true
+sure_due r q p b t k l h d =
+    let u = any_range p k l (λ z. omega arith) (λ z. omega arith) in
+    beside_due r q p b t ∙ ap (within b) (sym u) ∙ and_both (le-leb 0x80 b (omega arith)) (le-leb b 0xBF (omega arith))
 
-pub sure_start : (r q p b : ℕ) {x : Bool} → x ≡ asks r q p → x ≡ false → b < 0xF5 → (b / 2 ≡ 0x60 → ⊥) → (b / 64 ≡ 2 → ⊥) → beside r q p b ≡ true
-sure_start r q p b e t h n d =
-    beside-start r q p b (sym e ∙ t)
+pub sure_start : (r q p b : ℕ) → asks r q p ≡ false → b < 0xF5 → (b / 2 ≡ 0x60 → ⊥) → (b / 64 ≡ 2 → ⊥) → beside r q p b ≡ true
+sure_start r q p b t h n d =
+    beside-start r q p b t
     ∙ ⊎_elim (λ (l : 0x80 ≤ b). starts_more b (⊎_elim (λ (g : 0xC2 ≤ b). g) (λ (g : b < 0xC2). absurd (no l g)) (le_or_lt 0xC2 b)) h)
     (λ (l : b < 0x80). starts_ascii b l) (le_or_lt 0x80 b)
   where
     no : 0x80 ≤ b → b < 0xC2 → ⊥
     no l g = ⊎_elim (λ (u : 0xC0 ≤ b). n (omega arith)) (λ (u : b < 0xC0). d (omega arith)) (le_or_lt 0xC0 b)
 
-pub sure_not : (t : Bool) → Sure t 1
-sure_not t = record { few = omega arith; sure = λ z. let o : ⊥ = omega arith in absurd o }
-
-pub sure_is : {t : Bool} → t ≡ true → Sure t 0
-sure_is e = record { few = omega arith; sure = λ z. e }
+pub sure_by : (r q p b : ℕ) {x : Bool} → x ≡ asks r q p → (p ≡ 0xE0 → ⊥) → (p ≡ 0xED → ⊥) → p < 0xF0 → b < 0xF5 → (b / 2 ≡ 0x60 → ⊥)
+    → not (beq x (eqb (b / 64) 2)) ≡ false → beside r q p b ≡ true
+sure_by r q p b {x} e k l h m n d = go x (eqb (b / 64) 2) refl e d
+  where
+    go : (x y : Bool) → eqb (b / 64) 2 ≡ y → x ≡ asks r q p → not (beq x y) ≡ false → beside r q p b ≡ true
+    go true true f e d = sure_due r q p b (sym e) k l h (eqb-true (b / 64) 2 f)
+    go false false f e d = sure_start r q p b (sym e) m n (eqb-false (b / 64) 2 f)
+    go true false f e d = absurd (false≢true (sym d))
+    go false true f e d = absurd (false≢true (sym d))
 
 -- the bytes from a on, tested one by one
-module _ (s : List ℕ) (a : ℕ) where
-  pub passed_none : Passed s a 0 0
-  passed_none = record { all = λ _. rw add-zero; some = λ n. absurd (n refl) }
+module _ (s : List ℕ) (a : ℕ) (g : 3 ≤ a) where
+  all_beside : (n : ℕ) → a + n ≤ length s → ((k : ℕ) → a ≤ k → k < a + n → beside_at s k ≡ true) → sound_at s a ≡ sound_at s (a + n)
+  all_beside zero h f = rw add-zero
+  all_beside (suc n) h f =
+      let q : a + n + 1 ≡ a + suc n = omega arith in
+      all_beside n (omega arith) (λ k i j. f k i (omega arith))
+      ∙ sound-step s (a + n) (omega arith) (omega arith) ∙ rw (f (a + n) (omega arith) (omega arith)) (ap (sound_at s) q)
 
-  pub passed-more : (i m : ℕ) {f : ℕ} → Passed s a i m → 3 ≤ a → a + i < length s → f ≡ when beside_at s (a + i) then 0 else 1 → Passed s a (i + 1) (m + f)
-  passed-more i m {f} t g h e =
-      let q : a + i + 1 ≡ a + (i + 1) = omega arith in
-      let step = sound-step s (a + i) (omega arith) h in
-      record {
-        all = λ z. t.all (omega arith) ∙ step ∙ rw (fault_none (beside_at s (a + i)) e (omega arith)) (ap (sound_at s) q);
-        some = λ n. ⊎_elim
-            (λ (o : m ≡ 0). t.all o ∙ step ∙ rw (fault_some (beside_at s (a + i)) e (λ z. n (omega arith))))
-            (λ (o : m ≡ 0 → ⊥). t.some o) (eq_or_not m 0);
-      }
+  some_beside : (n : ℕ) → a + n < length s → beside_at s (a + n) ≡ false → sound_at s a ≡ false
+  some_beside n h e =
+      not-passed (sound_at s a) (λ t.
+      false≢true (sym (sound-step s (a + n) (omega arith) h ∙ rw e) ∙ sound-later s a (a + n) g (omega arith) (omega arith) t))
 
-  pub sure_more : (i m : ℕ) {x : ℕ} → (m ≡ 0 → sound_at s a ≡ sound_at s (a + i)) → 3 ≤ a → a + i < length s → Sure (beside_at s (a + i)) x → m + x ≡ 0
-      → sound_at s a ≡ sound_at s (a + (i + 1))
-  sure_more i m {x} t g h u z =
-      let q : a + i + 1 ≡ a + (i + 1) = omega arith in
-      t (omega arith) ∙ sound-step s (a + i) (omega arith) h ∙ rw (u.sure (omega arith)) (ap (sound_at s) q)
+  pub passed_all : (n : ℕ) → a + n ≤ length s → ((k : ℕ) → a ≤ k → k < a + n → beside_at s k ≡ true) → Passed s a n false
+  passed_all n h f = record { all = λ _. all_beside n h f; some = λ e. absurd (false≢true e) }
+
+  pub passed_not : (n k : ℕ) → a + n ≤ length s → a ≤ k → k < a + n → beside_at s k ≡ false → Passed s a n true
+  passed_not n k h i j e = record {
+    all = λ z. absurd (false≢true (sym z));
+    some = λ _. let q : a + (k - a) ≡ k = omega arith in some_beside (k - a) (omega arith) (rw q e);
+  }
+
+  pub passed_by : (n : ℕ) (x : Bool) → a + n ≤ length s → (x ≡ false → (k : ℕ) → a ≤ k → k < a + n → false ≡ not (beside_at s k))
+      → (x ≡ true → (k : ℕ) × (a ≤ k) × (k < a + n) × (true ≡ not (beside_at s k))) → Passed s a n x
+  passed_by n true h f e = let k = e refl in passed_not n k.0 h k.1 k.2 (not_none _ (sym k.3))
+  passed_by n false h f e = passed_all n h (λ k i j. not_some _ (sym (f refl k i j)))
 
 -- ASCII
 module _ (s : List ℕ) where
-  pub ascii_more : (i w m : ℕ) → Ascii s i → i + w ≤ length s → AtMost s i w m → m < 0x80 → Ascii s (i + w)
-  ascii_more i w m a h t l = record {
+  pub ascii_more : (i w m : ℕ) → Ascii s i → i + w ≤ length s → m ≡ w → is_ascii (take m (drop i s)) ≡ true → Ascii s (i + w)
+  ascii_more i w m a h e t = record {
     room = h;
-    each = λ k g. ⊎_elim (λ (o : i ≤ k). let q : i + (k - i) ≡ k = omega arith in let u = rw q at (t.each (k - i) (omega arith)) in omega arith)
+    each = λ k g. ⊎_elim (λ (o : i ≤ k). let q : i + (k - i) ≡ k = omega arith in rw q at (ascii_part s i w m h e t (k - i) (omega arith)))
         (λ (o : k < i). a.each k o) (le_or_lt i k);
   }
 
@@ -317,38 +273,35 @@ module _ (s : List ℕ) where
       ascii_rest i a ∙ sound-closed s i (omega arith) (omega arith) (omega arith)
 
   -- 64 bytes of it, where no character is open
-  pub plain-sound : (a m : ℕ) {x : Bool} → 3 ≤ a → a + 64 ≤ length s → x ≡ open_at s a → x ≡ false → AtMost s a 64 m → m < 0x80
+  pub plain-sound : (a m : ℕ) {x : Bool} → 3 ≤ a → a + 64 ≤ length s → x ≡ open_at s a → x ≡ false → m ≡ 64 → is_ascii (take m (drop a s)) ≡ true
       → sound_at s a ≡ sound_at s (a + 64)
-  plain-sound a m h l e f t u =
+  plain-sound a m h l e f q t =
+      let each = ascii_part s a 64 m l q t in
       let o = asks-not (get_or s (a - 3) 0) (get_or s (a - 2) 0) (get_or s (a - 1) 0) (sym e ∙ f) in
       sym (sound-closed s a o.2 o.1 o.0)
-      ∙ block_run s a m l t u
-      ∙ sound-closed s (a + 64) (omega (arith, near 3 (omega arith) (omega arith))) (omega (arith, near 2 (omega arith) (omega arith)))
-      (omega (arith, near 1 (omega arith) (omega arith)))
+      ∙ ascii_run s a 64 l each
+      ∙ sound-closed s (a + 64) (omega (arith, near each 3 (omega arith) (omega arith))) (omega (arith, near each 2 (omega arith) (omega arith)))
+      (omega (arith, near each 1 (omega arith) (omega arith)))
     where
-      near : (k : ℕ) → 1 ≤ k → k ≤ 3 → get_or s (a + 64 - k) 0 < 0x80
-      near k g v = let q : a + (64 - k) ≡ a + 64 - k = omega arith in let w = rw q at (t.each (64 - k) (omega arith)) in omega arith
-
-begun-not : {s : List ℕ} → utf8 s ≡ false → Begun s 0
-begun-not e = record { none = λ _. e; on = λ n. absurd (n refl) }
+      near : ((k : ℕ) → k < 64 → get_or s (a + k) 0 < 0x80) → (k : ℕ) → 1 ≤ k → k ≤ 3 → get_or s (a + 64 - k) 0 < 0x80
+      near each k g v = let q : a + (64 - k) ≡ a + 64 - k = omega arith in rw q at (each (64 - k) (omega arith))
 
 pub begun-far : (s : List ℕ) (from : ℕ) → Ascii s from → 3 ≤ from → Begun s from
-begun-far s from a h = record { none = λ z. let o : ⊥ = omega arith in absurd o; on = λ n. (h, a.room, ascii_sound s from a h) }
+begun-far s from a h = record { back = h; room = a.room; same = ascii_sound s from a h }
 
 -- where to start: after ASCII, or after the first three bytes
 module _ (s : List ℕ) (h : 3 ≤ length s) where
-  pub begun_first : first s ≡ false → Begun s 0
-  begun_first e = begun-not (first_three s h ∙ rw e)
+  pub begun_first : first s ≡ false → utf8 s ≡ false
+  begun_first e = first_three s h ∙ rw e
 
-  pub begun_second : first s ≡ true → second s ≡ false → Begun s 0
-  begun_second d e = begun-not (first_three s h ∙ rw (d, e))
+  pub begun_second : first s ≡ true → second s ≡ false → utf8 s ≡ false
+  begun_second d e = first_three s h ∙ rw (d, e)
 
-  pub begun_third : first s ≡ true → second s ≡ true → third s ≡ false → Begun s 0
-  begun_third d e f = begun-not (first_three s h ∙ rw (d, e, f))
+  pub begun_third : first s ≡ true → second s ≡ true → third s ≡ false → utf8 s ≡ false
+  begun_third d e f = first_three s h ∙ rw (d, e, f)
 
   pub begun-on : first s ≡ true → second s ≡ true → third s ≡ true → Begun s 3
-  begun-on d e f =
-      record { none = λ z. let o : ⊥ = omega arith in absurd o; on = λ n. (omega arith, h, first_three s h ∙ rw (d, e, f)) }
+  begun-on d e f = record { back = omega arith; room = h; same = first_three s h ∙ rw (d, e, f) }
 
 -- the last block, which may lie over the one before
 module _ (s : List ℕ) (j : ℕ) (g : 3 ≤ j) (h : j ≤ length s) where

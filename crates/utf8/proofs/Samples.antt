@@ -1,5 +1,5 @@
 -- Worked examples, each computed. Assumes nothing.
-use Rattle.utf8.proofs.Names.{◌≡◌, refl, true, false, [], ◌∷◌, when◌then◌else◌, Char, Nothing, table, row_of, utf8, decode, encode, bytes, size_of}
+use Rattle.utf8.proofs.Names.{◌≡◌, refl, true, false, [], ◌∷◌, when◌then◌else◌, Some, None, table, row_of, utf8, decode, encode, bytes, size_of}
 use Rattle.utf8.proofs.Names.{character_at, characters}
 
 -- characters of one to four bytes
@@ -37,14 +37,14 @@ unfolding table row_of when◌then◌else◌
 cut_short = refl
 
 -- a character is read where its first byte stands, and nowhere else
-read_at : character_at (bytes "aé漢😀") 3 ≡ Char 0x6F22 6
+read_at : character_at (bytes "aé漢😀") 3 ≡ Some (0x6F22, 6)
 unfolding bytes encode table row_of size_of character_at when◌then◌else◌
 read_at = refl
 
-read-inside : character_at (bytes "aé漢😀") 4 ≡ Nothing
+read-inside : character_at (bytes "aé漢😀") 4 ≡ None
 unfolding bytes encode table row_of size_of character_at when◌then◌else◌
 read-inside = refl
 
-read_past : character_at (bytes "aé漢😀") 10 ≡ Nothing
+read_past : character_at (bytes "aé漢😀") 10 ≡ None
 unfolding bytes encode table row_of size_of character_at when◌then◌else◌
 read_past = refl

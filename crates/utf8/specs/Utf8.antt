@@ -1,11 +1,9 @@
 -- Well-formed UTF-8 by table 3-7 of the Unicode standard, the code points of a text and the bytes of a code point by its table 3-6.
-use Rattle.std.specs.Prelude.{Bool, true, false, ◌&&◌, ◌||◌, List, [], ◌∷◌, ◌++◌, ℕ, suc, ◌+◌, ◌-◌, ◌*◌, ◌/◌, ◌%◌, ltb, length, take, drop}
+use Rattle.std.specs.Prelude.{Bool, true, false, ◌&&◌, ◌||◌, List, [], ◌∷◌, ◌++◌, ℕ, suc, ◌+◌, ◌-◌, ◌*◌, ◌/◌, ◌%◌, ltb, length, take, drop, Option, Some, None}
 use Prim.Native.Char.{code}
 use Prim.Native.String.{String}
 use Prim.Native.String as str
 use Rattle.base.specs.Choice.{when◌then◌else◌, among}
-use Rattle.utf8.specs.declared.Decoded.{Decoded}
-use Rattle.utf8.specs.declared.Decoded.TheVariants.{Char, Nothing}
 
 -- the bytes from the first to the second
 pub data Range : Type 0 where
@@ -87,12 +85,12 @@ size_of [] = 0
 size_of (b ∷ s) = when begins (row_of b).after s then suc (length (row_of b).after) else 0
 
 -- the first of some code points, and the place after it
-abbrev pub first_of : List ℕ → ℕ → Decoded
-first_of [] next = Nothing
-first_of (c ∷ cs) next = Char c next
+abbrev pub first_of : List ℕ → ℕ → Option (ℕ × ℕ)
+first_of [] next = None
+first_of (c ∷ cs) next = Some (c, next)
 
 -- the character whose bytes stand at `at`, and the place after them; or that none stands there, nor past the end
-unfoldable pub character_at : List ℕ → ℕ → Decoded
+unfoldable pub character_at : List ℕ → ℕ → Option (ℕ × ℕ)
 character_at s at = first_of (decode (take (size_of (drop at s)) (drop at s))) (at + size_of (drop at s))
 
 -- a byte that goes on with a character

@@ -31,28 +31,28 @@ pub last-short : (k : ℕ) (t : List ℕ) → length t ≤ k → last k t ≡ t
 last-short k t h = let z : length t - k ≡ 0 = omega arith in rw z
 
 module _ (t : List ℕ) where
-  pub size_1 : white_bytes (last 1 t) ≡ true → 1 ≡ white_size t
+  pub size_1 : white_bytes (last 1 t) ≡ true → (1 ≤ 1) × (1 ≡ white_size t)
   unfolding when◌then◌else◌ white_size
-  size_1 a = rw a
+  size_1 a = (omega arith, rw a)
 
-  pub size_2 : white_bytes (last 1 t) ≡ false → white_bytes (last 2 t) ≡ true → 2 ≡ white_size t
+  pub size_2 : white_bytes (last 1 t) ≡ false → white_bytes (last 2 t) ≡ true → (1 ≤ 2) × (2 ≡ white_size t)
   unfolding when◌then◌else◌ white_size
-  size_2 a b = rw (a, b)
+  size_2 a b = (omega arith, rw (a, b))
 
-  pub size_3 : white_bytes (last 1 t) ≡ false → white_bytes (last 2 t) ≡ false → white_bytes (last 3 t) ≡ true → 3 ≡ white_size t
+  pub size_3 : white_bytes (last 1 t) ≡ false → white_bytes (last 2 t) ≡ false → white_bytes (last 3 t) ≡ true → (1 ≤ 3) × (3 ≡ white_size t)
   unfolding when◌then◌else◌ white_size
-  size_3 a b c = rw (a, b, c)
+  size_3 a b c = (omega arith, rw (a, b, c))
 
-  pub none_3 : white_bytes (last 1 t) ≡ false → white_bytes (last 2 t) ≡ false → white_bytes (last 3 t) ≡ false → 0 ≡ white_size t
+  pub none_3 : white_bytes (last 1 t) ≡ false → white_bytes (last 2 t) ≡ false → white_bytes (last 3 t) ≡ false → white_size t ≡ 0
   unfolding when◌then◌else◌ white_size
   none_3 a b c = rw (a, b, c)
 
-  pub none_2 : length t ≤ 2 → white_bytes (last 1 t) ≡ false → white_bytes (last 2 t) ≡ false → 0 ≡ white_size t
+  pub none_2 : length t ≤ 2 → white_bytes (last 1 t) ≡ false → white_bytes (last 2 t) ≡ false → white_size t ≡ 0
   none_2 l a b = none_3 a b (ap white_bytes (last-short 3 t (omega arith) ∙ sym (last-short 2 t l)) ∙ b)
 
-  pub none_1 : length t ≤ 1 → white_bytes (last 1 t) ≡ false → 0 ≡ white_size t
+  pub none_1 : length t ≤ 1 → white_bytes (last 1 t) ≡ false → white_size t ≡ 0
   none_1 l a = none_2 (omega arith) a (ap white_bytes (last-short 2 t (omega arith) ∙ sym (last-short 1 t l)) ∙ a)
 
-pub none_0 : (s : List ℕ) (e : ℕ) → e < 1 → 0 ≡ white_size (take e s)
+pub none_0 : (s : List ℕ) (e : ℕ) → e < 1 → white_size (take e s) ≡ 0
 unfolding when◌then◌else◌ white_size white_bytes whites encode
 none_0 s e h = let z : e ≡ 0 = omega arith in rw z

@@ -9,11 +9,10 @@ pub use Rattle.white.specs.InnerParts.{last, same}
 unfoldable pub use Rattle.white.specs.InnerParts.{white_bytes, white_size}
 pub use Rattle.white.specs.White.{all_white, any, unblank}
 unfoldable pub use Rattle.white.specs.White.{blank, printing, printing_count, trim, white, whites}
-pub use borrow.Author.Rules.{rules}
-pub use borrow.Author.Tests.{eq-eqb, eqb-true, le-ltb, leb-true, lt-leb, ne_eqb, not-false, not-true}
+pub use borrow.Author.Tests.{eq-eqb, eqb-true, le-ltb, leb-true, lt-leb, ne_eqb}
 pub use lib.Dec.{eqb, leb, ltb}
 pub use lib.ListN.{drop, drop_of_length-le, get_or, length, length-append, take, take-append-drop}
-pub use lib.Seq.{drop_at, drop-cons, drop-length, length-take-le, take-add, take-append_seam, take-length, take-take}
+pub use lib.Seq.{drop_at, drop-cons, drop-length, length-take-le, take-add, take-append_seam, take-take}
 pub use mathlib.Core.Bool.{Bool, ◌&&◌, ◌||◌, and_assoc, and-false, and-true, false, false≢true, or-true, true, true≢false}
 pub use mathlib.Core.List.{List, [], ◌++◌, ◌∷◌, append_assoc, append-nil}
 pub use mathlib.Core.Logic.{◌⊎◌, inl, inr, ⊎_elim}

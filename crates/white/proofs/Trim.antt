@@ -170,19 +170,12 @@ module _ (s : List ℕ) (e : ℕ) (room : e ≤ length s) where
   size : length (take e s) ≡ e
   size = length-take-le e s room
 
-  pub left_fits : {k : ℕ} → k ≡ white_size (take e s) → (k ≡ 0 → ⊥) → (1 ≤ k) × (k ≤ e)
-  left_fits p n =
-      let f = found (take e s) p n in
-      omega (arith, f.room, f.some, size)
+  pub left_fits : {k : ℕ} → 1 ≤ k → k ≡ white_size (take e s) → k ≤ e
+  left_fits n p = omega (arith, (found (take e s) p (λ z. omega arith)).room, size)
 
-  pub left-next : {k : ℕ} → k ≡ white_size (take e s) → (k ≡ 0 → ⊥) → trim (take e s) ≡ trim (take (e - k) s)
-  left-next {k} p n = trim_found (take e s) k (found (take e s) p n) ∙ ap trim (rw size (take-take (e - k) e s (omega arith)))
+  pub left-next : {k : ℕ} → 1 ≤ k → k ≡ white_size (take e s) → trim (take e s) ≡ trim (take (e - k) s)
+  left-next {k} n p =
+      trim_found (take e s) k (found (take e s) p (λ z. omega arith)) ∙ ap trim (rw size (take-take (e - k) e s (omega arith)))
 
-  pub left-stop : {k : ℕ} → k ≡ white_size (take e s) → k ≡ 0 → trim s ≡ trim (take e s) → e ≡ length (trim s)
-  left-stop p z q = sym (ap length (q ∙ trim-stop (take e s) (sym p ∙ z)) ∙ size)
-
-pub left-none : (s : List ℕ) (e : ℕ) → e ≤ 0 → trim s ≡ trim (take e s) → 0 ≡ length (trim s)
-unfolding trim
-left-none s e h q =
-    let z : e ≡ 0 = omega arith in
-    sym (ap length (q ∙ ap (λ (n : ℕ). trim (take n s)) z))
+  pub left-stop : white_size (take e s) ≡ 0 → trim s ≡ trim (take e s) → e ≡ length (trim s)
+  left-stop p q = sym (ap length (q ∙ trim-stop (take e s) p) ∙ size)

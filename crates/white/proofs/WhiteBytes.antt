@@ -10,9 +10,9 @@ pub two : (c : ℕ) → c < 256 → white_bytes (0xC2 ∷ c ∷ []) ≡ (eqb c 0
 unfolding white_bytes whites encode when◌then◌else◌
 two c h = byte (λ c. white_bytes (0xC2 ∷ c ∷ [])) (λ c. eqb c 0x85 || eqb c 0xA0) refl c h
 
-pub not-two : (b c : ℕ) → (b ≡ 0xC2 → ⊥) → white_bytes (b ∷ c ∷ []) ≡ false
+pub not_two : (b c : ℕ) → (b ≡ 0xC2 → ⊥) → white_bytes (b ∷ c ∷ []) ≡ false
 unfolding white_bytes whites encode when◌then◌else◌
-not-two b c n = simp (and-false, ne_eqb b 0xC2 n)
+not_two b c n = simp (and-false, ne_eqb b 0xC2 n)
 
 pub e280 : (c : ℕ) → c < 256 → white_bytes (0xE2 ∷ 0x80 ∷ c ∷ []) ≡ (leb 0x80 c && (leb c 0x8A || (eqb c 0xA8 || (eqb c 0xA9 || eqb c 0xAF))))
 unfolding white_bytes whites encode when◌then◌else◌

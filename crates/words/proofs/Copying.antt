@@ -1,8 +1,10 @@
 -- Bytes of a line that are copied, block by block and byte by byte, and the words among them that are whole. Assumes nothing.
-use Prim.Native.Nat.{ℕ, zero, suc, ◌+◌, ◌-◌, ◌/◌, ◌≤◌, ◌<◌}
+use Prim.Native.Nat.{ℕ, zero, suc, ◌+◌, ◌-◌, ◌≤◌, ◌<◌}
 use mathlib.Core.Path.{◌≡◌, refl, sym, ap, subst, ◌∙◌}
 use mathlib.Core.List.{List, [], ◌∷◌, ◌++◌, append-nil, append_assoc}
-use mathlib.Core.Bool.{true, false, false≢true}
+use mathlib.Core.Bool.{Bool, true, false, not, false≢true}
+use lib.Dec.{eqb}
+use borrow.Author.Tests.{eqb-false}
 use mathlib.Core.Logic.{⊎_elim}
 use lib.ListN.{length, take, drop, get_or, set, length-set, length-take}
 use lib.Seq.{take-take, take-append-add, take-add, take-suc-set, length-take-le, drop-cons, drop-drop}
@@ -11,8 +13,8 @@ use native.Mathlib.Numerals.{add-one}
 use native.Mathlib.Omega.{arith}
 use Rattle.base.specs.Bytes.{part}
 use Rattle.base.proofs.Choice.{le_or_lt}
-use Rattle.utf8.specs.Utf8.{characters}
-use Rattle.utf8.proofs.Laws.{adds, adds-by, adds-not}
+use Rattle.utf8.specs.Utf8.{characters, continues}
+use Rattle.utf8.proofs.Laws.{adds, adds_start, adds_more}
 use Rattle.splitter.specs.Split.{is_line_end_or_space}
 use Rattle.splitter.proofs.Fits.{count_short}
 use Rattle.words.specs.InnerCopies.{NoLineEnd, NoWordCut, Copying, Stopped, Whole, Copies}
@@ -118,28 +120,25 @@ module _ (x : List ℕ) (at stop len : ℕ) (old : List ℕ) where
           (rw one (omega (arith, count_one (get_or x i 0))))
           (rw (one, add-one (len + (i - at))) (take-suc-set mid (len + (i - at)) (get_or x i 0) (omega (arith, c.size, c.order))))
 
-      pub copying_one : w ≡ width + 1 → (get_or x i 0 / 64 ≡ 2 → ⊥) → Copying x at stop len old (set mid (len + (i - at)) (get_or x i 0)) (i + 1) w
-      copying_one e m = on (omega (arith, adds-by (get_or x i 0) m))
+      pub copying_one : w ≡ width + 1 → {r : Bool} → r ≡ not (continues (get_or x i 0)) → r ≡ true → Copying x at stop len old (set mid (len + (i - at)) (get_or x i 0)) (i + 1) w
+      copying_one e f t = on (omega (arith, adds_start (get_or x i 0) f t))
 
-      pub copying_none : w ≡ width → get_or x i 0 / 64 ≡ 2 → Copying x at stop len old (set mid (len + (i - at)) (get_or x i 0)) (i + 1) w
-      copying_none e m = on (omega (arith, adds-not (get_or x i 0) m))
+      pub copying_none : w ≡ width → {r : Bool} → r ≡ not (continues (get_or x i 0)) → r ≡ false → Copying x at stop len old (set mid (len + (i - at)) (get_or x i 0)) (i + 1) w
+      copying_none e f t = on (omega (arith, adds_more (get_or x i 0) f t))
 
 -- Eight bytes
 
-module _ (s : List ℕ) (at i : ℕ) where
-  -- one byte more without a line end
-  pub plain_more : NoLineEnd s at (at + i) → (get_or s (at + i) 0 ≡ 0x0A → ⊥) → NoLineEnd s at (at + (i + 1))
-  plain_more p n k a b e =
-      ⊎_elim (λ (l : at + i ≤ k). n (ap (λ (j : ℕ). get_or s j 0) (omega arith) ∙ e)) (λ (l : k < at + i). p k a l e) (le_or_lt (at + i) k)
+-- without a line end, byte by byte
+pub plain-part : (s : List ℕ) (at n : ℕ) → ((k : ℕ) → k < n → eqb (get_or s (at + k) 0) 0x0A ≡ false) → NoLineEnd s at (at + n)
+plain-part s at n h k a b e =
+    let q : at + (k - at) ≡ k = omega arith in
+    eqb-false _ 0x0A (rw q at (h (k - at) (omega arith))) e
 
-  module _ (h : at + i < length s) where
-    take_more : take (i + 1) (drop at s) ≡ take i (drop at s) ++ get_or s (at + i) 0 ∷ []
-    take_more = take-add i 1 (drop at s) ∙ ap (λ (l : List ℕ). take i (drop at s) ++ take 1 l) (drop-drop i at s)
-        ∙ ap (λ (l : List ℕ). take i (drop at s) ++ l) (take-one s (at + i) h)
-
-    -- one byte more is counted
-    pub count_more : characters (take (i + 1) (drop at s)) ≡ characters (take i (drop at s)) + adds (get_or s (at + i) 0)
-    count_more = ap characters take_more ∙ characters-append (take i (drop at s)) (get_or s (at + i) 0 ∷ []) ∙ omega (arith, count_one (get_or s (at + i) 0))
+-- one byte more
+take_more : (s : List ℕ) (at i : ℕ) → at + i < length s → take (i + 1) (drop at s) ≡ take i (drop at s) ++ get_or s (at + i) 0 ∷ []
+take_more s at i h =
+    take-add i 1 (drop at s) ∙ ap (λ (l : List ℕ). take i (drop at s) ++ take 1 l) (drop-drop i at s)
+    ∙ ap (λ (l : List ℕ). take i (drop at s) ++ l) (take-one s (at + i) h)
 
 -- the first bytes of a block stand in a room
 pub record Block (x : List ℕ) (at len : ℕ) (old new : List ℕ) (i : ℕ) : Type 0 where

@@ -19,10 +19,7 @@ pub struct Run {
 fn ends_word(x: u8) -> bool
     ensures { result ≡ is_line_end_or_space x }
 {
-    if x == b'\n' {
-        return true;
-    }
-    x == b' '
+    x == b'\n' || x == b' '
 }
 
 // The three functions below take eight bytes at a time: loops of a fixed number of turns without a way out, and a copy that reads all before
@@ -33,15 +30,7 @@ fn has_line_end(s: &[u8], at: usize) -> bool
     requires { at + 8 ≤ length s.now }
     ensures { result ≡ false → NoLineEnd s.now at (at + 8) }
 {
-    let mut m: u8 = 0;
-    let mut i: usize = 0;
-    while i < 8 {
-        if s[at + i] == b'\n' {
-            m = 1;
-        }
-        i += 1;
-    }
-    m == 1
+    base::any(&s[at..at + 8], |x| x == b'\n')
 }
 
 // How many of the 8 bytes at a place start a character.
@@ -49,15 +38,7 @@ fn count(s: &[u8], at: usize) -> u8
     requires { at + 8 ≤ length s.now }
     ensures { result ≡ characters (take 8 (drop at s.now)) }
 {
-    let mut n: u8 = 0;
-    let mut i: usize = 0;
-    while i < 8 {
-        if s[at + i] >> 6 != 2 {
-            n += 1;
-        }
-        i += 1;
-    }
-    n
+    base::few(&s[at..at + 8], &utf8::starts_character)
 }
 
 // Copies the 8 bytes at a place of a body into a room after the first `len` bytes.
@@ -65,6 +46,7 @@ fn copy_block(room: &mut [u8], len: usize, body: &[u8], at: usize)
     requires { (at + 8 ≤ length body.now) × (len + 8 ≤ length room.old) }
     ensures { take (len + 8) room.new ≡ take len room.old ++ take 8 (drop at body.now) }
 {
+    // the library's `copy_from_slice` of 8 bytes, and a loop over them, are slower
     let a = body[at];
     let b = body[at + 1];
     let c = body[at + 2];
@@ -95,7 +77,7 @@ fn copy_blocks(room: &mut [u8], len: usize, body: &[u8], at: usize, stop: usize)
             return Run { to, width };
         }
         copy_block(room, len + (to - at), body, to);
-        width += base::usize_from(count(body, to));
+        width += usize::from(count(body, to));
         to += 8;
     }
     Run { to, width }
@@ -115,7 +97,7 @@ fn copy_bytes(room: &mut [u8], len: usize, body: &[u8], at: usize, stop: usize) 
             return Run { to, width };
         }
         room[len + (to - at)] = x;
-        if x >> 6 != 2 {
+        if utf8::starts_character(x) {
             width += 1;
         }
         to += 1;
@@ -145,10 +127,7 @@ fn whole_words(body: &[u8], at: usize, run: Run) -> Run
 {
     let mut to = run.to;
     let mut width = run.width;
-    if body.len() <= to {
-        return run;
-    }
-    if ends_word(body[to]) {
+    if body.len() <= to || ends_word(body[to]) {
         return run;
     }
     while at < to {
@@ -156,7 +135,7 @@ fn whole_words(body: &[u8], at: usize, run: Run) -> Run
         if x == b' ' {
             return Run { to, width };
         }
-        if x >> 6 != 2 {
+        if utf8::starts_character(x) {
             width -= 1;
         }
         to -= 1;
@@ -169,13 +148,10 @@ fn whole_words(body: &[u8], at: usize, run: Run) -> Run
 pub fn copy_run(room: &mut [u8], len: usize, body: &[u8], at: usize, most: usize) -> Run
     ensures { Copies body.now at most len room.old room.new result.to result.width }
 {
-    if room.len() <= len {
+    if room.len() <= len || body.len() <= at {
         return Run { to: at, width: 0 };
     }
-    if body.len() <= at {
-        return Run { to: at, width: 0 };
-    }
-    let n = base::min(most, base::min(room.len() - len, body.len() - at));
+    let n = most.min(room.len() - len).min(body.len() - at);
     let run = copy_line(room, len, body, at, at + n);
     whole_words(body, at, run)
 }

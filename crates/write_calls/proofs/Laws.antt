@@ -11,7 +11,7 @@ use Rattle.utf8.specs.Utf8.{utf8}
 use Rattle.records.specs.declared.Style.{Style}
 use Rattle.buffer.specs.Builder.{writes}
 use Rattle.buffer.specs.Answers.{kept}
-use Rattle.buffer.specs.declared.Built.TheVariants as built
+use Rattle.std.specs.Prelude.{Ok}
 use Rattle.write_laws.specs.Small.{writes_all, joined_texts, AllUtf8, Bytes, Wrote}
 use Rattle.write_laws.proofs.Laws.{writes-joined, all_joined, next-write, call-given, two_calls}
 use Rattle.write_laws.proofs.Empty.{call-nothing, call_record}
@@ -45,14 +45,16 @@ in_style_lem room n k x d e = if_gives (among 1 5 k) (writes room n (style_at k)
 
 -- a call with the number 0 is an accepted one of `write_str`
 called_wrote : {room : List ℕ} {n k : ℕ} {x : List ℕ} {q m p : ℕ} {after : List ℕ} → q ≡ 0 → Called room n k x q m p after
-    → (among 1 5 k ≡ true) × Wrote room n (style_at k) x (built.Length m) after
+    → (among 1 5 k ≡ true) × Wrote room n (style_at k) x (Ok m) after
 called_wrote {room} {n} {k} {x} {q} {m} {p} {after} z c =
     let a = accepted_0 room n k x (sym z ∙ c.number_is) in
     let b = in_style_lem room n k x a.0 a.1 in (
       b.0,
       record {
-        answer = ap gives (c.length-is ∙ ap (λ (r : Result (List ℕ)). length_after n (measured r)) a.1) ∙ sym (ap measured b.1);
-        room_after = c.room_is ∙ ap (kept room) (a.1 ∙ sym b.1);
+        call = record {
+          answer = ap gives (c.length-is ∙ ap (λ (r : Result (List ℕ)). length_after n (measured r)) a.1) ∙ sym (ap measured b.1);
+          room = c.room_is ∙ ap (kept room) (a.1 ∙ sym b.1);
+        };
       },
     )
 
@@ -75,7 +77,7 @@ module _ {room : List ℕ} {n k : ℕ} {x : List ℕ} (y : List ℕ) {q m p : �
         length-is = v.length-is ∙ ap (λ (r : Result (List ℕ)). length_after m (measured r)) a.1
             ∙ sym (ap (λ (r : Result (List ℕ)). length_after n (measured r)) b);
         place_is = v.place_is ∙ ap place_of second_in;
-        room_is = w.room_after ∙ ap (kept room) ((in_style_lem room n k (x ++ y) a.0 b).1 ∙ sym b);
+        room_is = w.call.room ∙ ap (kept room) ((in_style_lem room n k (x ++ y) a.0 b).1 ∙ sym b);
       }
 
 -- any number of calls, each accepted, are one call with the texts joined

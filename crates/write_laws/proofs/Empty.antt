@@ -3,7 +3,7 @@ use Rattle.write_laws.proofs.Names.{ℕ, zero, suc, ◌+◌, ◌-◌, ◌*◌, �
 use Rattle.write_laws.proofs.Names.{false≢true, List, [], ◌∷◌, ◌++◌, append-nil, leb, eqb, length, take, drop, get_or, take-append-drop, length-append}
 use Rattle.write_laws.proofs.Names.{take_all, length-take-le, arith, eqb-true, leb-true, eq-eqb, when◌then◌else◌, gives, if_true, if_false, and_left}
 use Rattle.write_laws.proofs.Names.{and_right, eq_or_not, le_or_lt, bind_gives, first, reads, open_blocks, little_bytes, stored, text, Style, fits_room}
-use Rattle.write_laws.proofs.Names.{first_gives, is_text, one_text, written, writes, kept, Built, length-text, last_text, Bytes, Wrote, EmptyCall}
+use Rattle.write_laws.proofs.Names.{Refusal, first_gives, is_text, one_text, written, writes, kept, Answer, Ok, length-text, last_text, Bytes, Wrote, EmptyCall}
 use mathlib.Core.Logic.{⊎_elim}
 use native.Mathlib.Nat.{add-mul-div_left, div-eq_of_lt, mod-eq_of_lt, add-mul-mod_self_left}
 use Rattle.base.specs.Choice.{among}
@@ -11,7 +11,6 @@ use Rattle.records.specs.Records.{Token, little, styles, number, kind_of, size, 
 use Rattle.records.specs.declared.Style.TheVariants as style
 use Rattle.records.specs.declared.Block.{Block}
 use Rattle.records.specs.declared.Kind.TheVariants as kind
-use Rattle.buffer.specs.declared.Built.TheVariants as built
 use Rattle.write_laws.proofs.Laws.{went, call-given}
 
 -- Bytes
@@ -203,7 +202,7 @@ module _ (room : List ℕ) (n : ℕ) (st : Style) (d : List ℕ) (h : Bytes room
   empty_record t = empty-write ∙ if_false _ _ t
 
 -- the same of `write_str`
-module _ {room : List ℕ} {n : ℕ} {st : Style} {k : ℕ} {after : List ℕ} (h : Bytes room) (w : Wrote room n st [] (built.Length k) after) where
+module _ {room : List ℕ} {n : ℕ} {st : Style} {k : ℕ} {after : List ℕ} (h : Bytes room) (w : Wrote room n st [] (Ok k) after) where
   pub call-nothing : last_text st (tokens 0 0 (take n room)) ≡ true → (k ≡ n) × (after ≡ room)
   call-nothing t =
       let g = call-given w in
@@ -219,8 +218,8 @@ module _ {room : List ℕ} {n : ℕ} {st : Style} {k : ℕ} {after : List ℕ} (
         g.3 ∙ ap (λ (x : List ℕ). kept room (gives x)) f,
       )
 
-pub empty-call : {room : List ℕ} {n : ℕ} {st : Style} {r : Built} {after : List ℕ} → Bytes room → Wrote room n st [] r after → EmptyCall room n st r after
+pub empty-call : {room : List ℕ} {n : ℕ} {st : Style} {r : Answer ℕ Refusal} {after : List ℕ} → Bytes room → Wrote room n st [] r after → EmptyCall room n st r after
 empty-call {room} {n} {st} {r} {after} h w = record {
-  nothing = λ k e. call-nothing h (subst (λ (q : Built). Wrote room n st [] q after) e w);
-  one_record = λ k e. call_record h (subst (λ (q : Built). Wrote room n st [] q after) e w);
+  nothing = λ k e. call-nothing h (subst (λ (q : Answer ℕ Refusal). Wrote room n st [] q after) e w);
+  one_record = λ k e. call_record h (subst (λ (q : Answer ℕ Refusal). Wrote room n st [] q after) e w);
 }

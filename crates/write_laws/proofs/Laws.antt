@@ -3,12 +3,11 @@ use Rattle.write_laws.proofs.Names.{ℕ, ◌+◌, ◌-◌, ◌≤◌, ◌≡◌,
 use Rattle.write_laws.proofs.Names.{leb, length, take, drop, length-append, length-drop, take-append_seam, drop-append-add, drop-drop, arith, le-leb}
 use Rattle.write_laws.proofs.Names.{leb-true, le-ltb, when◌then◌else◌, Result, gives, refused, measured, ◌>>=◌, if_true, if_false, and_left, and_right}
 use Rattle.write_laws.proofs.Names.{and_both, not-passed, bind_same, bind_gives, gives_same, refused-gives, if_gives, open_blocks, short, Style}
-use Rattle.write_laws.proofs.Names.{Refusal, written, writes, so_far, fit, built_as, kept, Built, writes_all, joined_texts, AllUtf8, none, some, Wrote}
+use Rattle.write_laws.proofs.Names.{Refusal, written, writes, so_far, fit, answered, kept, Answer, Ok, Err, writes_all, joined_texts, AllUtf8, none, some, Wrote}
 use Rattle.write_laws.proofs.Names.{Calls, one, more}
 use Rattle.utf8.specs.Utf8.{utf8}
 use Rattle.utf8.proofs.Text.{valid_append, valid_both}
-use Rattle.buffer.specs.declared.Built.TheVariants as built
-use Rattle.buffer.proofs.Answering.{SoFar, so_far-given, so_far-on}
+use Rattle.buffer.proofs.Answering.{SoFar, follows_same, so_far-given, so_far-on}
 use Rattle.buffer_doc.proofs.Laws.{after_write}
 use Rattle.write_laws.proofs.Twice.{written-longer, twice}
 
@@ -173,13 +172,13 @@ parted room n st x y f v w e = bind_gives (writes room n st x) _ f (writes-joine
 -- Calls of `write_str`
 
 -- an accepted call gives a document of that length
-pub call-given : {room : List ℕ} {n : ℕ} {st : Style} {x : List ℕ} {k : ℕ} {after : List ℕ} → Wrote room n st x (built.Length k) after
+pub call-given : {room : List ℕ} {n : ℕ} {st : Style} {x : List ℕ} {k : ℕ} {after : List ℕ} → Wrote room n st x (Ok k) after
     → (d : List ℕ) × (writes room n st x ≡ gives d) × (k ≡ length d) × (after ≡ kept room (gives d))
 call-given {room} {n} {st} {x} {k} {after} w = go (writes room n st x) refl
   where
     go : (r : Result (List ℕ)) → writes room n st x ≡ r → (d : List ℕ) × (writes room n st x ≡ gives d) × (k ≡ length d) × (after ≡ kept room (gives d))
-    go (gives d) e = (d, e, gives_same (w.answer ∙ ap measured e), w.room_after ∙ ap (kept room) e)
-    go (refused i j) e = absurd (refused-gives (sym (w.answer ∙ ap measured e)))
+    go (gives d) e = (d, e, gives_same (w.call.answer ∙ ap measured e), w.call.room ∙ ap (kept room) e)
+    go (refused i j) e = absurd (refused-gives (sym (w.call.answer ∙ ap measured e)))
 
 -- beyond a longer document the old bytes stand
 kept_twice : (room d f : List ℕ) → length d ≤ length f → kept (kept room (gives d)) (gives f) ≡ kept room (gives f)
@@ -191,18 +190,18 @@ kept_twice room d f h =
     ∙ drop-drop (length f - length d) (length d) room
     ∙ ap (λ (k : ℕ). drop k room) (sym e))
 
-module _ {room : List ℕ} {n : ℕ} {st : Style} {x : List ℕ} (y : List ℕ) {k : ℕ} {after : List ℕ} (u : Wrote room n st x (built.Length k) after) where
+module _ {room : List ℕ} {n : ℕ} {st : Style} {x : List ℕ} (y : List ℕ) {k : ℕ} {after : List ℕ} (u : Wrote room n st x (Ok k) after) where
   -- after an accepted call the next is answered as one call with the two joined, whatever it writes
   then_same : writes after k st y ≡ writes room n st (x ++ y)
   then_same =
       let g = call-given u in
       ap₂ (λ (r : List ℕ) (i : ℕ). writes r i st y) g.3 g.2 ∙ next-write room n st x y g.0 g.1
 
-  pub second_call : {r : Built} {last : List ℕ} → Wrote after k st y r last → built_as r ≡ measured (writes room n st (x ++ y))
-  second_call v = v.answer ∙ ap measured then_same
+  pub second_call : {r : Answer ℕ Refusal} {last : List ℕ} → Wrote after k st y r last → answered r ≡ measured (writes room n st (x ++ y))
+  second_call v = v.call.answer ∙ ap measured then_same
 
   -- both are accepted: the answer, and every byte of the room, are those of one call with the two joined
-  pub two_calls : {m : ℕ} {last : List ℕ} → Wrote after k st y (built.Length m) last → Wrote room n st (x ++ y) (built.Length m) last
+  pub two_calls : {m : ℕ} {last : List ℕ} → Wrote after k st y (Ok m) last → Wrote room n st (x ++ y) (Ok m) last
   two_calls {m} {last} v =
       let g = call-given u in
       let h = call-given v in
@@ -210,26 +209,28 @@ module _ {room : List ℕ} {n : ℕ} {st : Style} {x : List ℕ} (y : List ℕ) 
       let a = went room n st x g.0 g.1 in
       let b = went room n st (x ++ y) h.0 one in
       record {
-        answer = second_call v;
-        room_after = h.3 ∙ ap (λ (r : List ℕ). kept r (gives h.0)) g.3
-            ∙ kept_twice room g.0 h.0 (omega (arith, ap length a.is, ap length b.is, written-longer st x y (take n room) 0))
-            ∙ sym (ap (kept room) one);
+        call = record {
+          answer = second_call v;
+          room = h.3 ∙ ap (λ (r : List ℕ). kept r (gives h.0)) g.3
+              ∙ kept_twice room g.0 h.0 (omega (arith, ap length a.is, ap length b.is, written-longer st x y (take n room) 0))
+              ∙ sym (ap (kept room) one);
+        };
       }
 
 -- any number of calls, each accepted, are one call with the texts joined
 pub many_calls : {st : Style} {room : List ℕ} {n : ℕ} {xs : List (List ℕ)} {m : ℕ} {last : List ℕ} → Calls st room n xs m last
-    → Wrote room n st (joined_texts xs) (built.Length m) last
+    → Wrote room n st (joined_texts xs) (Ok m) last
 unfolding joined_texts
-many_calls {st} {room} {n} {m} {last} (one {x} u) = subst (λ (t : List ℕ). Wrote room n st t (built.Length m) last) (sym (append-nil x)) u
+many_calls {st} {room} {n} {m} {last} (one {x} u) = subst (λ (t : List ℕ). Wrote room n st t (Ok m) last) (sym (append-nil x)) u
 many_calls (more {xs} u c) = two_calls (joined_texts xs) u (many_calls c)
 
 -- the first is refused: one call with the two joined is refused alike, and leaves the room alike
 pub first-refused : {room : List ℕ} {n : ℕ} {st : Style} {x : List ℕ} (y : List ℕ) {a : Refusal} {after : List ℕ} → utf8 x ≡ true → utf8 y ≡ true
-    → Wrote room n st x (built.Refused a) after → Wrote room n st (x ++ y) (built.Refused a) after
+    → Wrote room n st x (Err a) after → Wrote room n st (x ++ y) (Err a) after
 first-refused {room} {n} {st} {x} y {a} {after} v w u = go (writes room n st x) refl
   where
-    go : (r : Result (List ℕ)) → writes room n st x ≡ r → Wrote room n st (x ++ y) (built.Refused a) after
-    go (gives d) e = absurd (refused-gives (u.answer ∙ ap measured e))
+    go : (r : Result (List ℕ)) → writes room n st x ≡ r → Wrote room n st (x ++ y) (Err a) after
+    go (gives d) e = absurd (refused-gives (u.call.answer ∙ ap measured e))
     go (refused m q) e =
         let f = none-write room n st x y m q v w e in
-        record { answer = u.answer ∙ ap measured (e ∙ sym f); room_after = u.room_after ∙ ap (kept room) (e ∙ sym f) }
+        record { call = follows_same (e ∙ sym f) u.call }

@@ -5,30 +5,33 @@
 
 ghost use Rattle.std.specs.Prelude.{◌≡◌, [], ◌∷◌};
 ghost use Rattle.base.specs.Result.{measured};
+ghost use Rattle.refusal.specs.Answers.{answered};
 ghost use Rattle.buffer.specs.Builder.{writes};
-ghost use Rattle.buffer.specs.Answers.{built_as, kept};
+ghost use Rattle.buffer.specs.Answers.{Follows};
 ghost use Rattle.write_laws.specs.Small.{writes_all, room_after_all, AsJoined, EmptyCall};
 
-use buffer::Built;
 use records::Style;
+use refusal::Refusal;
 
 // A text and then another, in one style: the answer of the second call, or the first one's refusal.
-pub fn write_two(room: &mut [u8], len: usize, style: Style, first: &[u8], second: &[u8]) -> Built
-    ensures answer { built_as result ≡ measured (writes_all room.old len style first.now (second.now ∷ [])) }
+pub fn write_two(
+    room: &mut [u8],
+    len: usize,
+    style: Style,
+    first: &[u8],
+    second: &[u8],
+) -> Result<usize, Refusal>
+    ensures answer { answered result ≡ measured (writes_all room.old len style first.now (second.now ∷ [])) }
     ensures room { room.new ≡ room_after_all room.old len style first.now (second.now ∷ []) }
     ensures joined { AsJoined room.old len style first.now second.now result room.new }
 {
-    let built = buffer::write_str(room, len, style, first);
-    match built {
-        Built::Refused(r) => Built::Refused(r),
-        Built::Length(n) => buffer::write_str(room, n, style, second),
-    }
+    let n = buffer::write_str(room, len, style, first)?;
+    buffer::write_str(room, n, style, second)
 }
 
 // An empty text in a style.
-pub fn write_empty(room: &mut [u8], len: usize, style: Style) -> Built
-    ensures answer { built_as result ≡ measured (writes room.old len style []) }
-    ensures room { room.new ≡ kept room.old (writes room.old len style []) }
+pub fn write_empty(room: &mut [u8], len: usize, style: Style) -> Result<usize, Refusal>
+    ensures wrote { Follows (writes room.old len style []) room.old room.new result }
     ensures empty { EmptyCall room.old len style result room.new }
 {
     buffer::write_str(room, len, style, b"")

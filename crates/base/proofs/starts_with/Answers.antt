@@ -1,35 +1,19 @@
-use Rattle.base.proofs.Names.{sym, ◌∙◌, arith, eq-eqb, ne_eqb}
-use Rattle.base.proofs.Prefix.{starts-next, starts-short, starts-end}
+use Rattle.base.proofs.Names.{sym, ◌∙◌, ap, arith, starts_with}
+use Rattle.base.proofs.Prefix.{starts-short, starts-on, starts-not, starts-end}
 use Rattle.base.proofs.starts_with.Goals as goal
 
-pub returns-then-s-at : goal.returns-then-s-at
-returns-then-s-at c =
-    let l = c.loop-i in
-    let a = c.args in
-    sym (l.invariant.1 ∙ starts-short (a.prefix.now) (a.s.now) a.at l.i (omega arith) (omega arith))
+pub returns-then-rest-prefix : goal.returns-then-rest-prefix
+returns-then-rest-prefix c = sym (ap (starts_with c.args.prefix.now) (sym c.get_from-rest.ensures) ∙ starts-short _ _ c.if-rest-prefix.true)
 
-pub returns-then-s-at-2 : goal.returns-then-s-at-2
-returns-then-s-at-2 c =
-    let l = c.loop-i in
-    let a = c.args in
-    sym (l.invariant.1 ∙ starts-short (a.prefix.now) (a.s.now) a.at l.i (omega arith) (omega arith))
-
-pub returns-then-s-at-3 : goal.returns-then-s-at-3
-returns-then-s-at-3 c =
-    let after-loop = c in
-    let l = after-loop.loop-i in
-    let a = after-loop.args in
-    sym (l.invariant.1 ∙ starts-next (a.prefix.now) (a.s.now) a.at l.i (omega arith) (omega arith) ∙ simp (ne_eqb _ _ c.if-s-at-3.true))
+pub returns-then-rest-i : goal.returns-then-rest-i
+returns-then-rest-i c =
+    sym (ap (starts_with c.args.prefix.now) (sym c.get_from-rest.ensures) ∙ c.loop-i.invariant
+    ∙ starts-not _ _ c.loop-i.i c.loop-i-test.true c.if-rest-prefix.false c.if-rest-i.true)
 
 pub loop-i-preserved : goal.loop-i-preserved
-loop-i-preserved c =
-    let after-loop = c in
-    let l = after-loop.loop-i in
-    let a = after-loop.args in
-    (omega arith, l.invariant.1 ∙ starts-next (a.prefix.now) (a.s.now) a.at l.i (omega arith) (omega arith) ∙ simp (eq-eqb _ _ c.if-s-at-3.false))
+loop-i-preserved c = c.loop-i.invariant ∙ starts-on _ _ c.loop-i.i c.loop-i-test.true c.if-rest-prefix.false c.if-rest-i.false
 
 pub returns : goal.returns
 returns c =
     let l = c.loop-i in
-    let a = c.args in
-    sym (l.invariant.1 ∙ starts-end (a.prefix.now) (a.s.now) a.at l.i c.loop-i-test.false)
+    sym (ap (starts_with c.args.prefix.now) (sym c.get_from-rest.ensures) ∙ l.invariant ∙ starts-end c.args.prefix.now _ l.i (omega arith))

@@ -1,41 +1,20 @@
-use Rattle.buffer.proofs.Names.{ap, ℕ, ◌+◌, opens_block}
-use Rattle.refusal.specs.declared.Refusal.TheVariants as refusal
-use Rattle.buffer.proofs.Answering.{says-refused, says_same, so_far_accepted, so_far-refused}
-use Rattle.buffer.proofs.Blocks.{opens_too_deep, opens_in}
+use Rattle.buffer.proofs.Names.{opens_block}
+use Rattle.document.proofs.Walks.{verdict_gives, verdict_refused}
+use Rattle.buffer.proofs.Answering.{follows-exit, follows_same, so_far_accepted, so_far-refused}
+use Rattle.buffer.proofs.Blocks.{opens_refused, opens_in}
 use Rattle.buffer.proofs.open_block.Goals as goal
 
-pub returns-then-depth-ge-MAX_OPEN : goal.returns-then-depth-ge-MAX_OPEN
-returns-then-depth-ge-MAX_OPEN c =
-    let a = c.args in
-    let so_far_holds = c.so_far-o in
-    let o = so_far_holds.result in
-    let told = says-refused (a.room.now) (refusal.TooDeep a.len) (opens_too_deep o.stack o.depth
-    (so_far_accepted (a.room.now) a.len o so_far_holds.ensures.«open» c.in-Accepted.is) so_far_holds.ensures.shallow a.b c.if-depth-ge-MAX_OPEN.true) in record {
-      answer = told.0;
-      room = told.1;
-    }
-
-pub returns-in-Refused : goal.returns-in-Refused
+pub returns-in_err-blocks : goal.returns-in_err-blocks
 unfolding opens_block
-returns-in-Refused c =
-    let args = c.args in
-    let so_far_holds = c.so_far-o in
-    let told = says-refused (args.room.now) c.in-Refused.r
-    (so_far-refused (args.room.now) args.len so_far_holds.result so_far_holds.ensures.«open» _ c.in-Refused.is) in record {
-      answer = told.0;
-      room = told.1;
-    }
+returns-in_err-blocks c =
+    follows-exit (c.args.room.now) c.from_residual.result _ c.from_residual.ensures.1 (so_far-refused (c.args.room.now) c.args.len _ c.so_far.ensures c.in_err-blocks.was)
 
-pub returns-else-depth-ge-MAX_OPEN : goal.returns-else-depth-ge-MAX_OPEN
-returns-else-depth-ge-MAX_OPEN c =
-    let a = c.args in
-    let so_far_holds = c.so_far-o in
-    let if1 = c.if-depth-ge-MAX_OPEN in
-    let index_of = c.index_of in
-    let o = so_far_holds.result in
-    let s = so_far_accepted (a.room.now) a.len o so_far_holds.ensures.«open» c.in-Accepted.is in
-    let told = says_same (a.room.now) _ (opens_in o.stack o.depth s so_far_holds.ensures.shallow a.b if1.false _
-    (ap (λ (i : ℕ). 0x0100 + i) index_of.ensures)) (c.put_block.ensures.does s.inside) in record {
-      answer = told.0;
-      room = told.1;
-    }
+pub returns-in_err-open : goal.returns-in_err-open
+returns-in_err-open c =
+    let s = so_far_accepted c.so_far.ensures c.in_ok-blocks.was in
+    follows-exit (c.args.room.now) c.from_residual-in_err-open.result _ c.from_residual-in_err-open.ensures.1 (opens_refused s c.args.b (verdict_refused _ c.open.ensures.opened c.in_err-open.was))
+
+pub returns : goal.returns
+returns c =
+    let s = so_far_accepted c.so_far.ensures c.in_ok-blocks.was in
+    follows_same (opens_in s c.args.b (verdict_gives _ c.open.ensures.opened c.in_ok-open.was) c.start_kind.ensures) (c.put_block.ensures.does s.inside)

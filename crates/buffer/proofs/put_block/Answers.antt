@@ -1,7 +1,8 @@
 use Rattle.buffer.proofs.Names.{◌≡◌, sym, ap, ◌∙◌, [], ◌+◌, arith, length, stored, pasted}
 use Rattle.refusal.specs.declared.Refusal.TheVariants as refusal
-use Rattle.buffer.proofs.Pasting.{length-stored, stored-none, set_fits}
-use Rattle.buffer.proofs.Answering.{says-refused, says-length, fit_in, fit-out, room_there}
+use Rattle.buffer.proofs.Pasting.{length-stored, set_fits}
+use Rattle.record_writer.proofs.Heads.{stored-none}
+use Rattle.buffer.proofs.Answering.{follows-refused, follows-length, fit_in, fit-out, room_there}
 use Rattle.buffer.proofs.put_block.Goals as goal
 
 pub returns-then-not-has_room : goal.returns-then-not-has_room
@@ -9,7 +10,7 @@ returns-then-not-has_room c =
     let a = c.args in record {
       numbers = omega arith;
       does = λ h.
-          says-refused (a.room.now) refusal.NoRoom
+          follows-refused (a.room.now) refusal.NoRoom
           (fit-out (a.room.now) (stored a.kind []) a.len (a.len + 6) h (omega (arith, length-stored a.kind []))
           (sym c.has_room.ensures ∙ c.if-not-has_room.true));
     }
@@ -23,7 +24,7 @@ returns c =
     let t = c.if-not-has_room.false in record {
       numbers = tt;
       does = λ h.
-          says-length room _ (stored a.kind []) a.len (a.len + 6) h (fit_in room (stored a.kind []) a.len (a.len + 6) h n (sym e ∙ t)) n
+          follows-length room _ (stored a.kind []) a.len (a.len + 6) h (fit_in room (stored a.kind []) a.len (a.len + 6) h n (sym e ∙ t)) n
           (set_fits room a.len 0 a.kind c.set_head.ensures (room_there room (a.len + 6) e t)
           ∙ ap (pasted room a.len) (sym (stored-none a.kind)));
     }

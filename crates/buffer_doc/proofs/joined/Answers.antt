@@ -1,25 +1,14 @@
-use Rattle.buffer_doc.proofs.Names.{made_of}
-use Rattle.buffer_doc.proofs.Adding.{adds-refused, adds-joined}
+use Rattle.buffer_doc.proofs.Names.{adds_as}
+use Rattle.buffer.proofs.Answering.{follows-exit, so_far_accepted, so_far-refused}
+use Rattle.buffer_doc.proofs.Adding.{adds-joined}
 use Rattle.buffer_doc.proofs.joined.Goals as goal
 
-pub returns-in-Refused : goal.returns-in-Refused
-returns-in-Refused c =
-    let a = c.args in
-    let so_far_holds = c.so_far-o in
-    let x = a.added.now in
-    let told = adds-refused (a.room.now) a.len so_far_holds.result so_far_holds.ensures.«open» x (made_of a.em x) c.in-Refused.is in record {
-      answer = told.0;
-      room = told.1;
-    }
+pub returns-in_err-blocks : goal.returns-in_err-blocks
+unfolding adds_as
+returns-in_err-blocks c =
+    follows-exit (c.args.room.now) c.from_residual.result _ c.from_residual.ensures.1
+    (so_far-refused (c.args.room.now) c.args.len _ c.so_far.ensures c.in_err-blocks.was)
 
-pub returns-in-Accepted : goal.returns-in-Accepted
-returns-in-Accepted c =
-    let a = c.args in
-    let so_far_holds = c.so_far-o in
-    let add = c.add in
-    let x = a.added.now in
-    let told = adds-joined (a.room.now) a.len so_far_holds.result so_far_holds.ensures.«open» x (made_of a.em x) c.in-Accepted.is
-    so_far_holds.ensures.shallow add.ensures.does in record {
-      answer = told.0;
-      room = told.1;
-    }
+pub returns : goal.returns
+returns c =
+    adds-joined (so_far_accepted c.so_far.ensures c.in_ok-blocks.was) (c.args.added.now) _ c.depth.ensures c.add.ensures.does

@@ -1,9 +1,10 @@
 use Rattle.buffer_doc.proofs.Names.{◌≡◌, sym, ◌∙◌, subst, [], ◌++◌, ℕ, ◌+◌, arith, length, length-append, reads}
 use Rattle.buffer_doc.proofs.Names.{open_blocks, start, end, around, check-gives, gives, refused, room_there}
+use Rattle.base.proofs.Pasting.{overwritten_fits}
 use native.Mathlib.Nat.{add-zero}
 use Rattle.records.specs.declared.Block.TheVariants as block
-use Rattle.buffer_doc.proofs.Adding.{adds_shut, adds-deep, adds_full, adds-written, nests_deep, nests_given, copied_then, set-block}
-use Rattle.buffer_doc.proofs.Adding.{set-block_fits, length-start, length-end, length-around}
+use Rattle.buffer_doc.proofs.Adding.{adds_shut, adds-deep, adds_full, adds-written, nests_deep, nests_given, copied_then}
+use Rattle.buffer_doc.proofs.Adding.{length-start, length-end, length-around}
 use Rattle.buffer_doc.proofs.put_doc.Goals as goal
 
 pub returns-then-depth-ge-MAX_OPEN : goal.returns-then-depth-ge-MAX_OPEN
@@ -15,9 +16,8 @@ too_deep-deep-requires c = ((check-gives (c.args.added.now) [] c.requires.1).1, 
 
 pub returns-then-deep-added : goal.returns-then-deep-added
 returns-then-deep-added c =
-    let start = c in
-    let a = start.args in
-    let pre = start.requires in
+    let a = c.args in
+    let pre = c.requires in
     adds-deep pre.0 (a.added.now) c.if-depth-ge-MAX_OPEN.false (a.len + 6 + c.too_deep-deep.result)
     (λ stack e. subst (λ (p : ℕ). reads p 0 stack (a.added.now) ≡ refused 7 (a.len + 6 + c.too_deep-deep.result)) (add-zero (a.len + 6))
     (nests_deep c.too_deep-deep.ensures (a.len + 6) stack e c.if-deep-added.true))
@@ -26,11 +26,9 @@ pub returns-then-not-has_room : goal.returns-then-not-has_room
 returns-then-not-has_room c =
     let if2 = c.if-deep-added in
     let too_deep = c.too_deep-deep in
-    let after-if1 = c in
-    let if1 = after-if1.if-depth-ge-MAX_OPEN in
-    let start = after-if1 in
-    let a = start.args in
-    let pre = start.requires in
+    let if1 = c.if-depth-ge-MAX_OPEN in
+    let a = c.args in
+    let pre = c.requires in
     adds_full pre.0 (a.added.now) if1.false
     (λ stack e. subst (λ (p : ℕ). reads p 0 stack (a.added.now) ≡ gives stack) (add-zero (a.len + 6))
     (nests_given too_deep.ensures (a.len + 6) stack e if2.false)) (a.len + 12 + length (a.added.now))
@@ -39,19 +37,14 @@ returns-then-not-has_room c =
 pub returns : goal.returns
 unfolding start end around
 returns c =
-    let after-copy-from-slice = c in
-    let copy-from-slice = after-copy-from-slice.copy_from_slice in
-    let set-head = after-copy-from-slice.set_head in
-    let after-if3 = after-copy-from-slice in
-    let if3 = after-if3.if-not-has_room in
-    let has_room = after-if3.has_room in
-    let if2 = after-if3.if-deep-added in
-    let too_deep = after-if3.too_deep-deep in
-    let after-if1 = after-if3 in
-    let if1 = after-if1.if-depth-ge-MAX_OPEN in
-    let entry = after-if1 in
-    let a = entry.args in
-    let p = entry.requires in
+    let copy-from-slice = c.copy_from_slice in
+    let if3 = c.if-not-has_room in
+    let has_room = c.has_room in
+    let if2 = c.if-deep-added in
+    let too_deep = c.too_deep-deep in
+    let if1 = c.if-depth-ge-MAX_OPEN in
+    let a = c.args in
+    let p = c.requires in
     let room = a.room.now in
     let added = a.added.now in
     let b = start block.InlineBlock in
@@ -67,6 +60,6 @@ returns c =
     subst (λ (p : ℕ). reads p 0 stack added ≡ gives stack) (add-zero (a.len + 6)) (nests_given too_deep.ensures (a.len + 6) stack e if2.false))
     (a.len + 12 + length added) (omega (arith, length-around block.InlineBlock added)) _ (sym e ∙ y)
     (copied_then room mid _ a.len (a.len + 6 + length added) (b ++ added) (end block.InlineBlock) (omega (arith, h))
-    (copied_then room set-head.new.room _ a.len (a.len + 6) b added (omega (arith, h))
-    (set-block_fits room _ a.len 0x0108 (omega (arith, h)) set-head.ensures) (omega arith) copy-from-slice.ensures) (omega arith)
-    (set-block mid _ (a.len + 6 + length added) 0x0208 c.set_head-2.ensures))
+    (copied_then room c.set_start.new.room _ a.len (a.len + 6) b added (omega (arith, h))
+    (c.set_start.ensures ∙ overwritten_fits room a.len b (omega (arith, h))) (omega arith) copy-from-slice.ensures) (omega arith)
+    c.set_end.ensures)

@@ -2,7 +2,7 @@ use Rattle.buffer_doc.proofs.Names.{◌≡◌, sym, ◌∙◌, ◌++◌, ◌+◌
 use Rattle.buffer_doc.proofs.Names.{room_there}
 use Rattle.records.specs.declared.Style.TheVariants as style
 use Rattle.records.specs.declared.Block.TheVariants as block
-use Rattle.buffer_doc.proofs.Adding.{adds_shut, adds_full, adds-written, copied_then, set-block, length-start, length-end, length-around}
+use Rattle.buffer_doc.proofs.Adding.{adds_shut, adds_full, adds-written, copied_then, length-start, length-end, length-around}
 use Rattle.buffer_doc.proofs.Titles.{length-text, text_alone}
 use Rattle.buffer_doc.proofs.put_line.Goals as goal
 
@@ -12,9 +12,8 @@ returns-then-depth-ge-MAX_OPEN c = adds_shut c.requires.0 (text style.Emphasis (
 pub returns-then-not-has_room : goal.returns-then-not-has_room
 returns-then-not-has_room c =
     let if1 = c.if-depth-ge-MAX_OPEN in
-    let start = c in
-    let a = start.args in
-    let pre = start.requires in
+    let a = c.args in
+    let pre = c.requires in
     let x = text style.Emphasis (a.body.now) in
     adds_full pre.0 x if1.false (λ stack e. text_alone (a.len + 6) style.Emphasis (a.body.now) stack pre.2 pre.1)
     (a.len + 18 + length (a.body.now)) (omega (arith, length-around block.InlineBlock x, length-text style.Emphasis (a.body.now)))
@@ -23,15 +22,12 @@ returns-then-not-has_room c =
 pub returns : goal.returns
 unfolding end around
 returns c =
-    let after-put-title = c in
-    let put-title = after-put-title.put_title in
-    let if2 = after-put-title.if-not-has_room in
-    let has_room = after-put-title.has_room in
-    let after-if1 = after-put-title in
-    let if1 = after-if1.if-depth-ge-MAX_OPEN in
-    let entry = after-if1 in
-    let a = entry.args in
-    let p = entry.requires in
+    let put-title = c.put_title in
+    let if2 = c.if-not-has_room in
+    let has_room = c.has_room in
+    let if1 = c.if-depth-ge-MAX_OPEN in
+    let a = c.args in
+    let p = c.requires in
     let room = a.room.now in
     let t = a.body.now in
     let x = text style.Emphasis t in
@@ -44,4 +40,4 @@ returns c =
     (omega (arith, length-around block.InlineBlock x, length-text style.Emphasis t)) _ (sym e ∙ y)
     (copied_then room put-title.new.room _ a.len (a.len + 12 + length t) (b ++ x) (end block.InlineBlock)
     (omega (arith, h, l, length-end block.InlineBlock)) put-title.ensures (omega (arith, l))
-    (set-block put-title.new.room _ (a.len + 12 + length t) 0x0208 c.set_head.ensures))
+    c.set_end.ensures)

@@ -8,25 +8,22 @@ use Rattle.buffer_doc.proofs.put_lines.Goals as goal
 
 pub returns-then-depth-ge-MAX_OPEN : goal.returns-then-depth-ge-MAX_OPEN
 returns-then-depth-ge-MAX_OPEN c =
-    let start = c in
-    let args = start.args in
-    let pre = start.requires in
+    let args = c.args in
+    let pre = c.requires in
     adds_shut pre.0 (titled (args.added.now) args.line args.next) c.if-depth-ge-MAX_OPEN.true
 
 pub returns-then-depth-ge31 : goal.returns-then-depth-ge31
 returns-then-depth-ge31 c =
-    let start = c in
-    let a = start.args in
-    let pre = start.requires in
+    let a = c.args in
+    let pre = c.requires in
     adds-deep pre.0 (titled (a.added.now) a.line a.next) c.if-depth-ge-MAX_OPEN.false (a.len + 6 + a.line)
     (λ stack e. titled_shut pre.1 (a.len + 6) stack (omega (arith, c.if-depth-ge31.true)))
 
 pub returns-then-deep-added : goal.returns-then-deep-added
 returns-then-deep-added c =
     let if1 = c.if-depth-ge-MAX_OPEN in
-    let start = c in
-    let a = start.args in
-    let pre = start.requires in
+    let a = c.args in
+    let pre = c.requires in
     let q : a.len + 6 + 11 + c.too_deep-deep.result ≡ a.len + 17 + c.too_deep-deep.result = omega arith in
     adds-deep pre.0 (titled (a.added.now) a.line a.next) if1.false (a.len + 17 + c.too_deep-deep.result)
     (λ stack e. titled-deep pre.1 (a.len + 6) stack c.too_deep-deep.ensures (omega (arith, c.if-depth-ge31.false)) (omega arith)
@@ -37,11 +34,9 @@ returns-then-not-has_room c =
     let if3 = c.if-deep-added in
     let too_deep = c.too_deep-deep in
     let if2 = c.if-depth-ge31 in
-    let after-if1 = c in
-    let if1 = after-if1.if-depth-ge-MAX_OPEN in
-    let start = after-if1 in
-    let a = start.args in
-    let pre = start.requires in
+    let if1 = c.if-depth-ge-MAX_OPEN in
+    let a = c.args in
+    let pre = c.requires in
     let x = titled (a.added.now) a.line a.next in
     adds_full pre.0 x if1.false
     (λ stack e. titled-given pre.1 (a.len + 6) stack too_deep.ensures (omega (arith, if2.false)) (omega arith) if3.false)
@@ -50,18 +45,15 @@ returns-then-not-has_room c =
 
 pub returns : goal.returns
 returns c =
-    let after-put-title = c in
-    let put-title = after-put-title.put_title in
-    let if4 = after-put-title.if-not-has_room in
-    let has_room = after-put-title.has_room in
-    let after-if3 = after-put-title in
-    let if3 = after-if3.if-deep-added in
-    let too_deep = after-if3.too_deep-deep in
-    let if2 = after-if3.if-depth-ge31 in
-    let if1 = after-if3.if-depth-ge-MAX_OPEN in
-    let entry = after-if3 in
-    let a = entry.args in
-    let pre = entry.requires in
+    let put-title = c.put_title in
+    let if4 = c.if-not-has_room in
+    let has_room = c.has_room in
+    let if3 = c.if-deep-added in
+    let too_deep = c.too_deep-deep in
+    let if2 = c.if-depth-ge31 in
+    let if1 = c.if-depth-ge-MAX_OPEN in
+    let a = c.args in
+    let pre = c.requires in
     let s = a.added.now in
     let l = pre.1 in
     let x = titled s a.line a.next in

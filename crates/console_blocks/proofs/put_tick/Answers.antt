@@ -17,5 +17,5 @@ returns c =
       result_after = (λ fits kept.
           wrote a.room.now _ a.m.len.0 _ kept a.m.lay _ (0x60 ∷ []) _ (λ l. with_column (l.column.0 + 1) l) (rw (p.result_value fits) at e)
           c.put.ensures);
-      moved = (omega (arith, p.most), ap (λ (l : Lay). l.skip) e);
+      moved = record { column = omega (arith, p.most); skip = omega (arith, ap (λ (l : Lay). l.skip) e) };
     }

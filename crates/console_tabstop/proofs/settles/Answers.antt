@@ -1,4 +1,5 @@
-use mathlib.Core.Path.{sym, ap}
+use mathlib.Core.Path.{sym, ap, ◌∙◌}
+use borrow.Author.Tests.{ne_eqb}
 use mathlib.Core.Bool.{Bool, ◌&&◌}
 use lib.Dec.{eqb}
 use Rattle.records.specs.Records.{is_end}
@@ -11,7 +12,7 @@ returns-then-code-eq516 c =
     let a = c.args in
     ap (λ (b : Bool). b && eqb a.t.counted 24) (sym (ap (is_end 4) (end-by-code a.code block.ItemTerm c.if-code-eq516.true)))
 
-pub returns : goal.returns
-returns c =
+pub returns-else-code-eq516 : goal.returns-else-code-eq516
+returns-else-code-eq516 c =
     let a = c.args in
-    ap (λ (b : Bool). b && eqb a.t.counted 24) (sym (no-end-code a.code 4 c.if-code-eq516.false))
+    ne_eqb _ _ c.if-code-eq516.false ∙ ap (λ (b : Bool). b && eqb a.t.counted 24) (sym (no-end-code a.code 4 c.if-code-eq516.false))

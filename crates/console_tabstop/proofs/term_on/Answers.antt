@@ -10,6 +10,7 @@ use Rattle.splitter.proofs.Answers.{count_short}
 use Rattle.console_rules.specs.Console.{term}
 use Rattle.console_tabstop.specs.InnerCounted.{terms_of}
 use Rattle.console_tabstop.proofs.Scans.{text-counted, term-passed}
+use Rattle.console_tabstop.proofs.term_on.Goals.{else-t-eq1-via-then-t-eq1+else-is_text, else-t-eq1-via-else-t-eq1}
 use Rattle.console_tabstop.proofs.term_on.Goals as goal
 
 pub returns-then-code-eq260 : goal.returns-then-code-eq260
@@ -33,24 +34,15 @@ overflow_add-r c =
 
 pub returns-then-is_text : goal.returns-then-is_text
 returns-then-is_text c =
-    let after-is-text = c in
-    let text = sym after-is-text.is_text.ensures ∙ c.if-is_text.true in
-    let counting = eq-eqb _ _ after-is-text.if-t-eq1.true in
-    let a = after-is-text.args in
-    text-counted a.body.now (terms_of a.t) (kind_of a.code) _ text counting c.count.ensures
+    let a = c.args in
+    text-counted a.body.now (terms_of a.t) (kind_of a.code) _ (sym c.is_text.ensures ∙ c.if-is_text.true) (eq-eqb _ _ c.if-t-eq1.true) c.count.ensures
 
 -- a record that is no text, where a term is being counted, and any record where none is
-pub returns-else-is_text : goal.returns-else-is_text
-returns-else-is_text c =
-    let after-if2 = c in
-    let a = after-if2.args in
-    let no_text = sym c.is_text.ensures ∙ c.if-is_text.false in
-    term-passed a.body.now (terms_of a.t) (kind_of a.code) (no-start-code a.code 4 after-if2.if-code-eq260.false)
-    (no-end-code a.code 4 after-if2.if-code-eq516.false) (λ e. absurd (false≢true (sym no_text ∙ e)))
-
 pub returns-else-t-eq1 : goal.returns-else-t-eq1
 returns-else-t-eq1 c =
-    let after-if2 = c in
-    let a = after-if2.args in
-    term-passed a.body.now (terms_of a.t) (kind_of a.code) (no-start-code a.code 4 after-if2.if-code-eq260.false)
-    (no-end-code a.code 4 after-if2.if-code-eq516.false) (λ e. ne_eqb _ _ c.if-t-eq1.false)
+    let a = c.args in
+    term-passed a.body.now (terms_of a.t) (kind_of a.code) (no-start-code a.code 4 c.if-code-eq260.false) (no-end-code a.code 4 c.if-code-eq516.false)
+    (elim c.else-t-eq1.branch [
+      | else-t-eq1-via-then-t-eq1+else-is_text w ↦ (λ e. absurd (false≢true (sym (sym w.is_text.ensures ∙ w.if-is_text.false) ∙ e)))
+      | else-t-eq1-via-else-t-eq1 w ↦ (λ e. ne_eqb _ _ w.if-t-eq1.false)
+    ])

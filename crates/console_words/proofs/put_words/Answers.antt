@@ -9,6 +9,6 @@ returns c =
     let after-follows = after-fill-line in
     let follows = after-follows.follows in
     let a = after-follows.args in
-    moves_on a.set a.margin.0 a.body.now a.code a.room.now a.m a.from
-    (ready a.room.now a.m a.margin.0 a.code follows.result if1.false follows.ensures) f.new.room
+    moves_on a.set a.margin.0 a.body.now a.cursor.code a.room.now a.m a.cursor.at
+    (ready a.room.now a.m a.margin.0 a.cursor.code follows.result if1.false follows.ensures) f.new.room
     f.result.len.0 f.result.column.0 f.result.at f.ensures

@@ -1,20 +1,12 @@
-use Rattle.draft.proofs.Calls.{of_built}
-use Rattle.draft.proofs.Documents.{doc_refused, doc_given}
+use Rattle.draft.proofs.Calls.{calls-exit, built_refused}
+use Rattle.draft.proofs.Documents.{doc-said, doc_given}
 use Rattle.draft.proofs.add_doc.Goals as goal
 
-pub returns-in-Refused : goal.returns-in-Refused
-returns-in-Refused c =
-    let add = c.add-built in
-    let a = c.args in record {
-      numbers = of_built c.in-Refused.is add.ensures.numbers;
-      does = λ o. doc_refused o (a.added.now) a.em _ add.result add.ensures.does c.in-Refused.is;
-    }
+pub returns-in_err-length : goal.returns-in_err-length
+returns-in_err-length c =
+    let p = c.add.ensures in
+    calls-exit c.from_residual.result _ c.from_residual.ensures.1
+    (built_refused c.in_err-length.was p.numbers (doc-said (c.args.added.now) c.args.em p.does))
 
-pub returns-in-Length : goal.returns-in-Length
-returns-in-Length c =
-    let a = c.args in
-    let add = c.add-built in
-    let end-at = c.end_at in record {
-      numbers = tt;
-      does = λ o. doc_given o (a.added.now) a.em _ add.result add.ensures.does c.in-Length.is end-at.ensures;
-    }
+pub returns : goal.returns
+returns c = doc_given (c.args.added.now) c.args.em c.add.ensures.does c.in_ok-length.was c.saturating_sub.ensures

@@ -1,50 +1,27 @@
-use Rattle.draft.proofs.Names.{ℕ, ◌+◌, sym, ap, ◌∙◌, arith}
+use Rattle.draft.proofs.Names.{arith, sym, ◌∙◌}
 use Rattle.refusal.specs.declared.Refusal.TheVariants as refusal
 use Rattle.draft.proofs.Holding.{closes-none, closes-other}
-use Rattle.draft.proofs.Calls.{does_refused, of_built, end_refused, end-given}
+use Rattle.draft.proofs.Calls.{calls_refused, calls-exit, built_refused, end-said, end-given}
 use Rattle.draft.proofs.add_end.Goals as goal
 
-pub returns-then-depth-lt1 : goal.returns-then-depth-lt1
-returns-then-depth-lt1 c =
+pub returns-then-d-lt1 : goal.returns-then-d-lt1
+returns-then-d-lt1 c =
     let a = c.args in
-    let if1 = c.if-depth-lt1 in record {
-      numbers = omega arith;
-      does = λ o. does_refused (a.room.now) (refusal.WrongEnd a.d.length) (closes-none o a.b if1.true);
-    }
+    calls_refused (a.room.now) (refusal.WrongEnd a.d.length) (omega arith) (λ o. closes-none o a.b c.if-d-lt1.true)
 
-pub returns-then-inner-i : goal.returns-then-inner-i
-returns-then-inner-i c =
+pub returns-then-d-index : goal.returns-then-d-index
+returns-then-d-index c =
     let a = c.args in
-    let if1 = c.if-depth-lt1 in
-    let if2 = c.if-inner-i in
-    let index_of = c.index_of-i in record {
-      numbers = omega arith;
-      does = λ o. does_refused (a.room.now) (refusal.WrongEnd a.d.length)
-          (closes-other o a.b if1.false (λ e. if2.true (e ∙ sym index_of.ensures)));
-    }
+    calls_refused (a.room.now) (refusal.WrongEnd a.d.length) (omega arith)
+    (λ o. closes-other o a.b c.if-d-lt1.false (λ e. c.if-d-index.true (e ∙ sym c.index.ensures)))
 
-pub returns-in-Refused : goal.returns-in-Refused
-returns-in-Refused c =
-    let index_of = c.index_of-i in
-    let put-block = c.put_block-built in
-    let a = c.args in
-    let if1 = c.if-depth-lt1 in
-    let if2 = c.if-inner-i in
-    let k = ap (λ (i : ℕ). 0x0200 + i) index_of.ensures in record {
-      numbers = of_built c.in-Refused.is put-block.ensures.numbers;
-      does = λ o. end_refused o a.b _ _ put-block.result put-block.ensures.does if1.false (if2.false ∙ index_of.ensures) k c.in-Refused.is;
-    }
+pub returns-in_err-next : goal.returns-in_err-next
+returns-in_err-next c =
+    let p = c.put_block.ensures in
+    calls-exit c.from_residual.result _ c.from_residual.ensures.1 (built_refused c.in_err-next.was p.numbers
+    (end-said c.args.b p.does c.if-d-lt1.false (c.if-d-index.false ∙ c.index.ensures) c.end_kind.ensures))
 
-pub returns-in-Length : goal.returns-in-Length
-returns-in-Length c =
-    let index_of = c.index_of-i in
-    let a = c.args in
-    let put-block = c.put_block-built in
-    let if1 = c.if-depth-lt1 in
-    let if2 = c.if-inner-i in
-    let after-record = c.after_record in
-    let k = ap (λ (i : ℕ). 0x0200 + i) index_of.ensures in record {
-      numbers = tt;
-      does = λ o. end-given o a.b _ _ put-block.result put-block.ensures.does if1.false (if2.false ∙ index_of.ensures) k c.in-Length.is
-          after-record.ensures;
-    }
+pub returns : goal.returns
+returns c =
+    end-given c.args.b c.put_block.ensures.does c.if-d-lt1.false (c.if-d-index.false ∙ c.index.ensures) c.end_kind.ensures c.in_ok-next.was
+    c.after_record.ensures

@@ -1,40 +1,21 @@
-use Rattle.draft.proofs.Names.{sym, ◌∙◌, arith}
+use Rattle.draft.proofs.Names.{sym, arith}
 use Rattle.refusal.specs.declared.Refusal.TheVariants as refusal
-use Rattle.draft.proofs.Calls.{does_refused, of_built, text-not, text-refused, text-given}
+use Rattle.draft.proofs.Calls.{calls_refused, calls-exit, built_refused, text-not, text-said, text-given}
 use Rattle.draft.proofs.add_text.Goals as goal
 
 pub returns-then-not-valid : goal.returns-then-not-valid
 returns-then-not-valid c =
     let a = c.args in
-    let valid = c.valid in
-    let if1 = c.if-not-valid in record {
-      numbers = omega arith;
-      does = λ o. does_refused (a.room.now) (refusal.NotUtf8 0)
-          (text-not o a.style (a.text.now) (sym valid.ensures ∙ if1.true));
-    }
+    calls_refused (a.room.now) (refusal.NotUtf8 0) (omega arith) (text-not a.style (a.text.now) (sym c.if-not-valid.ensures))
 
-pub returns-in-Refused : goal.returns-in-Refused
-returns-in-Refused c =
-    let put-text = c.put_text-built in
+pub returns-in_err-length : goal.returns-in_err-length
+returns-in_err-length c =
     let a = c.args in
-    let valid = c.valid in
-    let if1 = c.if-not-valid in
-    let text_at = c.text_at-last in
-    let number_of_lem = c.number_of-kind in record {
-      numbers = of_built c.in-Refused.is put-text.ensures.numbers;
-      does = λ o. text-refused o a.style (a.text.now) _ put-text.result (sym valid.ensures ∙ if1.false) text_at.ensures
-          number_of_lem.ensures put-text.ensures.does c.in-Refused.is;
-    }
+    let p = c.put_text.ensures in
+    calls-exit c.from_residual.result _ c.from_residual.ensures.1 (built_refused c.in_err-length.was p.numbers
+    (text-said a.style (a.text.now) (sym c.if-not-valid.ensures) c.text_at-last.ensures c.number-kind.ensures p.does))
 
-pub returns-in-Length : goal.returns-in-Length
-returns-in-Length c =
+pub returns : goal.returns
+returns c =
     let a = c.args in
-    let put-text = c.put_text-built in
-    let valid = c.valid in
-    let if1 = c.if-not-valid in
-    let text_at = c.text_at-last in
-    let number_of_lem = c.number_of-kind in record {
-      numbers = tt;
-      does = λ o. text-given o a.style (a.text.now) _ put-text.result (sym valid.ensures ∙ if1.false) text_at.ensures
-          number_of_lem.ensures put-text.ensures.does c.in-Length.is;
-    }
+    text-given a.style (a.text.now) (sym c.if-not-valid.ensures) c.text_at-last.ensures c.number-kind.ensures c.put_text.ensures.does c.in_ok-length.was

@@ -3,7 +3,4 @@ use Rattle.draft.proofs.doc.Goals as goal
 
 pub returns : goal.returns
 unfolding adds_doc
-returns c = record {
-  numbers = c.joined.ensures.numbers;
-  does = c.joined.ensures.does;
-}
+returns c = c.joined.ensures

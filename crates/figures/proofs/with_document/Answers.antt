@@ -3,13 +3,13 @@ use Rattle.figures.proofs.Texts.{some-counted, none-counted, few_at_most, part-l
 use Rattle.figures.proofs.Laws.{plus-text, plus-refused}
 use Rattle.figures.proofs.with_document.Goals as goal
 
-pub returns-in-Characters : goal.returns-in-Characters
-returns-in-Characters c =
+pub returns-in-Ok : goal.returns-in-Ok
+returns-in-Ok c =
     let a = c.args in
     let p = c.requires in
-    let t = c.count_text-printed in
+    let t = c.count_text in
     let n = c.min-most in
-    let x = c.in-Characters.is in
+    let x = c.in-Ok.is in
     let r = part (a.room.now) 0 n.result in
     let l = part-lent (a.room.now) n.result (length (a.document.now)) p.1 n.ensures in
     let few = few_at_most (length r) t.result _ x t.ensures.few in
@@ -18,15 +18,15 @@ returns-in-Characters c =
       bounded = (refl, record { accepted = omega (arith, p.3); refused = omega (arith, p.3); characters = omega (arith, p.3, few, l) });
     }
 
-pub returns-in-Refused : goal.returns-in-Refused
-returns-in-Refused c =
+pub returns-in-Err : goal.returns-in-Err
+returns-in-Err c =
     let a = c.args in
     let p = c.requires in
-    let t = c.count_text-printed in
+    let t = c.count_text in
     let n = c.min-most in
     let r = part (a.room.now) 0 n.result in
     let l = part-lent (a.room.now) n.result (length (a.document.now)) p.1 n.ensures in
-    let counted = none-counted r (a.document.now) t.result l t.ensures.result_value _ c.in-Refused.is in record {
+    let counted = none-counted r (a.document.now) t.result l t.ensures.result_value _ c.in-Err.is in record {
       value = plus-refused a.f (a.document.now) _ _ counted;
       bounded = (refl, record { accepted = omega (arith, p.3); refused = omega (arith, p.3); characters = omega (arith, p.3) });
     }

@@ -1,42 +1,17 @@
-use Rattle.html.proofs.Names.{refl, sym, [], when◌then◌else◌, if_true, if_false, css, tags}
-use Rattle.utf8.specs.Utf8.{bytes, encode}
+use Rattle.std.proofs.lemmas.Result.{err_from_is_err_and}
+use Rattle.html.proofs.Names.{[]}
 use Rattle.document.proofs.Walks.{verdict_gives, verdict_refused}
 use Rattle.html.proofs.Whole.{html-refused, html_accepted}
 use Rattle.html.proofs.rendered.Goals as goal
 
 pub walk-requires : goal.walk-requires
-unfolding tags bytes encode when◌then◌else◌
-walk-requires c = record {
-  tags_value = refl;
-  document_value = verdict_gives [] c.check-verdict.ensures c.in-Accepted.is;
-}
+walk-requires c = verdict_gives [] c.check.ensures c.in_ok-check.was
 
-pub returns-then-css : goal.returns-then-css
-unfolding css bytes encode when◌then◌else◌
-returns-then-css c = record {
-  text = html_accepted _ _ _ _ _ _ _ (verdict_gives [] c.check-verdict.ensures
-      c.in-Accepted.is)
-      (sym (if_true css [] c.if-css.true)) c.walk.ensures.text;
-  inside = c.walk.ensures.inside;
-}
+pub returns-in_err-check-clause-text : goal.returns-in_err-check-clause-text
+returns-in_err-check-clause-text c =
+    let p = err_from_is_err_and c.from_residual.result c.from_residual.ensures.1 in
+    rw (p.1, p.2) (html-refused _ _ _ _ _ _ _ (verdict_refused [] c.check.ensures c.in_err-check.was))
 
-pub walk-requires-in-Accepted : goal.walk-requires-in-Accepted
-unfolding tags bytes encode when◌then◌else◌
-walk-requires-in-Accepted c = record {
-  tags_value = refl;
-  document_value = verdict_gives [] c.check-verdict.ensures c.in-Accepted.is;
-}
-
-pub returns-in-Refused : goal.returns-in-Refused
-returns-in-Refused c = record {
-  text = html-refused _ _ _ _ _ _ _ (verdict_refused [] c.check-verdict.ensures c.in-Refused.is);
-  inside = tt;
-}
-
-pub returns-else-css : goal.returns-else-css
-returns-else-css c = record {
-  text = html_accepted _ _ _ _ _ _ _ (verdict_gives [] c.check-verdict.ensures
-      c.in-Accepted.is)
-      (sym (if_false css [] c.if-css.false)) c.walk-in-Accepted.ensures.text;
-  inside = c.walk-in-Accepted.ensures.inside;
-}
+pub returns-clause-text : goal.returns-clause-text
+returns-clause-text c =
+    html_accepted _ _ _ _ _ _ _ (verdict_gives [] c.check.ensures c.in_ok-check.was) c.style_sheet.ensures c.walk.ensures.text

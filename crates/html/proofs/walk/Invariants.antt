@@ -1,4 +1,4 @@
-use Rattle.html.proofs.Names.{◌≡◌, ◌+◌, ◌-◌, length, take}
+use Rattle.html.proofs.Names.{◌≡◌, ◌+◌, ◌-◌, length}
 use Rattle.html.proofs.Walked.{On, InBody}
 use Rattle.html.proofs.walk.Given as goal
 
@@ -7,7 +7,7 @@ use Rattle.html.proofs.walk.Given as goal
 abbrev pub invariant-chunks : goal.invariant-chunks
 invariant-chunks l =
     (length l.room ≡ length l.initial.room) × (l.lay ≡ l.initial.lay)
-    × InBody (length l.initial.room) l.strict l.full l.sheet l.tags l.document l.room l.at l.len l.initial.lay (take l.depth l.stack) l.body l.cursor
+    × InBody (length l.initial.room) l.strict l.full l.sheet l.document l.room l.at l.len l.initial.lay l.initial.blocks l.body l.cursor
 
 abbrev pub decreases-chunks : goal.decreases-chunks
 decreases-chunks l = length l.body + 1 - l.cursor.at
@@ -15,7 +15,7 @@ decreases-chunks l = length l.body + 1 - l.cursor.at
 -- The records: what is shown and the records from `at` on give the whole, and the open blocks are those of the accepted document. What is
 -- left of the document falls.
 abbrev pub invariant-records : goal.invariant-records
-invariant-records l = On (length l.initial.room) l.strict l.full l.sheet l.tags l.document l.room l.at l.len l.lay l.stack l.depth
+invariant-records l = On (length l.initial.room) l.strict l.full l.sheet l.document l.room l.at l.len l.lay l.blocks
 
 abbrev pub decreases-records : goal.decreases-records
 decreases-records l = length l.document - l.at

@@ -1,5 +1,5 @@
 use Rattle.html_tags.proofs.Names.{wrote_same}
-use Rattle.html_tags.proofs.Blocks.{chunk_space, chunk-paragraph, chunk_break}
+use Rattle.html_tags.proofs.Blocks.{chunk_space, chunk-break}
 use Rattle.html_tags.proofs.put_chunk.Goals as goal
 
 pub returns-in-Space : goal.returns-in-Space
@@ -11,14 +11,7 @@ returns-in-Space c =
 
 pub returns-in-Paragraph : goal.returns-in-Paragraph
 returns-in-Paragraph c =
-    wrote_same _ _ _ _ _ _ _ (chunk-paragraph c.args.strict
+    wrote_same _ _ _ _ _ _ _ (chunk-break c.args.strict
     (c.args.body.now)
     c.args.piece
     c.in-Paragraph.is) c.put_all.ensures
-
-pub returns-in-LineBreak : goal.returns-in-LineBreak
-returns-in-LineBreak c =
-    wrote_same _ _ _ _ _ _ _ (chunk_break c.args.strict
-    (c.args.body.now)
-    c.args.piece
-    c.in-LineBreak.is) c.put_all-in-LineBreak.ensures

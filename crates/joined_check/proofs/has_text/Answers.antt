@@ -1,8 +1,8 @@
 use Rattle.joined_check.proofs.Checking.{has_short, has-by}
 use Rattle.joined_check.proofs.has_text.Goals as goal
 
-pub returns-then-joined-lt4 : goal.returns-then-joined-lt4
-returns-then-joined-lt4 c = has_short (c.args.joined.now) c.if-joined-lt4.true
+pub returns-else-joined-ge4 : goal.returns-else-joined-ge4
+returns-else-joined-ge4 c = has_short (c.args.joined.now) c.if-joined-ge4.false
 
-pub returns : goal.returns
-returns c = has-by (c.args.joined.now) c.four.result c.if-joined-lt4.false c.four.ensures.0
+pub returns-then-joined-ge4 : goal.returns-then-joined-ge4
+returns-then-joined-ge4 c = has-by (c.args.joined.now) c.four.result c.if-joined-ge4.true c.four.ensures.0

@@ -33,15 +33,15 @@ put_mapped-line-requires c =
     (u.escape_upper-a.ensures.valid, r.requires.0, valid_next (again (goal.at.put_mapped-line-requires c).After-record_at-h))
 
 -- all of it was ASCII
-pub loop-at-preserved-else-a-stop : goal.loop-at-preserved-else-a-stop
-loop-at-preserved-else-a-stop c =
+pub loop-at-preserved-else-a-body : goal.loop-at-preserved-else-a-body
+loop-at-preserved-else-a-body c =
     let t = c in
     let l = t.loop-at in
-    let g = again (goal.at.loop-at-preserved-else-a-stop c).After-record_at-h in
+    let g = again (goal.at.loop-at-preserved-else-a-body c).After-record_at-h in
     let u = c.escape_upper-a in
-    let h = holds (goal.at.loop-at-preserved-else-a-stop c).Then-holds_text in
+    let h = holds (goal.at.loop-at-preserved-else-a-body c).Then-holds_text in
     let p = escaped_cased _ _ (further-out (captured_part g h) l.invariant.0) u.auto.room u.ensures in
-    (escaped_all _ _ _ _ c.if-a-stop.false p, sym (captured_some g h l.some) ∙ l.invariant.1, valid_next g)
+    (escaped_all _ _ _ c.if-a-body.false p, sym (captured_some g h l.some) ∙ l.invariant.1, valid_next g)
 
 pub loop-at-preserved : goal.loop-at-preserved
 loop-at-preserved c =
@@ -51,18 +51,18 @@ loop-at-preserved c =
     (rw (← e) i.0, rw (← e) i.1, valid_next g)
 
 -- from the first byte beyond ASCII on, all goes out by the table
-pub returns-then-a-stop : goal.returns-then-a-stop
-returns-then-a-stop c =
+pub returns-then-a-body : goal.returns-then-a-body
+returns-then-a-body c =
     let t = c in
     let l = t.loop-at in
-    let g = again (goal.at.returns-then-a-stop c).After-record_at-h in
+    let g = again (goal.at.returns-then-a-body c).After-record_at-h in
     let u = c.escape_upper-a in
     let w = c.put_mapped-line in
-    let p = escaped_cased _ _ (further-out (captured_part g (holds (goal.at.returns-then-a-stop c).Then-holds_text)) l.invariant.0) u.auto.room u.ensures in
+    let p = escaped_cased _ _ (further-out (captured_part g (holds (goal.at.returns-then-a-body c).Then-holds_text)) l.invariant.0) u.auto.room u.ensures in
     let e = escaped-rest w.new.room w.result.len p w.auto.room w.ensures.text w.ensures.line in record {
       text = e.0;
       line = e.1;
-      some = ap not (sym (captured_some g (holds (goal.at.returns-then-a-stop c).Then-holds_text) l.some) ∙ l.invariant.1);
+      some = ap not (sym (captured_some g (holds (goal.at.returns-then-a-body c).Then-holds_text) l.some) ∙ l.invariant.1);
     }
 
 pub returns : goal.returns

@@ -1,23 +1,15 @@
-use Rattle.markdown.proofs.Names.{refl, [], when◌then◌else◌, bytes, encode, verdict_gives, verdict_refused, tags}
+use Rattle.std.proofs.lemmas.Result.{err_from_is_err_and}
+use Rattle.markdown.proofs.Names.{[], verdict_gives, verdict_refused}
 use Rattle.markdown.proofs.Whole.{markdown-refused, markdown_accepted}
 use Rattle.markdown.proofs.rendered.Goals as goal
 
 pub walk-requires : goal.walk-requires
-unfolding tags bytes encode when◌then◌else◌
-walk-requires c = record {
-  tags_value = refl;
-  document_value = verdict_gives [] c.check-verdict.ensures c.in-Accepted.is;
-}
+walk-requires c = verdict_gives [] c.check.ensures c.in_ok-check.was
 
-pub returns-in-Refused : goal.returns-in-Refused
-returns-in-Refused c = record {
-  text = markdown-refused _ _ _ _ _ (verdict_refused [] c.check-verdict.ensures c.in-Refused.is);
-  inside = tt;
-}
+pub returns-in_err-check-clause-text : goal.returns-in_err-check-clause-text
+returns-in_err-check-clause-text c =
+    let p = err_from_is_err_and c.from_residual.result c.from_residual.ensures.1 in
+    rw (p.1, p.2) (markdown-refused _ _ _ _ _ (verdict_refused [] c.check.ensures c.in_err-check.was))
 
-pub returns-in-Accepted : goal.returns-in-Accepted
-returns-in-Accepted c = record {
-  text = markdown_accepted _ _ _ _ (verdict_gives [] c.check-verdict.ensures
-      c.in-Accepted.is) c.walk.ensures.text;
-  inside = c.walk.ensures.inside;
-}
+pub returns-clause-text : goal.returns-clause-text
+returns-clause-text c = markdown_accepted _ _ _ _ (verdict_gives [] c.check.ensures c.in_ok-check.was) c.walk.ensures.text

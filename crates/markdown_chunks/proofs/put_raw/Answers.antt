@@ -1,33 +1,27 @@
-use Rattle.html_rules.specs.Markdown.{code_begins, code_stops}
+use native.Mathlib.Omega.{arith}
 use Rattle.html_rules.proofs.Writes.{wrote_same}
-use Rattle.markdown_marks.proofs.Texts.{span_is}
 use Rattle.markdown_chunks.proofs.Texts.{raw-ticked, raw-code, raw_word}
 use Rattle.markdown_chunks.proofs.put_raw.Goals as goal
 
-pub returns-then-width-eq-TICKED_CODE : goal.returns-then-width-eq-TICKED_CODE
-returns-then-width-eq-TICKED_CODE c =
+pub returns-in-1000001 : goal.returns-in-1000001
+returns-in-1000001 c =
     let a = c.args in
     let d = c.separate-n in
-    λ e. raw-ticked _ _ _ _ _ _ _ _ d.auto.room a.l a.text.now a.width
-    c.if-width-eq-TICKED_CODE.true d.ensures c.put_line.ensures
+    raw-ticked _ _ _ _ _ _ _ _ d.auto.room a.l.now a.text.now a.width
+    c.in-1000001.is d.ensures c.put_line.ensures
 
-pub returns-then-width-eq-CODE : goal.returns-then-width-eq-CODE
-returns-then-width-eq-CODE c =
+pub returns-in-1000000 : goal.returns-in-1000000
+returns-in-1000000 c =
     let a = c.args in
-    let p = c.put_span-n in
-    let t = c.begins_span in
-    λ e.
-    raw-code _ _ _ _ _ _ _ _ p.auto.room a.l a.text.now a.width
-    c.if-width-eq-CODE.true
-    (wrote_same _ _ _ _ _ _ _ (span_is _ (code_begins a.l) t.result e t.ensures) p.ensures) c.put_line-then-width-eq-CODE.ensures
+    let p = c.put_all-n in
+    raw-code _ _ _ _ _ _ _ _ p.auto.room a.l.now a.text.now a.width
+    c.in-1000000.is
+    (wrote_same _ _ _ _ _ _ _ c.begins.ensures p.ensures) c.put_line-in-1000000.ensures
 
-pub returns : goal.returns
-returns c =
+pub returns-in_default : goal.returns-in_default
+returns-in_default c =
     let a = c.args in
-    let p = c.put_span-n-2 in
-    let t = c.stops_span in
-    λ e.
-    raw_word _ _ _ _ _ _ _ _ p.auto.room a.l a.text.now a.width
-    c.if-width-eq-TICKED_CODE.false
-    c.if-width-eq-CODE.false
-    (wrote_same _ _ _ _ _ _ _ (span_is _ (code_stops a.l) t.result e t.ensures) p.ensures) c.put_word.ensures
+    let p = c.put_all-n-in_default in
+    raw_word _ _ _ _ _ _ _ _ p.auto.room a.l.now a.text.now a.width
+    (omega arith) (omega arith)
+    (wrote_same _ _ _ _ _ _ _ c.stops.ensures p.ensures) c.put_word.ensures

@@ -5,7 +5,6 @@ use Rattle.markdown_marks.proofs.meet_meta.Goals as goal
 pub returns : goal.returns
 returns c =
     let s = c.change_to_markdown_style-n in record {
-      text = λ e. wrote_then _ _ _ _ _ (λ _. refused 11 c.args.at) _ (s.ensures e)
-          c.no_form.ensures.text;
+      text = wrote_then _ _ _ _ _ (λ _. refused 11 c.args.at) _ s.ensures c.no_form.ensures.text;
       inside = subst (λ (n : ℕ). Inside n c.no_form.result) s.auto.room c.no_form.ensures.inside;
     }

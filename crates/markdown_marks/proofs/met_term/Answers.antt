@@ -1,16 +1,8 @@
-use Rattle.markdown_marks.proofs.Names.{arith}
-use Rattle.markdown_marks.proofs.Flags.{no_item, item}
+use Rattle.markdown_marks.proofs.Flags.{item, no_item}
 use Rattle.markdown_marks.proofs.met_term.Goals as goal
 
-pub returns-then-i-lt3 : goal.returns-then-i-lt3
-returns-then-i-lt3 c = no_item c.args.b _ c.args.l _ c.index_of-i.ensures (omega arith) (omega arith)
+pub returns-in-Section4 : goal.returns-in-Section4
+returns-in-Section4 c = item c.args.b _ c.args.l.now c.in-Section4.is _ c.term_ends-l.ensures
 
-pub returns-then-i-gt4 : goal.returns-then-i-gt4
-returns-then-i-gt4 c =
-    no_item c.args.b _ c.args.l _ c.index_of-i.ensures (omega arith)
-    (omega arith)
-
-pub returns : goal.returns
-returns c =
-    item c.args.b _ c.args.l _
-    c.index_of-i.ensures c.if-i-lt3.false c.if-i-gt4.false _ c.term_ends.ensures
+pub returns-in_default : goal.returns-in_default
+returns-in_default c = no_item c.args.b _ c.args.l.now c.in_default.not-Section4 c.in_default.not-ItemTerm

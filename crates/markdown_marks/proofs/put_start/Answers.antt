@@ -1,11 +1,11 @@
+use Rattle.markdown_marks.proofs.Names.{◌∙◌}
 use Rattle.markdown_marks.proofs.Texts.{started_wrote}
 use Rattle.markdown_marks.proofs.put_start.Goals as goal
 
 pub returns : goal.returns
 returns c =
-    let after-styled = c in
-    let styled = after-styled.styled in
-    let after-change-to-markdown-style = after-styled in
-    let s = after-change-to-markdown-style.change_to_markdown_style-n in
-    let a = after-change-to-markdown-style.args in
-    λ e. started_wrote _ _ _ _ _ _ _ a.b a.l _ s.auto.room styled.ensures (s.ensures e) (c.put_texts.ensures e)
+    let s = c.change_to_markdown_style-n in
+    let i = c.put_all-i in
+    let j = c.separate-j in
+    started_wrote _ _ _ _ c.args.b c.args.l.now s.auto.room s.ensures _ _ _ _ _ _ _ _ _ (i.auto.room ∙ s.auto.room)
+    (j.auto.room ∙ i.auto.room ∙ s.auto.room) (c.lead.ensures _) (c.line.ensures _) (c.text.ensures _) i.ensures j.ensures c.put_all.ensures

@@ -6,6 +6,5 @@ returns-then-document-at c = no-term c.args.document.now c.args.at c.if-document
 
 pub returns : goal.returns
 returns c =
-    let r = c.record_at-h in
-    next-term c.args.document.now c.args.at r.result _ r.ensures
-    c.if-document-at.false c.is_end.ensures
+    let r = c.record_at in
+    next-term c.args.document.now c.args.at r.result _ r.ensures c.if-document-at.false c.is_term_end.ensures

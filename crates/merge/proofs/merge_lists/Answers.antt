@@ -88,63 +88,63 @@ loop-i-preserved-in-Less c =
     (holding after-if1.requires.0.short (c.read_item-e-in-Less.auto.key
     ∙ after-if1.loop-i.invariant.key-size) c.read_item-e-in-Less.ensures)
 
-pub slice_bounds-put_all-count-in-Same : goal.slice_bounds-put_all-count-in-Same
-slice_bounds-put_all-count-in-Same c =
+pub slice_bounds-put_all-count-in-Equal : goal.slice_bounds-put_all-count-in-Equal
+slice_bounds-put_all-count-in-Equal c =
     let after-if1 = c in
     let t = take-first after-if1.loop-i.invariant after-if1.loop-i-test.true in
     let u = take_second after-if1.loop-i.invariant (omega (arith, after-if1.if-close-j.false)) in
     omega (arith, t.on, u.on)
 
-pub slice_bounds-put_all-start-in-Same : goal.slice_bounds-put_all-start-in-Same
-slice_bounds-put_all-start-in-Same c =
+pub slice_bounds-put_all-start-in-Equal : goal.slice_bounds-put_all-start-in-Equal
+slice_bounds-put_all-start-in-Equal c =
     let after-if1 = c in
     let t = take-first after-if1.loop-i.invariant after-if1.loop-i-test.true in
     let u = take_second after-if1.loop-i.invariant (omega (arith, after-if1.if-close-j.false)) in
     omega (arith, t.inside, t.on, u.inside, u.on)
 
-pub slice_bounds-put_all-end-in-Same : goal.slice_bounds-put_all-end-in-Same
-slice_bounds-put_all-end-in-Same c =
+pub slice_bounds-put_all-end-in-Equal : goal.slice_bounds-put_all-end-in-Equal
+slice_bounds-put_all-end-in-Equal c =
     let after-if1 = c in
     let t = take-first after-if1.loop-i.invariant after-if1.loop-i-test.true in
     let u = take_second after-if1.loop-i.invariant (omega (arith, after-if1.if-close-j.false)) in
     omega (arith, t.inside, t.on, u.inside, u.on)
 
-pub loop-i-smaller-in-Same : goal.loop-i-smaller-in-Same
-loop-i-smaller-in-Same c =
+pub loop-i-smaller-in-Equal : goal.loop-i-smaller-in-Equal
+loop-i-smaller-in-Equal c =
     let after-put-all4 = c in
     let after-if1 = after-put-all4 in
     let t = take-first after-if1.loop-i.invariant after-if1.loop-i-test.true in
     let u = take_second after-if1.loop-i.invariant (omega (arith, after-if1.if-close-j.false)) in
     omega (arith, t.inside, t.on, u.inside, u.on)
 
-pub loop-i-preserved-in-Same : goal.loop-i-preserved-in-Same
-loop-i-preserved-in-Same c =
+pub loop-i-preserved-in-Equal : goal.loop-i-preserved-in-Equal
+loop-i-preserved-in-Equal c =
     let after-read-item4 = c in
     let after-put-all4 = after-read-item4 in
     let after-enum-told2 = after-put-all4 in
     let after-if1 = after-enum-told2 in
     let start = after-if1 in
-    going_same after-if1.loop-i.invariant _ _ after-put-all4.put_all-len-in-Same.auto.room after-if1.loop-i-test.true
-    (omega (arith, after-if1.if-close-j.false)) _ after-enum-told2.compare-order.ensures after-enum-told2.in-Same.is
-    after-put-all4.put_all-len-in-Same.ensures _ _ _ _ after-read-item4.read_item-e-in-Same.auto.key c.read_item-f-in-Same.auto.key
-    (holding start.requires.0.short (after-read-item4.read_item-e-in-Same.auto.key ∙ after-if1.loop-i.invariant.key-size)
-    after-read-item4.read_item-e-in-Same.ensures) (holding start.requires.0.also-short
-    (c.read_item-f-in-Same.auto.key ∙ after-if1.loop-i.invariant.other-size) c.read_item-f-in-Same.ensures)
+    going_same after-if1.loop-i.invariant _ _ after-put-all4.put_all-len-in-Equal.auto.room after-if1.loop-i-test.true
+    (omega (arith, after-if1.if-close-j.false)) _ after-enum-told2.compare-order.ensures after-enum-told2.in-Equal.is
+    after-put-all4.put_all-len-in-Equal.ensures _ _ _ _ after-read-item4.read_item-e-in-Equal.auto.key c.read_item-f-in-Equal.auto.key
+    (holding start.requires.0.short (after-read-item4.read_item-e-in-Equal.auto.key ∙ after-if1.loop-i.invariant.key-size)
+    after-read-item4.read_item-e-in-Equal.ensures) (holding start.requires.0.also-short
+    (c.read_item-f-in-Equal.auto.key ∙ after-if1.loop-i.invariant.other-size) c.read_item-f-in-Equal.ensures)
 
-pub slice_bounds-put_all-count-in-More : goal.slice_bounds-put_all-count-in-More
-slice_bounds-put_all-count-in-More c =
+pub slice_bounds-put_all-count-in-Greater : goal.slice_bounds-put_all-count-in-Greater
+slice_bounds-put_all-count-in-Greater c =
     let after-if1 = c in
     let u = take_second after-if1.loop-i.invariant (omega (arith, after-if1.if-close-j.false)) in
     omega (arith, u.on)
 
-pub slice_bounds-put_all-start-in-More : goal.slice_bounds-put_all-start-in-More
-slice_bounds-put_all-start-in-More c =
+pub slice_bounds-put_all-start-in-Greater : goal.slice_bounds-put_all-start-in-Greater
+slice_bounds-put_all-start-in-Greater c =
     let after-if1 = c in
     let u = take_second after-if1.loop-i.invariant (omega (arith, after-if1.if-close-j.false)) in
     omega (arith, u.inside, u.on)
 
-pub slice_bounds-put_all-end-in-More : goal.slice_bounds-put_all-end-in-More
-slice_bounds-put_all-end-in-More c =
+pub slice_bounds-put_all-end-in-Greater : goal.slice_bounds-put_all-end-in-Greater
+slice_bounds-put_all-end-in-Greater c =
     let after-if1 = c in
     let u = take_second after-if1.loop-i.invariant (omega (arith, after-if1.if-close-j.false)) in
     omega (arith, u.inside, u.on)
@@ -161,11 +161,11 @@ loop-i-preserved c =
     let after-put-all5 = c in
     let after-enum-told3 = after-put-all5 in
     let after-if1 = after-enum-told3 in
-    going_more after-if1.loop-i.invariant _ _ after-put-all5.put_all-len-in-More.auto.room after-if1.loop-i-test.true
-    (omega (arith, after-if1.if-close-j.false)) _ after-enum-told3.compare-order.ensures after-enum-told3.in-More.is
-    after-put-all5.put_all-len-in-More.ensures _ _ c.read_item-f-in-More.auto.key
+    going_more after-if1.loop-i.invariant _ _ after-put-all5.put_all-len-in-Greater.auto.room after-if1.loop-i-test.true
+    (omega (arith, after-if1.if-close-j.false)) _ after-enum-told3.compare-order.ensures after-enum-told3.in-Greater.is
+    after-put-all5.put_all-len-in-Greater.ensures _ _ c.read_item-f-in-Greater.auto.key
     (holding after-if1.requires.0.also-short
-    (c.read_item-f-in-More.auto.key ∙ after-if1.loop-i.invariant.other-size) c.read_item-f-in-More.ensures)
+    (c.read_item-f-in-Greater.auto.key ∙ after-if1.loop-i.invariant.other-size) c.read_item-f-in-Greater.ensures)
 
 pub returns : goal.returns
 returns c =

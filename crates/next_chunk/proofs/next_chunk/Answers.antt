@@ -1,17 +1,17 @@
 use Rattle.next_chunk.proofs.Numbers.{next_taken, next-done}
 use Rattle.next_chunk.proofs.next_chunk.Goals as goal
 
-pub returns-in-Take : goal.returns-in-Take
-returns-in-Take c =
+pub returns-in-Some : goal.returns-in-Some
+returns-in-Some c =
     let s = c.step_at-step in
     let after-code-of = c in
     let code_of_lem = after-code-of.code_of-code in
     let a = after-code-of.args in
-    next_taken a.body.now a.at a.ticks _ code_of_lem.ensures s.result s.ensures.chunk c.in-Take.is _
+    next_taken a.body.now a.at a.ticks _ code_of_lem.ensures s.result s.ensures.chunk c.in-Some.is _
     c.hand.ensures
 
-pub returns-in-Done : goal.returns-in-Done
-returns-in-Done c =
+pub returns-in-None : goal.returns-in-None
+returns-in-None c =
     let a = c.args in
     let s = c.step_at-step in
-    next-done a.body.now a.at a.ticks _ c.code_of-code.ensures s.result s.ensures.chunk c.in-Done.is
+    next-done a.body.now a.at a.ticks _ c.code_of-code.ensures s.result s.ensures.chunk c.in-None.is

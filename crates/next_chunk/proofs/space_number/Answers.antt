@@ -7,7 +7,7 @@ returns-then-starts_with c =
     let args = c.args in
     space_part args.body.now args.at (sym c.starts_with.ensures ∙ c.if-starts_with.true)
 
-pub returns : goal.returns
-returns c =
+pub returns-else-starts_with : goal.returns-else-starts_with
+returns-else-starts_with c =
     let args = c.args in
     space_of_line-end args.body.now args.at (sym c.starts_with.ensures ∙ c.if-starts_with.false)

@@ -1,12 +1,7 @@
-use Rattle.notes.proofs.Names.{◌-◌, length}
 use Rattle.notes.proofs.Scans.{Going}
 use Rattle.notes.proofs.text_end.Given as goal
 
 -- What stands from `at` up to i, and what is left there of the text, is the text.
--- The bytes left fall.
 
 abbrev pub invariant-loop-i : goal.invariant-loop-i
 invariant-loop-i l = Going l.s l.one l.at l.i
-
-abbrev pub decreases-loop-i : goal.decreases-loop-i
-decreases-loop-i l = length l.s - l.i

@@ -1,6 +1,6 @@
 use Rattle.pages.proofs.Names.{◌-◌, ◌*◌, arith}
 use Rattle.pages.proofs.Rows.{bytes-within}
-use Rattle.pages.proofs.Paging.{allowed-below, allowed_over, before-refused, before-none, before-beyond, page-refused, far, found_none}
+use Rattle.pages.proofs.Paging.{not-allowed, before-refused, before-none, before-beyond, page-refused, far, found_none}
 use Rattle.pages.proofs.Paging.{page_found}
 use Rattle.pages.proofs.find_page.Goals as goal
 
@@ -12,15 +12,8 @@ skip_rows-stop-requires c =
 pub returns-then-height-lt1 : goal.returns-then-height-lt1
 returns-then-height-lt1 c =
     let a = c.args in
-    let told = page-refused a.height a.page (a.text.now) (before-refused a.height a.page (a.text.now) (allowed-below a.height (omega arith))) in record {
-      start = told.0;
-      size = told.1;
-    }
-
-pub returns-then-height-gt200 : goal.returns-then-height-gt200
-returns-then-height-gt200 c =
-    let a = c.args in
-    let told = page-refused a.height a.page (a.text.now) (before-refused a.height a.page (a.text.now) (allowed_over a.height (omega arith))) in record {
+    let s = a.text.now in
+    let told = page-refused a.height a.page s (before-refused a.height a.page s (not-allowed a.height c.then-height-lt1.either)) in record {
       start = told.0;
       size = told.1;
     }

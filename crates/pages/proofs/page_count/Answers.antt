@@ -1,12 +1,9 @@
 use Rattle.pages.proofs.Names.{arith}
-use Rattle.pages.proofs.Paging.{allowed-below, allowed_over, count_refused, count_zero, count_more}
+use Rattle.pages.proofs.Paging.{not-allowed, count_refused, count_zero, count_more}
 use Rattle.pages.proofs.page_count.Goals as goal
 
 pub returns-then-height-lt1 : goal.returns-then-height-lt1
-returns-then-height-lt1 c = let a = c.args in count_refused a.height (a.text.now) (allowed-below a.height (omega arith))
-
-pub returns-then-height-gt200 : goal.returns-then-height-gt200
-returns-then-height-gt200 c = let a = c.args in count_refused a.height (a.text.now) (allowed_over a.height (omega arith))
+returns-then-height-lt1 c = let a = c.args in count_refused a.height (a.text.now) (not-allowed a.height c.then-height-lt1.either)
 
 pub returns-then-n-eq0 : goal.returns-then-n-eq0
 returns-then-n-eq0 c =

@@ -2,10 +2,10 @@ use Rattle.printing.proofs.Names.{◌∙◌, arith}
 use Rattle.white.proofs.Counting.{counted_none, counted_all}
 use Rattle.printing.proofs.count.Goals as goal
 
-pub returns-then-run-eq0 : goal.returns-then-run-eq0
-returns-then-run-eq0 c =
+pub returns-in_default : goal.returns-in_default
+returns-in_default c =
     let l = c.loop-i in
-    counted_none (c.args.s.now) (l.invariant.text ∙ c.some-run.ensures.none c.if-run-eq0.true)
+    counted_none (c.args.s.now) (l.invariant.text ∙ c.in_default.ensures)
 
 pub returns : goal.returns
 returns c =

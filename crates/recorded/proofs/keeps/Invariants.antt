@@ -1,12 +1,5 @@
-use Rattle.recorded.proofs.Names.{◌-◌, ◌≤◌, length, pattern}
-use Rattle.compared.proofs.Filling.{Left}
+use Rattle.recorded.specs.InnerCases.{pattern}
 use Rattle.recorded.proofs.keeps.Given as goal
 
--- What is left to compare from `i` on says whether all is the same.
--- What is left to compare falls.
-
-abbrev pub invariant-loop-i : goal.invariant-loop-i
-invariant-loop-i l = (l.i ≤ length l.room) × Left pattern l.room l.document l.i
-
-abbrev pub decreases-loop-i : goal.decreases-loop-i
-decreases-loop-i l = length l.room - l.i
+abbrev pub ghost-holds_by : goal.ghost-holds_by
+ghost-holds_by a = pattern

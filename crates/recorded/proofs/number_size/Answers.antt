@@ -7,6 +7,6 @@ pub returns-then-byte_or-lt255 : goal.returns-then-byte_or-lt255
 unfolding number_size when◌then◌else◌
 returns-then-byte_or-lt255 c = search rules
 
-pub returns : goal.returns
+pub returns-else-byte_or-lt255 : goal.returns-else-byte_or-lt255
 unfolding number_size when◌then◌else◌
-returns c = search rules
+returns-else-byte_or-lt255 c = search rules

@@ -8,4 +8,4 @@ returns-then-bytes-at c = let a = c.args in (sym (little-none (a.bytes.now) a.at
 pub returns-then-bytes-at-lt2 : goal.returns-then-bytes-at-lt2
 returns-then-bytes-at-lt2 c =
     let a = c.args in
-    (c.usize_from.ensures.0 ∙ sym (little-one (a.bytes.now) a.at (omega arith)), omega (arith, c.usize_from.ensures.1))
+    (c.from.ensures ∙ sym (little-one (a.bytes.now) a.at (omega arith)), omega arith)

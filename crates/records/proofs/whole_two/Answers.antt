@@ -5,6 +5,6 @@ use Rattle.records.proofs.whole_two.Goals as goal
 pub returns : goal.returns
 returns c =
     let args = c.args in (
-      omega (arith, little-two (args.bytes.now) args.at, c.usize_from.ensures, c.usize_from-2.ensures),
-      omega (arith, c.usize_from.ensures, c.usize_from-2.ensures),
+      omega (arith, little-two (args.bytes.now) args.at, c.from.ensures, c.from-2.ensures),
+      omega (arith, c.from.ensures, c.from-2.ensures),
     )

@@ -1,24 +1,23 @@
-use Rattle.sample_calls.proofs.Names.{◌∙◌, rules}
-use Rattle.sample_calls.proofs.Calls.{wanted_refusal, wanted_text_lem}
+use Rattle.sample_calls.proofs.Names.{sym, ap, ◌∙◌, length, is_wanted}
+use Rattle.std.specs.Prelude.{ℕ, Result}
+use Rattle.sample_calls.specs.InnerCalls.{letter_of}
+use Rattle.sample_calls.specs.declared.Refused.{Refused}
+use Rattle.sample_calls.proofs.Calls.{wanted_refusal, wanted-size}
 use Rattle.sample_calls.proofs.is_wanted.Goals as goal
 
-pub returns-then-w-ne0 : goal.returns-then-w-ne0
-returns-then-w-ne0 c =
-    let after-if1 = c in
-    let if1 = after-if1.if-w-ne0 in
-    let after-called = after-if1 in
-    let r = after-called.called-answer in
-    let a = after-called.args in
+pub returns-in-Ok : goal.returns-in-Ok
+returns-in-Ok c =
+    let a = c.args in
+    let r = c.called-answer in
     c.is_rendered.ensures
-    ∙ wanted_refusal a.letter a.width _ (a.document.now) a.w (a.text.now) r.result _ (r.ensures.answer, r.ensures.room) if1.true
-
-pub returns : goal.returns
-returns c =
-    let after-if1 = c in
-    let if1 = after-if1.if-w-ne0 in
-    let after-called = after-if1 in
-    let r = after-called.called-answer in
-    let a = after-called.args in
-    c.is_rendered-2.ensures
-    ∙ wanted_text_lem a.letter a.width _ (a.document.now) a.w (a.text.now) r.result _ (r.ensures.answer, r.ensures.room) _ if1.false
+    ∙ wanted-size (letter_of a.call) a.width _ a.document.now a.text.now r.result _ (r.ensures.answer, r.ensures.room) _ _
     c.wanted_text-wanted.ensures
+    ∙ ap (λ (w : Result ℕ Refused). is_wanted (letter_of a.call) a.width (length a.room.now) a.document.now w a.text.now) (sym c.in-Ok.is)
+
+pub returns-in-Err : goal.returns-in-Err
+returns-in-Err c =
+    let a = c.args in
+    let r = c.called-answer in
+    c.is_rendered-in-Err.ensures
+    ∙ wanted_refusal (letter_of a.call) a.width _ a.document.now a.text.now r.result _ (r.ensures.answer, r.ensures.room) c.in-Err.r
+    ∙ ap (λ (w : Result ℕ Refused). is_wanted (letter_of a.call) a.width (length a.room.now) a.document.now w a.text.now) (sym c.in-Err.is)

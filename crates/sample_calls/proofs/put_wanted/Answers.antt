@@ -1,4 +1,4 @@
-use Rattle.sample_calls.proofs.Names.{rules, length, when◌then◌else◌}
+use Rattle.sample_calls.proofs.Names.{length, when◌then◌else◌}
 use Rattle.utf8.specs.Utf8.{encode, bytes}
 use Rattle.roff_escape.specs.Escape.{preamble}
 use Rattle.sample_lines.specs.InnerLines.{text_from}

@@ -1,13 +1,12 @@
-use Rattle.sample_calls.proofs.Names.{◌∙◌, rules}
-use Rattle.sample_calls.proofs.Calls.{text-roff, text-other}
+use Rattle.std.proofs.Common.{rules, ◌∙◌}
+use Rattle.base.specs.Choice.{when◌then◌else◌}
+use Rattle.sample_calls.specs.InnerCalls.{wanted_text}
+use Rattle.sample_calls.proofs.Calls.{text-other}
 use Rattle.sample_calls.proofs.wanted_text.Goals as goal
 
-pub returns-then-letter-eq114 : goal.returns-then-letter-eq114
-returns-then-letter-eq114 c =
-    let a = c.args in
-    c.get.ensures ∙ text-roff a.letter (a.text.now) a.w c.if-letter-eq114.true
+pub returns-in-Roff : goal.returns-in-Roff
+unfolding wanted_text when◌then◌else◌
+returns-in-Roff c = search rules
 
-pub returns : goal.returns
-returns c =
-    let a = c.args in
-    c.get-2.ensures ∙ text-other a.letter (a.text.now) a.w c.if-letter-eq114.false
+pub returns-in_default : goal.returns-in_default
+returns-in_default c = c.get-in_default.ensures ∙ text-other c.args.call c.args.text.now c.args.size c.in_default.not-Roff

@@ -1,19 +1,24 @@
-use Rattle.sample_lines.proofs.Names.{arith}
-use Rattle.sample_lines.proofs.Lines.{hex_low, hex_digit_lem, hex_between, hex_letter, hex_high}
+use Rattle.std.proofs.Common.{rules}
+use Rattle.base.specs.Choice.{when◌then◌else◌}
+use Rattle.sample_lines.specs.InnerLines.{hex_digit}
 use Rattle.sample_lines.proofs.hex_digit.Goals as goal
 
-pub returns-then-b-lt48 : goal.returns-then-b-lt48
-returns-then-b-lt48 c = (hex_low c.args.b c.if-b-lt48.true, omega arith)
+pub returns-in-48-to-57 : goal.returns-in-48-to-57
+unfolding hex_digit when◌then◌else◌
+returns-in-48-to-57 c = search rules
 
-pub returns-then-b-le57 : goal.returns-then-b-le57
-returns-then-b-le57 c = (hex_digit_lem c.args.b c.if-b-lt48.false c.if-b-le57.true, omega (arith, c.if-b-lt48.false, c.if-b-le57.true))
+pub returns-in-65-to-70 : goal.returns-in-65-to-70
+unfolding hex_digit when◌then◌else◌
+returns-in-65-to-70 c = search rules
 
-pub returns-then-b-lt65 : goal.returns-then-b-lt65
-returns-then-b-lt65 c = (hex_between c.args.b c.if-b-le57.false c.if-b-lt65.true, omega arith)
+pub returns-in_default : goal.returns-in_default
+unfolding hex_digit when◌then◌else◌
+returns-in_default c = search rules
 
-pub returns-then-b-le70 : goal.returns-then-b-le70
-returns-then-b-le70 c =
-    (hex_letter c.args.b c.if-b-lt65.false c.if-b-le70.true, omega (arith, c.if-b-lt65.false, c.if-b-le70.true))
+pub returns-in_default-2 : goal.returns-in_default-2
+unfolding hex_digit when◌then◌else◌
+returns-in_default-2 c = search rules
 
-pub returns : goal.returns
-returns c = (hex_high c.args.b c.if-b-le70.false, omega arith)
+pub returns-in_default-3 : goal.returns-in_default-3
+unfolding hex_digit when◌then◌else◌
+returns-in_default-3 c = search rules

@@ -1,11 +1,6 @@
-use Rattle.sample_lines.proofs.Names.{◌≡◌, ◌-◌, ◌≤◌, length, drop, same, text_from}
+use Rattle.sample_lines.proofs.Names.{◌≡◌, same, text_from, written}
 use Rattle.sample_lines.proofs.is_text.Given as goal
 
--- What is left of the text beside the text from `i` on says whether all is the same.
--- What is left of the line falls.
-
-abbrev pub invariant-loop-i : goal.invariant-loop-i
-invariant-loop-i l = (same (drop l.at l.text) (text_from l.line l.i) ≡ same l.text (text_from l.line l.from)) × (l.at ≤ length l.text)
-
-abbrev pub decreases-loop-i : goal.decreases-loop-i
-decreases-loop-i l = length l.line - l.i
+-- What is left of the text beside the text that is left says whether all is the same.
+abbrev pub invariant-loop-b : goal.invariant-loop-b
+invariant-loop-b l = same l.rest (written 0 l.b-iterator.0.now) ≡ same l.text (text_from l.line l.from)

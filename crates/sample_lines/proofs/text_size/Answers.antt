@@ -1,6 +1,7 @@
-use Rattle.sample_lines.proofs.Names.{ap, arith, length}
-use Rattle.sample_lines.proofs.Lines.{text-end}
+use Rattle.sample_lines.proofs.Names.{arith}
+use Rattle.std.proofs.Common.{inl}
+use Rattle.sample_lines.proofs.Lines.{length-written}
 use Rattle.sample_lines.proofs.text_size.Goals as goal
 
-pub returns : goal.returns
-returns c = omega (arith, ap length (text-end (c.args.line.now) c.loop-i.i c.loop-i-test.false), c.loop-i.invariant.0)
+pub count-requires-clause-fits : goal.count-requires-clause-fits
+count-requires-clause-fits c = inl (omega (arith, length-written 0 c.text_of.result.0.now))

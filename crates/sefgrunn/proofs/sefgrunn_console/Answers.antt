@@ -1,4 +1,4 @@
-use Rattle.sefgrunn.proofs.Names.{◌∙◌, rules, length, console, Settings}
+use Rattle.sefgrunn.proofs.Names.{◌∙◌, length, console, Settings}
 use Rattle.sefgrunn.proofs.Numbers.{rendered-number, caller_reads-gives}
 use Rattle.console.proofs.Order.{demand3}
 use Rattle.sefgrunn.proofs.RoomBound.{room_enough}

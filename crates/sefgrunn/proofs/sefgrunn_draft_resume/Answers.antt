@@ -1,4 +1,3 @@
-use Rattle.sefgrunn.proofs.Names.{rules}
 use Rattle.sefgrunn.proofs.Drafts.{told_resumed}
 use Rattle.sefgrunn.proofs.sefgrunn_draft_resume.Goals as goal
 

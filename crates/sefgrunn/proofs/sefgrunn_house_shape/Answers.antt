@@ -1,16 +1,18 @@
-use borrow.Author.Rules.{rules}
+use Rattle.sefgrunn.proofs.Names.{◌∙◌, ap, Ok}
 use Rattle.sefgrunn.proofs.HouseShape.{told_yes, told_no, told_refused}
 use Rattle.sefgrunn.proofs.sefgrunn_house_shape.Goals as goal
 
-pub returns-in-Shaped : goal.returns-in-Shaped
-returns-in-Shaped c =
-    let h = c.house_shape-answer in
-    told_yes _ h.result h.ensures c.in-Shaped.is c.accepted.ensures.number c.accepted.ensures.place
+pub returns-in-Ok-None : goal.returns-in-Ok-None
+returns-in-Ok-None c =
+    let h = c.house_shape in
+    told_yes _ h.result h.ensures (c.in-Ok-None.is ∙ ap Ok c.in-Ok-None.field-0-is) c.accepted.ensures.number c.accepted.ensures.place
 
-pub returns-in-Unshaped : goal.returns-in-Unshaped
-returns-in-Unshaped c = let h = c.house_shape-answer in told_no _ h.result h.ensures c.in-Unshaped.is
+pub returns-in-Ok-Some : goal.returns-in-Ok-Some
+returns-in-Ok-Some c =
+    let h = c.house_shape in
+    told_no _ h.result h.ensures (c.in-Ok-Some.is ∙ ap Ok c.in-Ok-Some.field-0-is)
 
-pub returns-in-Refused : goal.returns-in-Refused
-returns-in-Refused c =
-    let h = c.house_shape-answer in
-    told_refused _ h.result h.ensures c.in-Refused.is c.refused.ensures.number c.refused.ensures.place
+pub returns-in-Err : goal.returns-in-Err
+returns-in-Err c =
+    let h = c.house_shape in
+    told_refused _ h.result h.ensures c.in-Err.is c.refused.ensures.number c.refused.ensures.place

@@ -1,22 +1,28 @@
-use Rattle.shape.proofs.Names.{[], none, some, arith, gives}
-use Rattle.document.proofs.Walks.{verdict_gives}
+use Rattle.shape.proofs.Names.{[], None, Some, gives, refused}
+use Rattle.document.proofs.Walks.{verdict_gives, verdict_refused}
+use Rattle.refusal.proofs.Exits.{answered-exit}
 use Rattle.shape.proofs.Opened.{open_0}
 use Rattle.shape.proofs.Laws.{the_answer}
 use Rattle.shape.proofs.Accepted.{found_out, found_none}
 use Rattle.shape.proofs.house_shape.Goals as goal
 
 -- the document was accepted: no block is open at its start
-pub parts-way-requires : goal.parts-way-requires
-parts-way-requires c = (omega arith, open_0 _ [] (verdict_gives [] c.check-verdict.ensures c.in-Accepted.is))
+pub parts-requires : goal.parts-requires
+parts-requires c = open_0 _ [] (verdict_gives [] c.check.ensures c.in_ok-check.was)
 
-pub returns-in-Out : goal.returns-in-Out
-returns-in-Out c =
-    let a = verdict_gives [] c.check-verdict.ensures c.in-Accepted.is in
+pub returns-in-Err : goal.returns-in-Err
+returns-in-Err c =
+    let a = verdict_gives [] c.check.ensures c.in_ok-check.was in
     let s = c.args.document.now in
-    the_answer s (gives (some _)) (found_out s a c.parts-way.ensures c.in-Out.is)
+    the_answer s (gives (Some _)) (found_out s a c.parts.ensures c.in-Err.is)
 
-pub returns-in-Stops : goal.returns-in-Stops
-returns-in-Stops c =
-    let a = verdict_gives [] c.check-verdict.ensures c.in-Accepted.is in
+pub returns-in-Ok : goal.returns-in-Ok
+returns-in-Ok c =
+    let a = verdict_gives [] c.check.ensures c.in_ok-check.was in
     let s = c.args.document.now in
-    the_answer s (gives none) (found_none s a c.parts-way.ensures c.in-Stops.is)
+    the_answer s (gives None) (found_none s a c.parts.ensures c.in-Ok.is)
+
+pub returns-in_err-check : goal.returns-in_err-check
+returns-in_err-check c =
+    rw (answered-exit c.from_residual.result _ c.from_residual.ensures.1)
+    (the_answer c.args.document.now (refused _ _) (verdict_refused [] c.check.ensures c.in_err-check.was))

@@ -5,11 +5,11 @@ use Rattle.upper.proofs.Going.{going_more, going_none}
 use Rattle.upper.proofs.to_uppercase.Goals as goal
 
 pub maps_to-requires : goal.maps_to-requires
-maps_to-requires c = scalar_most _ (character_encoded c.args.text.now c.loop-len.next _ _ (sym c.decode-d.ensures ∙ c.in-Char.is)).0
+maps_to-requires c = scalar_most _ (character_encoded c.args.text.now c.loop-len.next _ _ (sym c.decode.ensures ∙ c.in-Some.is)).0
 
 pub loop-len-smaller : goal.loop-len-smaller
 loop-len-smaller c =
-    let r = read_character c.args.text.now c.loop-len.next _ _ (sym c.decode-d.ensures ∙ c.in-Char.is) in
+    let r = read_character c.args.text.now c.loop-len.next _ _ (sym c.decode.ensures ∙ c.in-Some.is) in
     omega (arith, r.later, r.room)
 
 pub loop-len-preserved : goal.loop-len-preserved
@@ -18,10 +18,10 @@ loop-len-preserved c =
     let w = c.put_all-len in (
       w.auto.out ∙ i.0,
       omega (arith, w.ensures.within),
-      λ q. going_more _ _ (i.2 q) (sym c.decode-d.ensures ∙ c.in-Char.is) w.ensures (ap encode_all (c.maps_to.ensures.characters q)),
+      λ q. going_more _ _ (i.2 q) (sym c.decode.ensures ∙ c.in-Some.is) w.ensures (ap encode_all (c.maps_to.ensures.characters q)),
     )
 
-pub returns-in-Nothing : goal.returns-in-Nothing
-returns-in-Nothing c =
+pub returns-in_default : goal.returns-in_default
+returns-in_default c =
     let i = c.loop-len.invariant in
-    record { size = omega (arith, i.0, i.1); text = λ q. going_none _ _ (i.2 q) (sym c.decode-d.ensures ∙ c.in-Nothing.is) }
+    record { size = omega (arith, i.0, i.1); text = λ q. going_none _ _ (i.2 q) (sym c.decode.ensures ∙ c.in_default.is) }

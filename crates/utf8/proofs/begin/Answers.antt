@@ -1,44 +1,26 @@
-use Rattle.utf8.proofs.Names.{◌≡◌, true}
-use Rattle.utf8.proofs.Neighbours.{begun-far, begun_first, begun_second, begun_third, begun-on, first, second, third, fault_none, fault_some}
-use Rattle.utf8.proofs.begin.Goals.{Else-fault-ne0, Else-fault-ne0-2}
+use Rattle.utf8.proofs.Names.{◌∙◌, sym}
+use Rattle.utf8.proofs.Laws.{not_none, not_some}
+use Rattle.utf8.proofs.Neighbours.{begun-far, begun_first, begun_second, begun_third, begun-on}
+use Rattle.utf8.proofs.begin.Goals.{then-fault-via-then-fault, then-fault-via-else-fault+then-fault-2, then-fault-via-else-fault+else-fault-2+then-fault-3}
 use Rattle.utf8.proofs.begin.Goals as goal
 
--- the start, where the first byte has been tested, and the second
-
-first_in : (c : Else-fault-ne0) → first c.args.s.now ≡ true
-first_in c = fault_none (first c.args.s.now) c.fault.ensures c.if-fault-ne0.false
-
-second_in : (c : Else-fault-ne0-2) → second c.args.s.now ≡ true
-second_in c = fault_none (second c.args.s.now) c.fault-2.ensures c.if-fault-ne0-2.false
-
 pub returns-then-from-ge3 : goal.returns-then-from-ge3
-returns-then-from-ge3 c = let b = c in begun-far b.args.s.now b.args.from b.requires.1 c.if-from-ge3.true
+returns-then-from-ge3 c = begun-far c.args.s.now c.args.from c.requires.1 c.if-from-ge3.true
 
-pub returns-then-fault-ne0 : goal.returns-then-fault-ne0
-returns-then-fault-ne0 c =
-    let b = c in
-    let s = b.args.s.now in
-    begun_first s b.requires.0 (fault_some (first s) c.fault.ensures c.if-fault-ne0.true)
-
-pub returns-then-fault-ne0-2 : goal.returns-then-fault-ne0-2
-returns-then-fault-ne0-2 c =
-    let e = c in
-    let b = e in
-    let s = b.args.s.now in
-    begun_second s b.requires.0 (first_in (goal.at.returns-then-fault-ne0-2 c).Else-fault-ne0) (fault_some (second s) c.fault-2.ensures c.if-fault-ne0-2.true)
-
-pub returns-then-fault-ne0-3 : goal.returns-then-fault-ne0-3
-returns-then-fault-ne0-3 c =
-    let f = c in
-    let e = f in
-    let b = e in
-    let s = b.args.s.now in
-    begun_third s b.requires.0 (first_in (goal.at.returns-then-fault-ne0-3 c).Else-fault-ne0) (second_in (goal.at.returns-then-fault-ne0-3 c).Else-fault-ne0-2) (fault_some (third s) c.fault-3.ensures c.if-fault-ne0-3.true)
+pub returns-then-fault : goal.returns-then-fault
+returns-then-fault c =
+    let s = c.args.s.now in
+    let h = c.requires.0 in
+    elim c.then-fault.branch [
+      | then-fault-via-then-fault w ↦ begun_first s h (not_none _ (sym c.fault.ensures ∙ w.if-fault.true))
+      | then-fault-via-else-fault+then-fault-2 w ↦
+          begun_second s h (not_some _ (sym c.fault.ensures ∙ w.if-fault.false)) (not_none _ (sym w.fault-else-fault.ensures ∙ w.if-fault-2.true))
+      | then-fault-via-else-fault+else-fault-2+then-fault-3 w ↦
+          begun_third s h (not_some _ (sym c.fault.ensures ∙ w.if-fault.false)) (not_some _ (sym w.fault-else-fault.ensures ∙ w.if-fault-2.false))
+          (not_none _ (sym w.fault-else-fault-2.ensures ∙ w.if-fault-3.true))
+    ]
 
 pub returns : goal.returns
 returns c =
-    let f = c in
-    let e = f in
-    let b = e in
-    let s = b.args.s.now in
-    begun-on s b.requires.0 (first_in (goal.at.returns c).Else-fault-ne0) (second_in (goal.at.returns c).Else-fault-ne0-2) (fault_none (third s) c.fault-3.ensures c.if-fault-ne0-3.false)
+    begun-on c.args.s.now c.requires.0 (not_some _ (sym c.fault.ensures ∙ c.if-fault.false))
+    (not_some _ (sym c.fault-else-fault.ensures ∙ c.if-fault-2.false)) (not_some _ (sym c.fault-else-fault-2.ensures ∙ c.if-fault-3.false))

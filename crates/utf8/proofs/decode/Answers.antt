@@ -35,7 +35,7 @@ returns-then-s-at c = past_end c.args.s.now c.args.at c.if-s-at.true
 pub returns-then-a-lt128 : goal.returns-then-a-lt128
 returns-then-a-lt128 c =
     let a = c.args in
-    rw c.u32_from.ensures (ascii_at a.s.now a.at c.if-s-at.false c.if-a-lt128.true)
+    rw c.from.ensures (ascii_at a.s.now a.at c.if-s-at.false c.if-a-lt128.true)
 
 pub overflow_sub-a : goal.overflow_sub-a
 overflow_sub-a c = (two (goal.at.overflow_sub-a c).Then-two_at).below
@@ -47,7 +47,7 @@ pub with-requires : goal.with-requires
 with-requires c =
     omega (
       arith,
-      c.u32_from-then-two_at.ensures,
+      c.from-then-two_at.ensures,
       c.shared_slice_known-2-1.given
           c.args.at,
       (two (goal.at.with-requires c).Then-two_at).going.high 1 (omega arith) (omega arith),
@@ -56,7 +56,7 @@ with-requires c =
 pub returns-then-two_at : goal.returns-then-two_at
 returns-then-two_at c =
     let a = c.args in
-    two-read a.s.now a.at 0xC0 (two (goal.at.returns-then-two_at c).Then-two_at) c.u32_from-then-two_at.ensures c.with.ensures
+    two-read a.s.now a.at 0xC0 (two (goal.at.returns-then-two_at c).Then-two_at) c.from-then-two_at.ensures c.with.ensures
 
 pub returns-then-a-lt224 : goal.returns-then-a-lt224
 returns-then-a-lt224 c =
@@ -70,7 +70,7 @@ pub with-requires-then-three_at : goal.with-requires-then-three_at
 with-requires-then-three_at c =
     omega (
       arith,
-      c.u32_from-then-three_at.ensures,
+      c.from-then-three_at.ensures,
       c.shared_slice_known-2-1.given
           c.args.at,
       (three (goal.at.with-requires-then-three_at c).Then-three_at).going.high 1 (omega arith) (omega arith),
@@ -86,7 +86,7 @@ with-requires-then-three_at-2 c =
       arith,
       g 1 (omega arith) (omega arith),
       g 2 (omega arith) (omega arith),
-      c.u32_from-then-three_at.ensures,
+      c.from-then-three_at.ensures,
       c.with-then-three_at.ensures,
       c.shared_slice_known-2-1.given
           c.args.at,
@@ -96,7 +96,7 @@ pub returns-then-three_at : goal.returns-then-three_at
 returns-then-three_at c =
     let a = c.args in
     three-read a.s.now a.at 0xE0 (three (goal.at.returns-then-three_at c).Then-three_at)
-    c.u32_from-then-three_at.ensures c.with-then-three_at.ensures c.with-then-three_at-2.ensures
+    c.from-then-three_at.ensures c.with-then-three_at.ensures c.with-then-three_at-2.ensures
 
 pub returns-then-a-lt240 : goal.returns-then-a-lt240
 returns-then-a-lt240 c =
@@ -110,7 +110,7 @@ pub with-requires-then-four_at : goal.with-requires-then-four_at
 with-requires-then-four_at c =
     omega (
       arith,
-      c.u32_from-then-four_at.ensures,
+      c.from-then-four_at.ensures,
       c.shared_slice_known-2-1.given
           c.args.at,
       (four (goal.at.with-requires-then-four_at c).Then-four_at).going.high 1 (omega arith) (omega arith),
@@ -126,7 +126,7 @@ with-requires-then-four_at-2 c =
       arith,
       g 1 (omega arith) (omega arith),
       g 2 (omega arith) (omega arith),
-      c.u32_from-then-four_at.ensures,
+      c.from-then-four_at.ensures,
       c.with-then-four_at.ensures,
       c.shared_slice_known-2-1.given
           c.args.at,
@@ -143,7 +143,7 @@ with-requires-then-four_at-3 c =
       g 1 (omega arith) (omega arith),
       g 2 (omega arith) (omega arith),
       g 3 (omega arith) (omega arith),
-      c.u32_from-then-four_at.ensures,
+      c.from-then-four_at.ensures,
       c.with-then-four_at.ensures,
       c.with-then-four_at-2.ensures,
       c.shared_slice_known-2-1.given
@@ -154,7 +154,7 @@ pub returns-then-four_at : goal.returns-then-four_at
 returns-then-four_at c =
     let a = c.args in
     four-read a.s.now a.at 0xF0 (four (goal.at.returns-then-four_at c).Then-four_at)
-    c.u32_from-then-four_at.ensures c.with-then-four_at.ensures
+    c.from-then-four_at.ensures c.with-then-four_at.ensures
     c.with-then-four_at-2.ensures c.with-then-four_at-3.ensures
 
 pub returns : goal.returns

@@ -1,21 +1,18 @@
+use Rattle.utf8.proofs.Names.{lt-leb, ◌∙◌}
 use Rattle.utf8.proofs.Neighbours.{fault_due, fault_ascii, fault_start}
 use Rattle.utf8.proofs.fault.Goals as goal
 
 pub returns-then-asks : goal.returns-then-asks
 returns-then-asks c =
-    let then = c in
-    let a = then.args in
-    fault_due a.r a.q a.p a.b then.asks.ensures then.if-asks.true c.low.ensures c.high.ensures
-    c.outside.ensures
+    let a = c.args in
+    fault_due a.r a.q a.p a.b c.asks.ensures c.if-asks.true c.low.ensures c.high.ensures c.outside.ensures
 
-pub returns-then-b-lt128 : goal.returns-then-b-lt128
-returns-then-b-lt128 c =
-    let tested = c in
-    let a = tested.args in
-    fault_ascii a.r a.q a.p a.b tested.asks.ensures c.if-asks.false c.if-b-lt128.true
+pub returns-then-b-ge128 : goal.returns-then-b-ge128
+returns-then-b-ge128 c =
+    let a = c.args in
+    fault_start a.r a.q a.p a.b c.asks.ensures c.if-asks.false c.if-b-ge128.true c.outside-then-b-ge128.ensures
 
-pub returns : goal.returns
-returns c =
-    let tested = c in
-    let a = tested.args in
-    fault_start a.r a.q a.p a.b tested.asks.ensures c.if-asks.false c.if-b-lt128.false c.outside-2.ensures
+pub returns-else-b-ge128 : goal.returns-else-b-ge128
+returns-else-b-ge128 c =
+    let a = c.args in
+    lt-leb 0x80 a.b c.if-b-ge128.false ∙ fault_ascii a.r a.q a.p a.b c.asks.ensures c.if-asks.false c.if-b-ge128.false

@@ -1,26 +1,15 @@
-use Rattle.utf8.proofs.Names.{◌≡◌, ◌∷◌, arith, get_or, when◌then◌else◌, ◌to◌, row_of}
-use Rattle.utf8.proofs.Laws.{tail, size-by, size-never, ranged, due_over, due_F0, due_F4, due_4}
-use Rattle.utf8.proofs.four_at.Goals.{Joined-a, then-a, else-a+then-a-2, else-a+else-a-2}
+use Rattle.utf8.proofs.Names.{arith, lt-leb, when◌then◌else◌}
+use Rattle.utf8.proofs.Laws.{size-by, size-never, ranged, due_over, due_four}
 use Rattle.utf8.proofs.four_at.Goals as goal
 
--- the range of the second byte, where the branches that pick it meet
-second : (c : Joined-a)
-    → (row_of (get_or c.args.s.now c.args.i 0)).after
-    ≡ (c.if-a.lo to c.if-a.hi) ∷ 0x80 to 0xBF ∷ tail
-second c =
-    elim c.if-a.branch [
-      | then-a w ↦ ranged (due_F0 _ w.if-a.true) w.lo-is w.hi-is
-      | else-a+then-a-2 w ↦ ranged (due_F4 _ w.if-a-2.true) w.lo-is w.hi-is
-      | else-a+else-a-2 w ↦ ranged (due_4 _ c.requires.1 (omega (arith, c.if-a-gt244.false)) w.if-a.false w.if-a-2.false) w.lo-is w.hi-is
-    ]
+pub returns-then-s-i-le244 : goal.returns-then-s-i-le244
+returns-then-s-i-le244 c =
+    let a = c.args in
+    let due = due_four _ c.requires.1 (omega (arith, c.if-s-i-le244.true)) in
+    size-by (a.s.now) a.i _ c.requires.0 (ranged due c.low.ensures c.high.ensures) c.next3.ensures
 
-pub returns-then-a-gt244 : goal.returns-then-a-gt244
+pub returns-else-s-i-le244 : goal.returns-else-s-i-le244
 unfolding when◌then◌else◌
-returns-then-a-gt244 c =
+returns-else-s-i-le244 c =
     let a = c.args in
-    size-never (a.s.now) a.i c.requires.0 (due_over _ c.if-a-gt244.true)
-
-pub returns : goal.returns
-returns c =
-    let a = c.args in
-    size-by (a.s.now) a.i _ c.requires.0 (second (goal.at.returns c).Joined-a) c.next3.ensures
+    rw (lt-leb _ 0xF4 c.if-s-i-le244.false) (size-never (a.s.now) a.i c.requires.0 (due_over _ c.if-s-i-le244.false))

@@ -1,14 +1,14 @@
-use Rattle.utf8.proofs.Names.{eq-eqb, ne_eqb, when◌then◌else◌, high}
+use Rattle.utf8.proofs.Names.{arith, ne_eqb, when◌then◌else◌, high}
 use Rattle.utf8.proofs.high.Goals as goal
 
-pub returns-then-p-eq237 : goal.returns-then-p-eq237
-unfolding when◌then◌else◌ high
-returns-then-p-eq237 c = rw (eq-eqb c.args.p 0xED c.if-p-eq237.true)
+pub returns-in-237 : goal.returns-in-237
+unfolding high when◌then◌else◌
+returns-in-237 c = rw c.in-237.is
 
-pub returns-then-p-eq244 : goal.returns-then-p-eq244
-unfolding when◌then◌else◌ high
-returns-then-p-eq244 c = let p = c.args.p in rw (ne_eqb p 0xED c.if-p-eq237.false, eq-eqb p 0xF4 c.if-p-eq244.true)
+pub returns-in-244 : goal.returns-in-244
+unfolding high when◌then◌else◌
+returns-in-244 c = rw c.in-244.is
 
-pub returns : goal.returns
-unfolding when◌then◌else◌ high
-returns c = let p = c.args.p in rw (ne_eqb p 0xED c.if-p-eq237.false, ne_eqb p 0xF4 c.if-p-eq244.false)
+pub returns-in_default : goal.returns-in_default
+unfolding high when◌then◌else◌
+returns-in_default c = rw (ne_eqb c.args.p 0xED (λ e. omega arith), ne_eqb c.args.p 0xF4 (λ e. omega arith))

@@ -1,9 +1,9 @@
-use Rattle.utf8.proofs.Names.{arith}
+use Rattle.utf8.proofs.Names.{◌+◌, ◌-◌, ◌∙◌, sym, arith}
 use Rattle.utf8.proofs.Neighbours.{ascii_more}
 use Rattle.utf8.proofs.past_ascii.Goals as goal
 
 pub loop-i-preserved : goal.loop-i-preserved
 loop-i-preserved c =
-    let v = c in
-    let a = v.args in
-    ascii_more a.s.now v.loop-i.i a.w c.top.result v.loop-i.invariant (omega arith) c.top.ensures c.if-top-lt128.true
+    let a = c.args in
+    let i = c.loop-i.i in
+    ascii_more a.s.now i a.w (i + a.w - i) c.loop-i.invariant (omega arith) (omega arith) (sym c.is_ascii.ensures ∙ c.if-is_ascii.true)

@@ -1,14 +1,13 @@
-use Rattle.utf8.proofs.Names.{arith, ltb-true}
+use Rattle.utf8.proofs.Names.{◌+◌, ◌-◌, ◌∙◌, sym, arith}
 use Rattle.utf8.proofs.Neighbours.{plain-sound}
 use Rattle.utf8.proofs.plain.Goals as goal
 
 pub returns : goal.returns
 returns c =
-    let o = c in
-    let b = o in
-    let h = o.if-s-a-lt64.false in
+    let a = c.args in
     record {
-      room = λ e. omega (arith, h);
-      skips = λ e. plain-sound b.args.s.now b.args.a c.top.result b.requires.0 (omega (arith, h)) o.cut_off.ensures c.if-cut_off.false
-          c.top.ensures (ltb-true _ 0x80 e);
+      room = λ e. omega arith;
+      skips = λ e.
+          plain-sound a.s.now a.a (a.a + 64 - a.a) c.requires.0 (omega arith) c.cut_off.ensures c.if-cut_off.false (omega arith)
+          (sym c.is_ascii.ensures ∙ e);
     }

@@ -6,13 +6,13 @@ use Rattle.white.proofs.count_printing.Goals as goal
 
 read : (c : After-is_white)
     → Read c.args.s.now
-    c.loop-i.i c.in-Char.c c.in-Char.next
+    c.loop-i.i c.in-Some.c c.in-Some.next
 read c =
     let decode = c.decode in
     let after-loop = c in
     let loop = after-loop.loop-i in
     let args = after-loop.args in
-    read_character args.s.now loop.i _ _ (sym decode.ensures ∙ c.in-Char.is)
+    read_character args.s.now loop.i _ _ (sym decode.ensures ∙ c.in-Some.is)
 
 pub returns-in_default : goal.returns-in_default
 returns-in_default c =
@@ -32,7 +32,7 @@ loop-i-preserved-then-not-is_white c =
     let args = after-c.args in
     let r = read (goal.at.loop-i-preserved-then-not-is_white c).After-is_white in
     let e =
-    printing-one args.s.now loop.i after-c.in-Char.c after-c.in-Char.next r
+    printing-one args.s.now loop.i after-c.in-Some.c after-c.in-Some.next r
     (sym c.is_white.ensures ∙ c.if-not-is_white.true) in
     (omega arith, omega arith, loop.invariant.2 ∙ r.text, omega arith)
 
@@ -46,7 +46,7 @@ loop-i-preserved c =
     let args = after-c.args in
     let r = read (goal.at.loop-i-preserved c).After-is_white in
     let e =
-    printing-not args.s.now loop.i after-c.in-Char.c after-c.in-Char.next r
+    printing-not args.s.now loop.i after-c.in-Some.c after-c.in-Some.next r
     (sym c.is_white.ensures ∙ c.if-not-is_white.false) in
     (omega arith, omega arith, loop.invariant.2 ∙ r.text, omega arith)
 

@@ -1,24 +1,17 @@
 use Rattle.white.proofs.Names.{◌∙◌, arith}
-use Rattle.white.proofs.Trim.{left_fits, left-next, left-stop, left-none}
+use Rattle.white.proofs.Trim.{left_fits, left-next, left-stop}
 use Rattle.white.proofs.trim_end.Goals as goal
 
-pub returns-then-k-eq0 : goal.returns-then-k-eq0
-returns-then-k-eq0 c =
-    let loop = c.loop-e in
-    let args = c.args in
-    left-stop args.s.now loop.e loop.invariant.0 c.white_size-k.ensures c.if-k-eq0.true loop.invariant.1
-
 pub overflow_sub-e : goal.overflow_sub-e
-overflow_sub-e c =
-    let loop = c.loop-e in
-    let args = c.args in
-    omega (arith, left_fits args.s.now loop.e loop.invariant.0 c.white_size-k.ensures c.if-k-eq0.false)
+overflow_sub-e c = let l = c.loop-k in omega (arith, left_fits c.args.s.now l.e l.invariant.0 c.in-Some.ensures.0 c.in-Some.ensures.1)
 
-pub loop-e-preserved : goal.loop-e-preserved
-loop-e-preserved c =
-    let loop = c.loop-e in
-    let args = c.args in
-    (omega arith, loop.invariant.1 ∙ left-next args.s.now loop.e loop.invariant.0 c.white_size-k.ensures c.if-k-eq0.false)
+pub loop-k-smaller : goal.loop-k-smaller
+loop-k-smaller c = let l = c.loop-k in omega (arith, c.in-Some.ensures.0, left_fits c.args.s.now l.e l.invariant.0 c.in-Some.ensures.0 c.in-Some.ensures.1)
+
+pub loop-k-preserved : goal.loop-k-preserved
+loop-k-preserved c =
+    let l = c.loop-k in
+    (omega arith, l.invariant.1 ∙ left-next c.args.s.now l.e l.invariant.0 c.in-Some.ensures.0 c.in-Some.ensures.1)
 
 pub returns : goal.returns
-returns c = left-none c.args.s.now c.loop-e.e c.loop-e-test.false c.loop-e.invariant.1
+returns c = let l = c.loop-k in left-stop c.args.s.now l.e l.invariant.0 c.in_default.ensures l.invariant.1

@@ -12,8 +12,8 @@ overflow_add-width c =
     let start = b in
     let a = start.args in
     let n = part-narrow a.body.now a.at l.to in
-    let f : l.width + c.usize_from-width.result ≤ length a.body.now + 255 =
-    omega (arith, n, l.invariant.counts, l.invariant.near, start.requires.1, c.usize_from-width.ensures.1) in
+    let f : l.width + c.from-width.result ≤ length a.body.now + 255 =
+    omega (arith, n, l.invariant.counts, l.invariant.near, start.requires.1, c.from-width.ensures) in
     search rules
 
 pub loop-to-preserved : goal.loop-to-preserved
@@ -26,4 +26,4 @@ loop-to-preserved c =
     let a = b.args in
     copying_more a.body.now a.at a.stop a.len a.room.now l.room l.to l.width l.invariant 8 _ b.copy_block.new.room
     (omega (arith, loop-test.true, l.invariant.near)) b.copy_block.auto.room (has-line-end.ensures if1.false)
-    (omega (arith, c.usize_from-width.ensures.0, c.count.ensures)) b.copy_block.ensures
+    (omega (arith, c.from-width.ensures, c.count.ensures)) b.copy_block.ensures

@@ -3,7 +3,7 @@ use native.Mathlib.Omega.{arith}
 use borrow.Author.Rules.{rules}
 use lib.ListN.{length}
 use Rattle.words.proofs.Copying.{part-narrow, copying_one, copying_none}
-use Rattle.words.proofs.copy_bytes.Goals.{else-x-ne2, then-x-ne2}
+use Rattle.words.proofs.copy_bytes.Goals.{else-starts_character, then-starts_character}
 use Rattle.words.proofs.copy_bytes.Goals as goal
 
 pub overflow_add-width : goal.overflow_add-width
@@ -23,9 +23,9 @@ loop-to-preserved c =
     let start = c in
     let a = start.args in
     let x = a.body.now in
-    elim c.if-x-ne2.branch [
-      | then-x-ne2 w ↦ copying_one x a.at a.stop a.len a.room.now l.room l.to l.width l.invariant _ loop-test.true start.requires.1
-          start.requires.2 if1.false w.width-is w.if-x-ne2.true
-      | else-x-ne2 w ↦ copying_none x a.at a.stop a.len a.room.now l.room l.to l.width l.invariant _ loop-test.true start.requires.1
-          start.requires.2 if1.false w.width-is w.if-x-ne2.false
+    elim c.if-starts_character.branch [
+      | then-starts_character w ↦ copying_one x a.at a.stop a.len a.room.now l.room l.to l.width l.invariant _ loop-test.true start.requires.1
+          start.requires.2 if1.false w.width-is c.starts_character.ensures w.if-starts_character.true
+      | else-starts_character w ↦ copying_none x a.at a.stop a.len a.room.now l.room l.to l.width l.invariant _ loop-test.true start.requires.1
+          start.requires.2 if1.false w.width-is c.starts_character.ensures w.if-starts_character.false
     ]

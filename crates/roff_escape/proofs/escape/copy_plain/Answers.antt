@@ -38,12 +38,6 @@ returns-then-room-n-lt32 c =
     let l = c.loop-i in
     copies_join _ _ _ _ l.room g.new.room l.i l.n g.result l.invariant.0 l.invariant.1 l.invariant.2 g.ensures
 
-pub returns-then-bytes-i-lt32 : goal.returns-then-bytes-i-lt32
-returns-then-bytes-i-lt32 c =
-    let g = c.copy_bytes-then-bytes-i-lt32 in
-    let l = c.loop-i in
-    copies_join _ _ _ _ l.room g.new.room l.i l.n g.result l.invariant.0 l.invariant.1 l.invariant.2 g.ensures
-
 pub returns-then-stop-i : goal.returns-then-stop-i
 returns-then-stop-i c =
     let after-copy-block = c in

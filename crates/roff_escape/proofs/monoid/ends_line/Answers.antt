@@ -2,11 +2,11 @@ use Rattle.roff_escape.proofs.Names.{◌-◌, arith, length}
 use Rattle.roff_escape.proofs.Escaping.{line-none, line-last}
 use Rattle.roff_escape.proofs.monoid.ends_line.Goals as goal
 
-pub returns-then-bytes-eq0 : goal.returns-then-bytes-eq0
-returns-then-bytes-eq0 c = line-none _ _ c.if-bytes-eq0.true
-
-pub returns : goal.returns
-returns c =
+pub returns-in-Some : goal.returns-in-Some
+returns-in-Some c =
     let a = c.args in
-    let some = c.if-bytes-eq0.false in
-    line-last a.start (a.bytes.now) (length (a.bytes.now) - 1) (omega (arith, some))
+    let last = c.in-Some.ensures.item.3 in
+    rw (last.1 0) (line-last a.start (a.bytes.now) (length (a.bytes.now) - 1) (omega (arith, last.0)))
+
+pub returns-in-None : goal.returns-in-None
+returns-in-None c = line-none _ _ (omega (arith, c.in-None.ensures.item.3))
