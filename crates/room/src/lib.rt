@@ -4,11 +4,12 @@
 
 #![tactic(auto)]
 
-ghost use Rattle.std.specs.Prelude.{◌≡◌, [], ◌∷◌, ◌++◌, ◌+◌, ◌≤◌, length, take, replicate};
-ghost use Rattle.base.specs.Result.{gives, ◌>>=◌ as bind};
+ghost use Rattle.std.specs.Prelude.{◌≡◌, true, false, [], ◌∷◌, ◌++◌, ◌+◌, ◌≤◌, length, take, replicate, List, ℕ};
+ghost use Rattle.base.specs.Result.{gives, refused, ◌>>=◌ as bind};
 ghost use Rattle.base.specs.Bytes.{ends_with};
 ghost use Rattle.white.specs.White.{trim};
 ghost use Rattle.room.specs.Room.{seen, extended, padded};
+ghost use Rattle.room.specs.Lent.{Given, text_of, lent_empty, with_bytes, wrote, is_empty};
 
 // One byte more.
 pub fn put(room: &mut [u8], len: usize, byte: u8) -> usize
@@ -70,4 +71,82 @@ pub fn trim_end(room: &[u8], len: usize) -> usize
         return len;
     }
     white::trim_end(&room[..len])
+}
+
+// A lent room and how far it is written.
+#[derive(Drop)]
+pub struct Text<'a> {
+    room: &'a mut [u8],
+    len: usize,
+}
+
+impl<'a> Text<'a> {
+    // Nothing written yet.
+    pub fn new(room: &'a mut [u8]) -> Text<'a>
+        ensures { text_of result ≡ lent_empty room.entry.ghost_name (length room.old) }
+    {
+        Text { room, len: 0 }
+    }
+
+    // One byte more.
+    pub fn put(&mut self, byte: u8)
+        ensures { text_of self.new ≡ with_bytes (byte ∷ []) (text_of self.old) }
+    {
+        let room = &mut *self.room;
+        self.len = put(room, self.len, byte);
+    }
+
+    // Some bytes more.
+    pub fn put_all(&mut self, bytes: &[u8])
+        ensures { text_of self.new ≡ with_bytes bytes.now (text_of self.old) }
+    {
+        let room = &mut *self.room;
+        self.len = put_all(room, self.len, bytes);
+    }
+
+    // Some spaces more.
+    pub fn put_spaces(&mut self, n: usize)
+        ensures { text_of self.new ≡ with_bytes (replicate n 0x20) (text_of self.old) }
+    {
+        let room = &mut *self.room;
+        self.len = put_spaces(room, self.len, n);
+    }
+
+    // Whether more was to be written than the room holds.
+    pub fn is_full(&self) -> bool
+        ensures full { result ≡ true → (text_of self.now).shown ≡ refused 13 0 }
+        ensures given { result ≡ false → Given (text_of self.now).shown }
+    {
+        self.room.len() < self.len
+    }
+
+    // Whether nothing is written.
+    pub fn is_empty(&self) -> bool
+        ensures { (o : List ℕ) → (text_of self.now).shown ≡ gives o → result ≡ is_empty o }
+    {
+        self.len == 0
+    }
+
+    // Whether the text ends with some bytes.
+    pub fn ends_with(&self, tail: &[u8]) -> bool
+        ensures { (o : List ℕ) → (text_of self.now).shown ≡ gives o → result ≡ ends_with tail.now o }
+    {
+        ends_with(&*self.room, self.len, tail)
+    }
+
+    // The text without the White_Space at its end.
+    pub fn trim_end(&mut self)
+        ensures { text_of self.new ≡ wrote (λ n o. gives (trim o)) (text_of self.old) }
+    {
+        let room = &mut *self.room;
+        self.len = trim_end(room, self.len);
+    }
+
+    // How far it is written: the room is its lender's again.
+    pub fn finish(self) -> usize
+        ensures { seen self.exit.0.now result ≡ (text_of self.entry).shown }
+    {
+        let Text { room, len } = self;
+        len
+    }
 }
