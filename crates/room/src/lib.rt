@@ -76,8 +76,8 @@ pub fn trim_end(room: &[u8], len: usize) -> usize
 // A lent room and how far it is written.
 #[derive(Drop)]
 pub struct Text<'a> {
-    room: &'a mut [u8],
-    len: usize,
+    pub room: &'a mut [u8],
+    pub len: usize,
 }
 
 impl<'a> Text<'a> {
