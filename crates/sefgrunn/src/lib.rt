@@ -1,4 +1,6 @@
-// The C interface (include/sefgrunn.h). Each function returns 0 for accepted, else the refusal's number.
+// The C interface (include/sefgrunn.h). Each function returns 0 for accepted, else the refusal's number. The header gives names and parameters: numbers for
+// styles, blocks and refusals, 0 for none, a room and its length apart, numbers handed out through pointers, and two functions where one with a flag would do
+// (`sefgrunn_html_strict`).
 
 #![tactic(auto)]
 

@@ -1,5 +1,6 @@
 // The C interface (include/sefgrunn.h), as it is linked: each function of the crate `sefgrunn` under its own name, with the same clauses, for
-// callers in C and Rust. They stand here in the order of the header.
+// callers in C and Rust. They stand here in the order of the header; and in `sefgrunn` too, since a crate is a library or a static library, and the laws of
+// `write_calls` are about these functions as a library's.
 
 #![tactic(auto)]
 
