@@ -1,6 +1,6 @@
 -- Bytes that are tested one and all, and counted by blocks of one size. Assumes nothing.
-use Rattle.base.proofs.Names.{ℕ, zero, suc, ◌+◌, ◌/◌, length, length-take-le, length-drop, ◌*◌, ◌≤◌, ◌<◌, ◌≡◌, ◌∙◌, ap, Bool, List, get_or, take, drop, drop-drop, arith}
-use Rattle.base.proofs.Names.{false, false≢true, sym, get_or-take}
+use Rattle.base.proofs.Names.{ℕ, zero, suc, ◌+◌, ◌/◌, ◌*◌, ◌≤◌, ◌<◌, ◌≡◌, ◌∙◌, ap, Bool, List, get_or, take, drop, drop-drop, arith}
+use Rattle.base.proofs.Names.{length, length-take-le, length-drop, false, false≢true, sym, get_or-take}
 use lib.Seq.{get_or-drop}
 use Rattle.base.proofs.Choice.{not-passed}
 use Rattle.std.specs.List.{count_by, list_any}

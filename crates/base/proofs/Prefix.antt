@@ -1,5 +1,6 @@
 -- A prefix, and what has it. Assumes nothing.
-use Rattle.base.proofs.Names.{ℕ, ◌+◌, ◌≤◌, ◌<◌, ◌≡◌, refl, sym, ◌∙◌, Bool, true, false, ◌&&◌, false≢true, List, [], ◌∷◌, ◌++◌, eqb, length, drop, get_or, ◌-◌, ⊎_elim}
+use Rattle.base.proofs.Names.{ℕ, ◌+◌, ◌≤◌, ◌<◌, ◌≡◌, refl, sym, ◌∙◌, Bool, true, false, ◌&&◌, false≢true, List, [], ◌∷◌, ◌++◌, eqb, length, drop}
+use Rattle.base.proofs.Names.{get_or, ◌-◌, ⊎_elim}
 use Rattle.base.proofs.Names.{length-drop, drop-length, drop-cons, add-one, arith, le-leb, lt-leb, eq-eqb, ne_eqb, eqb-true, starts_with}
 use Rattle.base.proofs.Choice.{and_left, and_right, not-passed, same_test, le_or_lt}
 use Rattle.std.specs.List.{ends_with as library}

@@ -28,7 +28,7 @@ pub fn get<'a>(s: &'a [u8], from: usize, to: usize) -> &'a [u8]
 }
 
 // `copy_from_slice` into a room from `at` on; a room that does not hold the bytes there stays as it was. Most are a few bytes, for which the library's
-// `copy_from_slice` costs more than this loop.
+// `copy_from_slice` costs more than this loop: with it Markdown took a third more time.
 pub fn copy_from_slice(room: &mut [u8], at: usize, bytes: &[u8])
     ensures { room.new ≡ overwritten room.old at bytes.now }
 {
@@ -39,7 +39,8 @@ pub fn copy_from_slice(room: &mut [u8], at: usize, bytes: &[u8])
     }
 }
 
-// Whether the bytes from `at` on start with some others. Most are a few bytes, for which the library's `starts_with` costs more than this loop.
+// Whether the bytes from `at` on start with some others. Most are a few bytes, for which the library's `starts_with` costs more than this loop: with it
+// HTML took a tenth more time.
 pub fn starts_with(s: &[u8], at: usize, prefix: &[u8]) -> bool
     ensures { result ≡ starts_with prefix.now (drop at s.now) }
 {
@@ -83,7 +84,8 @@ pub fn few<F: Fn(u8) -> bool>(s: &[u8], test: &F) -> u8
     n
 }
 
-// How many bytes pass a test: by blocks of 128, whose number a byte holds, so that the compiler counts 16 at a time.
+// How many bytes pass a test: by blocks of 128, whose number a byte holds, so that the compiler counts 16 at a time. `filter(..).count()` counts into 64
+// bits, of which it takes 2 at a time.
 pub fn count<F: Fn(u8) -> bool>(s: &[u8], test: F) -> usize
     requires { F.IsAlwaysCallable test }
     ensures { (p : ℕ → Bool) → AnswersAs F.post test p → result ≡ count_by p s.now }

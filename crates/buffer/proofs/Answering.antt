@@ -1,7 +1,7 @@
 -- The answer and the room by the rules' result, and the rules up to the document so far. Assumes nothing.
-use Rattle.buffer.proofs.Names.{ℕ, ◌+◌, ◌-◌, ◌≤◌, ◌<◌, ◌≡◌, sym, ap, ◌∙◌, Bool, true, false, ◌&&◌, List, ◌++◌, leb, ltb, length, take, length-take-le}
+use Rattle.buffer.proofs.Names.{ℕ, ◌+◌, ◌≤◌, ◌<◌, ◌≡◌, sym, ap, ◌∙◌, Bool, true, false, ◌&&◌, List, ◌++◌, leb, ltb, length, take, length-take-le}
 use Rattle.buffer.proofs.Names.{arith, le-leb, lt-leb, leb-true, ltb-false, le-ltb, lt-ltb, when◌then◌else◌, Result, gives, refused, ◌>>=◌, measured}
-use Rattle.buffer.proofs.Names.{if_true, if_false, and_left, and_right, same_test, number, open_blocks, short, utf8, Style, written, so_far, fit}
+use Rattle.buffer.proofs.Names.{if_true, if_false, and_left, number, open_blocks, short, utf8, Style, written, so_far, fit}
 use Rattle.buffer.proofs.Names.{writes, Follows, kept, pasted, longer, Accepted, Goes}
 use Rattle.std.specs.Prelude.{Result as Answer, Ok, Err, IsErrAnd}
 use Rattle.std.proofs.lemmas.Result.{err_from_is_err_and}
@@ -102,20 +102,6 @@ so_far-document {stack} s = record { left = stack; opened = s.opened }
 
 -- The room that is left
 
-module _ (room : List ℕ) (to more : ℕ) where
-  pub room_in : to + more ≤ length room → to ≤ 32768 → leb more (32768 - to) ≡ (leb (to + more) (length room) && leb (to + more) 32768)
-  room_in h k =
-      rw (le-leb (to + more) (length room) h)
-      (same_test (leb more (32768 - to)) (leb (to + more) 32768)
-      (λ e. le-leb (to + more) 32768 (omega (arith, leb-true more (32768 - to) e)))
-      (λ e. le-leb more (32768 - to) (omega (arith, leb-true (to + more) 32768 e))))
-
-  pub room_none : length room < to + more → false ≡ (leb (to + more) (length room) && leb (to + more) 32768)
-  room_none h = rw (lt-leb (to + more) (length room) h)
-
-  pub room_long : to + more ≤ length room → 32768 < to → false ≡ (leb (to + more) (length room) && leb (to + more) 32768)
-  room_long h k = rw (le-leb (to + more) (length room) h, lt-leb (to + more) 32768 (omega arith))
-
 -- the result fits, or it does not
 module _ (room x : List ℕ) (at n : ℕ) (h : at ≤ length room) (e : n ≡ at + length x) where
   pub fit_in : (leb n (length room) && leb n 32768) ≡ true → fit room (take at room ++ x) ≡ gives (take at room ++ x)
@@ -128,9 +114,6 @@ module _ (room x : List ℕ) (at n : ℕ) (h : at ≤ length room) (e : n ≡ at
 
 pub room_there : (room : List ℕ) (n : ℕ) {r : Bool} → r ≡ (leb n (length room) && leb n 32768) → r ≡ true → n ≤ length room
 room_there room n e f = leb-true n (length room) (and_left (leb n (length room)) (leb n 32768) (sym e ∙ f))
-
-pub room_small : (room : List ℕ) (n : ℕ) {r : Bool} → r ≡ (leb n (length room) && leb n 32768) → r ≡ true → n ≤ 32768
-room_small room n e f = leb-true n 32768 (and_right (leb n (length room)) (leb n 32768) (sym e ∙ f))
 
 -- Writing
 

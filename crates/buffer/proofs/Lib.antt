@@ -6,3 +6,4 @@ pub mod Records
 pub mod Blocks
 pub mod Numbers
 pub mod Positions
+pub mod Taking

@@ -1,6 +1,6 @@
 -- Names of other crates and libraries that the proofs of this crate cite, by where they are from.
 pub use Prim.Native.Nat.{◌+◌, ◌-◌, ◌/◌, ◌<◌, ◌≤◌, max, suc, zero, ℕ}
-pub use Rattle.base.proofs.Choice.{and_both, and_left, and_right, if_false, if_true, same_test}
+pub use Rattle.base.proofs.Choice.{and_both, and_left, and_right, if_false, if_true, le_or_lt, same_test}
 pub use Rattle.base.specs.Bytes.{overwritten, pasted}
 unfoldable pub use Rattle.base.specs.Choice.{when◌then◌else◌}
 pub use Rattle.base.specs.Result.{Result, gives, measured, refused}
@@ -10,6 +10,7 @@ unfoldable pub use Rattle.buffer.specs.Builder.{add, closes_block, fit, opens_bl
 pub use Rattle.buffer.specs.InnerParts.{Accepted, Goes, longer}
 unfoldable pub use Rattle.document.specs.Document.{accept, bodiless, check, closed, closes, first, open_blocks, opens, reads, short}
 pub use Rattle.records.proofs.Tables.{index_small}
+pub use Rattle.records.proofs.Tokens.{tokens-end}
 pub use Rattle.records.specs.Records.{Token, index, number}
 unfoldable pub use Rattle.records.specs.Records.{size, token_at}
 unfoldable pub use Rattle.records.specs.Stored.{end, head, little_bytes, start, stored, text}

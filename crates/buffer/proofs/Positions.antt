@@ -31,6 +31,7 @@ pub position-or-end : {X : Type 0} (stop : X → Bool) (xs : List X) {r : Option
     → r ≡ cond (ltb (position_or_len stop xs) (length xs)) (Some (position_or_len stop xs)) None → unwrap_or r (length xs) ≡ position_or_len stop xs
 position-or-end stop xs e = rw e (go (ltb (position_or_len stop xs) (length xs)) refl)
   where
-    go : (t : Bool) → ltb (position_or_len stop xs) (length xs) ≡ t → unwrap_or (cond t (Some (position_or_len stop xs)) None) (length xs) ≡ position_or_len stop xs
+    go : (t : Bool) → ltb (position_or_len stop xs) (length xs) ≡ t
+        → unwrap_or (cond t (Some (position_or_len stop xs)) None) (length xs) ≡ position_or_len stop xs
     go true e = refl
     go false e = omega (arith, position-short stop xs, ltb-false (position_or_len stop xs) (length xs) e)

@@ -1,5 +1,6 @@
 // The builder (src/buffer.rs): text, blocks and documents are added to a document in the first bytes of a lent room. A refused call
-// changes no byte of the room.
+// changes no byte of the room. (A room and its length are two parameters: each call of the C interface lends both anew and takes the length
+// back, so that a struct of both would be made, used for one call and taken apart again by every function of `sefgrunn`.)
 
 #![tactic(auto)]
 
@@ -16,7 +17,7 @@ ghost use Rattle.buffer.specs.InnerParts.{longer, Accepted, Goes};
 
 use document::{MAX_BYTES, OpenBlocks};
 use record_writer::{end_kind, start_kind};
-use records::{Block, Kind, Style};
+use records::{Block, Kind, Records, Style};
 use refusal::Refusal;
 
 // 13 when the length so far passes the room, then 1 and 2 to 7 of the document so far.
@@ -36,16 +37,8 @@ pub fn so_far(room: &[u8], len: usize) -> Result<OpenBlocks, Refusal>
 pub fn has_room(room: &[u8], to: usize, more: usize) -> bool
     ensures { result ≡ (leb (to + more) (length room.now) && leb (to + more) max_bytes) }
 {
-    if room.len() < to {
-        return false;
-    }
-    if room.len() - to < more {
-        return false;
-    }
-    if MAX_BYTES < to {
-        return false;
-    }
-    more <= MAX_BYTES - to
+    let limit = room.len().min(MAX_BYTES);
+    to <= limit && more <= limit - to
 }
 
 // Whether a record's kind is text of that style.
@@ -60,19 +53,10 @@ fn last_text(document: &[u8], style: Style) -> usize
     requires { Accepted document.now }
     ensures { Goes style document.now result }
 {
-    let mut at: usize = 0;
-    while at < document.len() {
-        let h = records::record_at(document, at);
-        let next = h.next;
-        let kind = h.kind;
-        if next == document.len() {
-            if is_text(style, kind) {
-                return at;
-            }
-        }
-        at = next;
+    match Records::of(document).last() {
+        Some(r) if is_text(style, r.kind) => r.place,
+        _ => document.len(),
     }
-    at
 }
 
 // Text in the record that starts at `last`, which is lengthened, or new where `last` is the document's length. Free are the answer and the
@@ -120,11 +104,11 @@ pub fn put_block(room: &mut [u8], len: usize, kind: usize) -> Result<usize, Refu
     if !has_room(room, len, 6) {
         return Err(Refusal::NoRoom);
     }
-    record_writer::set_head(room, len, 0, kind);
+    record_writer::set_block(room, len, kind);
     Ok(len + 6)
 }
 
-// A block's start.
+// A block's start. (Two functions: one for both would be told which of `open` and `close`, and which kind, to take.)
 pub fn open_block(room: &mut [u8], len: usize, b: Block) -> Result<usize, Refusal>
     ensures { Follows (opens_block room.old len b) room.old room.new result }
 {

@@ -1,7 +1,7 @@
 -- Records in a block added to the document so far: what is read of them, what is written, and what comes before. Assumes nothing.
-use Rattle.buffer_doc.proofs.Names.{ℕ, ◌+◌, ◌≤◌, ◌<◌, ◌≡◌, sym, ap, ap₂, ◌∙◌, subst, Bool, true, false, ◌&&◌, List, [], ◌∷◌, ◌++◌, append_assoc}
+use Rattle.buffer_doc.proofs.Names.{ℕ, ◌+◌, ◌≤◌, ◌<◌, ◌≡◌, sym, ap, ap₂, ◌∙◌, subst, true, false, ◌&&◌, List, [], ◌∷◌, ◌++◌, append_assoc}
 use Rattle.buffer_doc.proofs.Names.{append-nil, leb, length, take, drop, replicate, length-append, length-replicate, length-take-le, arith, le-leb}
-use Rattle.buffer_doc.proofs.Names.{lt-leb, lt-ltb, le-ltb, eq-eqb, Result, gives, refused, ◌>>=◌, top, pushed, popped, if_true, if_false}
+use Rattle.buffer_doc.proofs.Names.{lt-leb, eq-eqb, Result, gives, refused, ◌>>=◌, top, pushed, popped, if_true, if_false}
 use Rattle.buffer_doc.proofs.Names.{and_both, length-pushed, index, opens, closes, reads, check, start, end, around, Block}
 use Rattle.buffer_doc.proofs.Names.{verdict_refused, fit, add, adds_as, pasted, overwritten, Nests, Ready, Adds, Joins, made_of, length-stored}
 use Rattle.buffer_doc.proofs.Names.{pasted-next, length-pasted}
@@ -10,13 +10,15 @@ use Rattle.records.specs.declared.Block.TheVariants as block
 use Rattle.refusal.specs.declared.Refusal.{Refusal}
 use Rattle.refusal.specs.declared.Refusal.TheVariants as refusal
 use Rattle.refusal.specs.Answers.{answered}
-use Rattle.std.specs.Prelude.{Result as Answer, Ok, Err}
+use Rattle.std.specs.Prelude.{Option, Some, None, Result as Answer, Ok, Err}
+use Rattle.buffer_doc.specs.InnerParts.{met}
 use Rattle.base.proofs.Pasting.{overwritten_fits}
 use Rattle.buffer.proofs.Records.{reads-opening, reads-finish, reads-append, reads_before}
 use Rattle.buffer_doc.proofs.Nesting.{top_over, popped_over}
 use Rattle.buffer.proofs.Answering.{SoFar, so_far-on, follows-refused, follows_same, follows-length, fit_in, fit-out}
 use Rattle.buffer.proofs.Numbers.{low_bind, low-check, low-add, of_01}
 use Rattle.buffer.specs.Answers.{Follows, Of01}
+use Rattle.buffer_doc.specs.declared.Form.{Form}
 use Rattle.buffer.proofs.Blocks.{add-refused, add-given}
 
 -- What is read
@@ -63,12 +65,12 @@ module _ (p : ℕ) (b : Block) (x stack : List ℕ) where
         ∙ closes-pushed (p + 6 + length x) (index b) stack
 
 -- records that were found to nest, or not
-module _ {s : List ℕ} {from depth r : ℕ} (n : Nests s from depth r) (q : ℕ) (stack : List ℕ) (e : length stack ≡ depth) where
-  pub nests_deep : r < length s → reads (q + from) 0 stack (drop from s) ≡ refused 7 (q + r)
-  nests_deep h = n.reading q stack e ∙ if_true _ _ (lt-ltb r (length s) h)
+module _ {s : List ℕ} {from depth : ℕ} {r : Option ℕ} (n : Nests s from depth r) (q : ℕ) (stack : List ℕ) (e : length stack ≡ depth) where
+  pub nests_deep : {p : ℕ} → r ≡ Some p → reads (q + from) 0 stack (drop from s) ≡ refused 7 (q + p)
+  nests_deep h = n.reading q stack e ∙ ap (λ (r : Option ℕ). met r q stack) h
 
-  pub nests_given : length s ≤ r → reads (q + from) 0 stack (drop from s) ≡ gives stack
-  nests_given h = n.reading q stack e ∙ if_false _ _ (le-ltb r (length s) h)
+  pub nests_given : r ≡ None → reads (q + from) 0 stack (drop from s) ≡ gives stack
+  nests_given h = n.reading q stack e ∙ ap (λ (r : Option ℕ). met r q stack) h
 
 -- What is written
 
@@ -162,9 +164,9 @@ joins_added {records} {old} {new} {len} c a = record {
 }
 
 -- what is made of it
-pub joins_made : {x old new : List ℕ} {len depth : ℕ} {r : Answer ℕ Refusal} {em is : Bool} → em ≡ is → Joins x (made_of is x) len depth old new r
-    → Joins x (made_of em x) len depth old new r
-joins_made {x} {old} {new} {len} {depth} {r} e j = subst (λ (is : Bool). Joins x (made_of is x) len depth old new r) (sym e) j
+pub joins_made : {x old new : List ℕ} {len depth : ℕ} {r : Answer ℕ Refusal} {by is : Form} → by ≡ is → Joins x (made_of is x) len depth old new r
+    → Joins x (made_of by x) len depth old new r
+joins_made {x} {old} {new} {len} {depth} {r} e j = subst (λ (is : Form). Joins x (made_of is x) len depth old new r) (sym e) j
 
 -- its refusal is of 01
 pub joins_numbers : {x records old new : List ℕ} {len depth : ℕ} {r : Answer ℕ Refusal} → Joins x records len depth old new r → Of01 (answered r)

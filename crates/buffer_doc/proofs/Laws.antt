@@ -1,4 +1,6 @@
 -- What an accepted call gives is a document again: its open blocks, and its text, which is the old text and the new. Assumes nothing.
+use Rattle.buffer_doc.specs.declared.Form.{Form}
+use Rattle.buffer_doc.specs.declared.Form.TheVariants as form
 use Rattle.buffer_doc.proofs.Names.{ℕ, zero, suc, ◌+◌, ◌≤◌, ◌<◌, ◌≡◌, refl, sym, ap, ap₂, ◌∙◌, subst, Bool, true, false, List, [], ◌∷◌, ◌++◌}
 use Rattle.buffer_doc.proofs.Names.{append_assoc, append-nil, leb, length, take, drop, length-append, arith, eqb-true, lt-leb, part, Result, gives}
 use Rattle.buffer_doc.proofs.Names.{refused, ◌>>=◌, pushed, popped, if_true, if_false, length-pushed, Token, index, size, token_at, opens, bodiless}
@@ -297,19 +299,19 @@ first_head (b ∷ s) c =
     (_, read_whole (b ∷ s) 0 _ (omega arith) refl (size (b ∷ s)) refl (omega arith) (omega arith))
 
 -- what is added of an accepted document
-pub made_nested : (em : Bool) (x : List ℕ) → check x ≡ gives [] → Nested (made_of em x)
+pub made_nested : (by : Form) (x : List ℕ) → check x ≡ gives [] → Nested (made_of by x)
 unfolding open_blocks
-made_nested true x c = let h = first_head x c in nested_em x h.0 h.1 c
-made_nested false x c = nested_doc x 0 (check-gives x [] c).1
+made_nested form.EmDoc x c = let h = first_head x c in nested_em x h.0 h.1 c
+made_nested form.Doc x c = nested_doc x 0 (check-gives x [] c).1
 
 pub after_doc : (room : List ℕ) (n : ℕ) (x new : List ℕ) → adds_doc room n x ≡ gives new → After (take n room) new (λ stack. stack) (document_text x)
 unfolding adds_doc
-after_doc room n x new e = after-adds room n x x new (made_nested false x) e
+after_doc room n x new e = after-adds room n x x new (made_nested form.Doc x) e
 
 pub after_em_doc : (room : List ℕ) (n : ℕ) (x new : List ℕ) → adds_em_doc room n x ≡ gives new
     → After (take n room) new (λ stack. stack) (document_text (emphasised x))
 unfolding adds_em_doc
-after_em_doc room n x new e = after-adds room n x (emphasised x) new (made_nested true x) e
+after_em_doc room n x new e = after-adds room n x (emphasised x) new (made_nested form.EmDoc x) e
 
 -- text was written
 

@@ -1,12 +1,15 @@
 -- The records of a document that leaves no block open, read where some are open already: 7 is met, or nothing. Assumes nothing.
-use Rattle.buffer_doc.proofs.Names.{ℕ, ◌+◌, ◌-◌, ◌≤◌, ◌<◌, ◌≡◌, refl, sym, ap, ap₂, ◌∙◌, List, [], ◌∷◌, ◌++◌, append_assoc, append-nil, length, drop}
+use Rattle.buffer_doc.proofs.Names.{ℕ, ◌+◌, ◌-◌, ◌≤◌, ◌<◌, ◌≡◌, refl, sym, ap, ap₂, ◌∙◌, subst, List, [], ◌∷◌, ◌++◌, append_assoc, append-nil, length, drop}
 use Rattle.buffer_doc.proofs.Names.{length-append, length-drop, drop_of_length-le, take-append-add, get_or-append-add, drop-drop, arith, le-leb, lt-leb}
-use Rattle.buffer_doc.proofs.Names.{lt-ltb, le-ltb, eq-eqb, part, Result, gives, refused, ◌>>=◌, top, pushed, popped, if_true, if_false, and_both}
+use Rattle.buffer_doc.proofs.Names.{eq-eqb, part, Result, gives, refused, ◌>>=◌, top, pushed, popped, if_true, if_false, and_both}
 use Rattle.buffer_doc.proofs.Names.{length-pushed, length-popped, Token, index, size, token_at, opens, closes, bodiless, accept, first, reads, Read}
 use Rattle.buffer_doc.proofs.Names.{Kind, Head, read-token, Sane, Allowed, open_after, AcceptedAt, open_fits, open_whole, open_sane_here}
 use Rattle.buffer_doc.proofs.Names.{open_allowed, open_next, open_done, count_after, Nests, reads-some}
 use Rattle.records.specs.declared.Kind.TheVariants as kind
 use Rattle.records.proofs.Tokens.{next_at}
+use Rattle.records.specs.Records.{tokens_from}
+use Rattle.std.specs.Prelude.{Some, None}
+use Rattle.buffer.proofs.Taking.{Taken, taken, none_left}
 
 -- A stack on another
 
@@ -68,24 +71,14 @@ pub record Reached (s : List ℕ) (from depth count at : ℕ) : Type 0 where
   pub inside : at ≤ length s
   pub runs : (q : ℕ) (stack : List ℕ) → length stack ≡ depth → reads (q + from) 0 stack (drop from s) ≡ reads (q + at) 0 (stack ++ inner) (drop at s)
 
-pub reached_0 : (s : List ℕ) (from depth : ℕ) → reads from 0 [] (drop from s) ≡ gives [] → from ≤ length s → Reached s from depth depth from
-reached_0 s from depth e h = record {
-  inner = [];
-  here = record { runs = e; shallow = omega arith };
-  counts = omega arith;
-  inside = h;
-  runs = λ q stack f. ap (λ (l : List ℕ). reads (q + from) 0 l (drop from s)) (sym (append-nil stack));
-}
-
-pub reached_end : {s : List ℕ} {from depth count at : ℕ} → Reached s from depth count at → length s ≤ at → Nests s from depth at
+reached_end : {s : List ℕ} {from depth count at : ℕ} → Reached s from depth count at → length s ≤ at → Nests s from depth None
 unfolding reads
 reached_end {s} {from} {depth} {count} {at} r h = record {
-  inside = r.inside;
+  inside = tt;
   reading = λ q stack f.
       r.runs q stack f
       ∙ ap₂ (λ (l t : List ℕ). reads (q + at) 0 (stack ++ l) t) (open_done r.here h) (drop_of_length-le s h)
-      ∙ ap gives (append-nil stack)
-      ∙ sym (if_false _ _ (le-ltb at (length s) h));
+      ∙ ap gives (append-nil stack);
 }
 
 module _ {s : List ℕ} {from depth count at next : ℕ} {h : Head} (c : Reached s from depth count at) (r : Read s at h) (l : at < length s)
@@ -106,7 +99,7 @@ module _ {s : List ℕ} {from depth count at next : ℕ} {h : Head} (c : Reached
   counts-next : next ≡ depth + length (open_after h.kind c.inner)
   counts-next = n ∙ ap (count_after h.kind) c.counts ∙ count_over depth h.kind c.inner (open_allowed c.here r l)
 
-  pub reached_next : next ≤ 32 → Reached s from depth next h.next
+  reached_next : next ≤ 32 → Reached s from depth next h.next
   unfolding ◌>>=◌
   reached_next k = record {
     inner = open_after h.kind c.inner;
@@ -120,14 +113,37 @@ module _ {s : List ℕ} {from depth count at next : ℕ} {h : Head} (c : Reached
         (omega (arith, counts-next)));
   }
 
-  pub reached_deep : count ≤ 32 → 32 < next → Nests s from depth at
+  reached_deep : count ≤ 32 → 32 < next → Nests s from depth (Some at)
   unfolding ◌>>=◌
   reached_deep j k = record {
-    inside = c.inside;
+    inside = l;
     reading = λ q stack f.
         c.runs q stack f ∙ read_here q (stack ++ c.inner)
         ∙ rw
         (accept-deep (q + at) stack c.inner h.kind (part s h.start h.stop) (open_sane_here c.here r l) (open_allowed c.here r l)
-        (omega (arith, c.counts)) (omega (arith, counts-next)))
-        (sym (if_true _ _ (lt-ltb at (length s) l)));
+        (omega (arith, c.counts)) (omega (arith, counts-next)));
   }
+
+-- the same of the records that an iterator has left
+pub record On (s : List ℕ) (from depth count : ℕ) (left : List Token) : Type 0 where
+  pub at : ℕ
+  pub listed : tokens_from s at ≡ left
+  pub reached : Reached s from depth count at
+
+pub on-end : {s : List ℕ} {from depth count : ℕ} {left : List Token} → On s from depth count left → left ≡ [] → Nests s from depth None
+on-end {s} o e = reached_end o.reached (none_left s o.at (o.listed ∙ e))
+
+module _ {s : List ℕ} {from depth count next : ℕ} {t : Token} {left others : List Token} (o : On s from depth count left) (e : left ≡ t ∷ others)
+    (n : next ≡ count_after t.kind count) where
+  here : Taken s o.at t others
+  here = taken (o.listed ∙ e)
+
+  known : next ≡ count_after here.head.kind count
+  known = n ∙ ap (λ (t : Token). count_after t.kind count) (sym here.is)
+
+  pub on_next : next ≤ 32 → On s from depth next others
+  on_next k = record { at = here.head.next; listed = here.on; reached = reached_next o.reached here.read here.inside known k }
+
+  pub on_deep : count ≤ 32 → 32 < next → Nests s from depth (Some t.place)
+  on_deep j k =
+      subst (Nests s from depth) (ap (λ (t : Token). Some t.place) here.is) (reached_deep o.reached here.read here.inside known j k)

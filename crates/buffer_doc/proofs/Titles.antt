@@ -1,4 +1,5 @@
 -- `Doc::em_doc`: the first line as Emphasis, the rest in Section3; what is read of it, and what is written. Assumes nothing.
+use Rattle.std.specs.Prelude.{Option, Some, None}
 use Rattle.buffer_doc.proofs.Names.{ℕ, ◌+◌, ◌-◌, ◌≤◌, ◌<◌, ◌≡◌, refl, sym, ap, ap₂, ◌∙◌, Bool, true, false, false≢true, List, [], ◌∷◌, ◌++◌}
 use Rattle.buffer_doc.proofs.Names.{append_assoc, append-nil, length, take, drop, get_or, length-append, length-drop, take-append-drop, length-take-le}
 use Rattle.buffer_doc.proofs.Names.{take-take, drop-drop, arith, eq-eqb, ne_eqb, eqb-true, part, pasted, overwritten, when◌then◌else◌, gives, refused}
@@ -118,15 +119,15 @@ module _ {s : List ℕ} {line next : ℕ} (l : Lines s line next) where
         reads-text (q + line + 6) style.Text (part s (line + 1) next) (drop next s) inside l.more (omega (arith, length_more, l.short, l.inside))
         ∙ ap (λ (p : ℕ). reads p 0 inside (drop next s)) e
 
-    module _ {depth r : ℕ} (n : Nests s next depth r) (h : length stack < 32) (d : length stack + 1 ≡ depth) where
+    module _ {depth : ℕ} {r : Option ℕ} (n : Nests s next depth r) (h : length stack < 32) (d : length stack + 1 ≡ depth) where
       -- a block of the other records can't
-      pub titled-deep : r < length s → reads q 0 stack (titled s line next) ≡ refused 7 (q + 11 + r)
-      titled-deep k =
+      pub titled-deep : {p : ℕ} → r ≡ Some p → reads q 0 stack (titled s line next) ≡ refused 7 (q + 11 + p)
+      titled-deep {p} k =
           titled-read
-          ∙ around-deep (q + line) block.Section3 _ stack h (q + 11 + r)
+          ∙ around-deep (q + line) block.Section3 _ stack h (q + 11 + p)
           (more-read (pushed 2 stack) ∙ nests_deep n (q + 11) (pushed 2 stack) (length-pushed 2 stack ∙ d) k)
 
-      pub titled-given : length s ≤ r → reads q 0 stack (titled s line next) ≡ gives stack
+      pub titled-given : r ≡ None → reads q 0 stack (titled s line next) ≡ gives stack
       titled-given k =
           titled-read
           ∙ around-given (q + line) block.Section3 _ stack h
@@ -153,7 +154,8 @@ line_stops [] h = let z : ⊥ = omega arith in absurd z
 line_stops (b ∷ s) h = go (λ k. line_stops s k) (is_line_end b) refl h
   where
     go : (length (line s) < length s → get_or s (length (line s)) 0 ≡ 0x0A) → (t : Bool) → is_line_end b ≡ t
-        → length (when t then [] else b ∷ before is_line_end s) < length (b ∷ s) → get_or (b ∷ s) (length (when t then [] else b ∷ before is_line_end s)) 0 ≡ 0x0A
+        → length (when t then [] else b ∷ before is_line_end s) < length (b ∷ s)
+        → get_or (b ∷ s) (length (when t then [] else b ∷ before is_line_end s)) 0 ≡ 0x0A
     go rest true e h = eqb-true b 0x0A e
     go rest false e h = rest (omega arith)
 

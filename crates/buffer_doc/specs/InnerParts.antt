@@ -1,8 +1,7 @@
 -- What the functions inside this crate promise each other; no rule of 01 stands here.
-use Rattle.std.specs.Prelude.{ℕ, ◌+◌, ◌-◌, ◌≤◌, ◌<◌, ◌≡◌, Bool, true, false, List, [], ◌++◌, ltb, length, take, drop, Result}
+use Rattle.std.specs.Prelude.{ℕ, ◌+◌, ◌-◌, ◌≤◌, ◌<◌, ◌≡◌, true, List, [], ◌++◌, length, take, drop, Option, Some, None, IfSome, Result as Answer}
 use Rattle.base.specs.Bytes.{part}
-use Rattle.base.specs.Choice.{when◌then◌else◌}
-use Rattle.base.specs.Result.{gives, refused, ◌>>=◌}
+use Rattle.base.specs.Result.{Result, gives, refused, ◌>>=◌}
 use Rattle.document.specs.Document.{reads, check, max_bytes, max_open}
 use Rattle.records.specs.Stored.{head, text, start, end, around}
 use Rattle.records.specs.declared.Style.TheVariants as style
@@ -13,6 +12,8 @@ use Rattle.records.specs.declared.Block.TheVariants as block
 use Rattle.buffer.specs.Builder.{add, emphasised}
 use Rattle.buffer.specs.Answers.{Follows}
 use Rattle.refusal.specs.declared.Refusal.{Refusal}
+use Rattle.buffer_doc.specs.declared.Form.{Form}
+use Rattle.buffer_doc.specs.declared.Form.TheVariants as form
 
 -- how many blocks are open after a record
 abbrev pub count_after : Kind → ℕ → ℕ
@@ -21,12 +22,16 @@ count_after (kind.Start b) n = n + 1
 count_after (kind.End b) n = n - 1
 count_after kind.Unknown n = n
 
+-- 7 at a place, or the open blocks
+abbrev pub met : Option ℕ → ℕ → List ℕ → Result (List ℕ)
+met (Some p) q stack = refused 7 (q + p)
+met None q stack = gives stack
+
 -- The records of a document from a place on are added, at a place that is q further, to a document with so many open blocks: 7 is met
--- at r, or nothing where r is the document's length.
-pub record Nests (s : List ℕ) (from depth r : ℕ) : Type 0 where
-  pub inside : r ≤ length s
-  pub reading : (q : ℕ) (stack : List ℕ) → length stack ≡ depth
-      → reads (q + from) 0 stack (drop from s) ≡ when ltb r (length s) then refused 7 (q + r) else gives stack
+-- at r, or nothing.
+pub record Nests (s : List ℕ) (from depth : ℕ) (r : Option ℕ) : Type 0 where
+  pub inside : IfSome r (λ p. p < length s)
+  pub reading : (q : ℕ) (stack : List ℕ) → length stack ≡ depth → reads (q + from) 0 stack (drop from s) ≡ met r q stack
 
 -- a room with a document so far, and how many of its blocks are open
 pub record Ready (room : List ℕ) (len depth : ℕ) : Type 0 where
@@ -35,17 +40,17 @@ pub record Ready (room : List ℕ) (len depth : ℕ) : Type 0 where
   pub shallow : depth ≤ max_open
 
 -- records in InlineBlock were added to it, or refused, whichever blocks are open
-pub record Adds (records : List ℕ) (len depth : ℕ) (old new : List ℕ) (r : Result ℕ Refusal) : Type 0 where
+pub record Adds (records : List ℕ) (len depth : ℕ) (old new : List ℕ) (r : Answer ℕ Refusal) : Type 0 where
   pub does : (stack : List ℕ) → length stack ≡ depth
       → Follows (add old (take len old) stack (around block.InlineBlock records)) old new r
 
--- what is added of a document: what `Doc::em_doc` makes of it, or the document itself
-abbrev pub made_of : Bool → List ℕ → List ℕ
-made_of true x = emphasised x
-made_of false x = x
+-- what is added of a document: the document itself, or what `Doc::em_doc` makes of it
+abbrev pub made_of : Form → List ℕ → List ℕ
+made_of form.EmDoc x = emphasised x
+made_of form.Doc x = x
 
 -- the same after 1 to 8 of the added document
-pub record Joins (x records : List ℕ) (len depth : ℕ) (old new : List ℕ) (r : Result ℕ Refusal) : Type 0 where
+pub record Joins (x records : List ℕ) (len depth : ℕ) (old new : List ℕ) (r : Answer ℕ Refusal) : Type 0 where
   pub does : (stack : List ℕ) → length stack ≡ depth
       → Follows (check x >>= λ _. add old (take len old) stack (around block.InlineBlock records)) old new r
 

@@ -19,9 +19,16 @@ ghost use Rattle.buffer.specs.InnerParts.{Accepted};
 ghost use Rattle.buffer_doc.specs.InnerParts.{count_after, section, titled, Nests, Ready, Lines, Adds, Joins, made_of};
 
 use document::{MAX_BYTES, MAX_OPEN};
-use record_writer::{set_end, set_head, set_start};
-use records::{Block, Kind, Style};
+use record_writer::{end_kind, set_block, set_head, start_kind};
+use records::{Block, Kind, Records, Style};
 use refusal::Refusal;
+
+// How a document is added: as `Doc::doc` does, or as `Doc::em_doc` does.
+#[derive(Clone, Copy, Debug, PartialEq, Eq)]
+pub enum Form {
+    Doc,
+    EmDoc,
+}
 
 // How many blocks are open after a record.
 fn counted(kind: Kind, count: usize) -> usize
@@ -35,25 +42,23 @@ fn counted(kind: Kind, count: usize) -> usize
     }
 }
 
-// Where the first record from `from` on stands that starts a block with 32 open, if `depth` are open before; else the document's length.
-fn too_deep(document: &[u8], from: usize, depth: usize) -> usize
+// Where the first record from `from` on stands that starts a block with 32 open, if `depth` are open before.
+fn too_deep(document: &[u8], from: usize, depth: usize) -> Option<usize>
     requires { (reads from 0 [] (drop from document.now) ≡ gives []) × (from ≤ length document.now) × (depth ≤ max_open) }
     ensures { Nests document.now from depth result }
 {
     let mut count = depth;
-    let mut at = from;
-    while at < document.len() {
-        let h = records::record_at(document, at);
-        count = counted(h.kind, count);
+    for r in Records::from_place(document, from) {
+        count = counted(r.kind, count);
         if MAX_OPEN < count {
-            return at;
+            return Some(r.place);
         }
-        at = h.next;
     }
-    at
+    None
 }
 
-// A document in InlineBlock after the document so far, where `depth` blocks are open.
+// A document in InlineBlock after the document so far, where `depth` blocks are open. (`Ready` stands in four contracts, since it speaks of the lent
+// room, which a type of a length and a depth does not hold; with the room it would be made anew for each call, as `buffer` says.)
 fn put_doc(room: &mut [u8], len: usize, depth: usize, added: &[u8]) -> Result<usize, Refusal>
     requires { Ready room.old len depth × (check added.now ≡ gives []) }
     ensures { Adds added.now len depth room.old room.new result }
@@ -61,16 +66,15 @@ fn put_doc(room: &mut [u8], len: usize, depth: usize, added: &[u8]) -> Result<us
     if MAX_OPEN <= depth {
         return Err(Refusal::TooDeep(len));
     }
-    let deep = too_deep(added, 0, depth + 1);
-    if deep < added.len() {
+    if let Some(deep) = too_deep(added, 0, depth + 1) {
         return Err(Refusal::TooDeep(len + 6 + deep));
     }
     if !buffer::has_room(room, len + 12, added.len()) {
         return Err(Refusal::NoRoom);
     }
-    set_start(room, len, Block::InlineBlock);
+    set_block(room, len, start_kind(Block::InlineBlock));
     base::copy_from_slice(room, len + 6, added);
-    set_end(room, len + 6 + added.len(), Block::InlineBlock);
+    set_block(room, len + 6 + added.len(), end_kind(Block::InlineBlock));
     Ok(len + 12 + added.len())
 }
 
@@ -86,7 +90,7 @@ fn put_title(room: &mut [u8], at: usize, title: &[u8])
     requires { at + 12 + length title.now ≤ length room.old }
     ensures { room.new ≡ pasted room.old at (start block.InlineBlock ++ text style.Emphasis title.now) }
 {
-    set_start(room, at, Block::InlineBlock);
+    set_block(room, at, start_kind(Block::InlineBlock));
     set_head(room, at + 6, title.len(), Style::Emphasis.number());
     base::copy_from_slice(room, at + 12, title);
 }
@@ -103,7 +107,7 @@ fn put_line(room: &mut [u8], len: usize, depth: usize, body: &[u8]) -> Result<us
         return Err(Refusal::NoRoom);
     }
     put_title(room, len, body);
-    set_end(room, len + 12 + body.len(), Block::InlineBlock);
+    set_block(room, len + 12 + body.len(), end_kind(Block::InlineBlock));
     Ok(len + 18 + body.len())
 }
 
@@ -112,11 +116,11 @@ fn put_section(room: &mut [u8], at: usize, size: usize, rest: &[u8])
     requires { at + 24 + length rest.now ≤ length room.old }
     ensures { room.new ≡ pasted room.old at (section size rest.now) }
 {
-    set_start(room, at, Block::Section3);
+    set_block(room, at, start_kind(Block::Section3));
     set_head(room, at + 6, size, Style::Text.number());
     base::copy_from_slice(room, at + 12, rest);
-    set_end(room, at + 12 + rest.len(), Block::Section3);
-    set_end(room, at + 18 + rest.len(), Block::InlineBlock);
+    set_block(room, at + 12 + rest.len(), end_kind(Block::Section3));
+    set_block(room, at + 18 + rest.len(), end_kind(Block::InlineBlock));
 }
 
 // The first record of a document, text with a `\n` at `line` that ends at `next`: its first line as Emphasis, the rest in Section3.
@@ -137,8 +141,7 @@ fn put_lines(
     if 31 <= depth {
         return Err(Refusal::TooDeep(len + 6 + line));
     }
-    let deep = too_deep(added, next, depth + 2);
-    if deep < added.len() {
+    if let Some(deep) = too_deep(added, next, depth + 2) {
         return Err(Refusal::TooDeep(len + 17 + deep));
     }
     if !buffer::has_room(room, len + 29, added.len()) {
@@ -173,10 +176,10 @@ pub fn add(
     len: usize,
     depth: usize,
     added: &[u8],
-    em: bool,
+    form: Form,
 ) -> Result<usize, Refusal>
     ensures numbers { Of01 (answered result) }
-    ensures does { Ready room.old len depth → Joins added.now (made_of em added.now) len depth room.old room.new result }
+    ensures does { Ready room.old len depth → Joins added.now (made_of form added.now) len depth room.old room.new result }
 {
     if room.len() < len {
         return Err(Refusal::NoRoom);
@@ -188,30 +191,30 @@ pub fn add(
         return Err(Refusal::NoRoom);
     }
     document::check(added)?;
-    if em {
-        return put_em_doc(room, len, depth, added);
+    match form {
+        Form::Doc => put_doc(room, len, depth, added),
+        Form::EmDoc => put_em_doc(room, len, depth, added),
     }
-    put_doc(room, len, depth, added)
 }
 
 // 13 when the length so far passes the room, 1 and 2 to 7 of the document so far, then as above.
-fn joined(room: &mut [u8], len: usize, added: &[u8], em: bool) -> Result<usize, Refusal>
-    ensures { Follows (adds_as room.old len added.now (made_of em added.now)) room.old room.new result }
+fn joined(room: &mut [u8], len: usize, added: &[u8], form: Form) -> Result<usize, Refusal>
+    ensures { Follows (adds_as room.old len added.now (made_of form added.now)) room.old room.new result }
 {
     let blocks = buffer::so_far(room, len)?;
-    add(room, len, blocks.depth(), added, em)
+    add(room, len, blocks.depth(), added, form)
 }
 
 // A document, as `Doc::doc` adds it.
 pub fn doc(room: &mut [u8], len: usize, added: &[u8]) -> Result<usize, Refusal>
     ensures { Follows (adds_doc room.old len added.now) room.old room.new result }
 {
-    joined(room, len, added, false)
+    joined(room, len, added, Form::Doc)
 }
 
 // A document, as `Doc::em_doc` adds it.
 pub fn em_doc(room: &mut [u8], len: usize, added: &[u8]) -> Result<usize, Refusal>
     ensures { Follows (adds_em_doc room.old len added.now) room.old room.new result }
 {
-    joined(room, len, added, true)
+    joined(room, len, added, Form::EmDoc)
 }

@@ -42,6 +42,7 @@ fn holds(room: &[u8], text: &[u8]) -> bool
 pub fn is_refusal(a: Refusal, number: usize, place: usize) -> bool
     ensures { result ≡ is_refusal a number place }
 {
+    // `as`, since Rust has no From between the two
     a.number() as usize == number && a.place() == place
 }
 

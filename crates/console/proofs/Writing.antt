@@ -90,7 +90,8 @@ module _ (set : Settings) (x : List ℕ) (margin start : ℕ) (room₀ : List �
 
       -- a function that ends by a `?` there
       pub written-refused : (room' : List ℕ) (r : Answer Mark Refusal) (a : Refusal) → IsErrAnd r (λ e. e ≡ a)
-          → ((kept : List ℕ) → refused (refusal_number a) (refusal_place a) ≡ (state_at room kept m >>= rule (placed_of x p))) → Written set x margin start room₀ m₀ room' r
+          → ((kept : List ℕ) → refused (refusal_number a) (refusal_place a) ≡ (state_at room kept m >>= rule (placed_of x p)))
+          → Written set x margin start room₀ m₀ room' r
       written-refused room' r a h f =
           let q = err_from_is_err_and r h in
           rw (q.1, q.2)

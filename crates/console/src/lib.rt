@@ -150,6 +150,7 @@ fn put_body(
         at: 0,
         code: Code::No,
     };
+    // A loop by the cursor: words move it past the splitter, so that the iterator over the chunks cannot be read.
     loop {
         let run = console_words::put_words(room, m, margin, body, cursor, set);
         m = run.mark;

@@ -1,15 +1,10 @@
 -- The bound as code counts it, record by record. Assumes nothing.
-use Rattle.console_bound.proofs.Names.{ℕ, ◌+◌, ◌*◌, ◌-◌, ◌≤◌, ◌<◌, ◌≡◌, refl, sym, ap, ◌∙◌, Bool, true, false, ◌||◌, List, length, drop}
+use Rattle.console_bound.proofs.Names.{ℕ, zero, suc, ◌+◌, ◌*◌, ◌-◌, ◌≤◌, ◌≡◌, refl, sym, ap, ◌∙◌, Bool, true, false, ◌||◌, List, [], ◌∷◌, length, take, drop}
 use Rattle.console_bound.proofs.Names.{length-append, length-drop, arith, when◌then◌else◌, Result, gives, refused, measured, ◌>>=◌, pick, Token, tokens}
-use Rattle.console_bound.proofs.Names.{tokens_from, is_start, is_end, joined, Kind, check, console, ref, refs, bound_on, bound, room_bound}
+use Rattle.console_bound.proofs.Names.{size, token_at, is_start, is_end, joined, Kind, check, console, ref, refs, bound_on, bound, room_bound}
 use Rattle.std.specs.Int.{from_bool}
-use lib.Seq.{length-take-le}
-use Rattle.base.specs.Bytes.{part}
 use Rattle.base.proofs.Results.{bind_gives, gives_same, refused-gives}
-use Rattle.records.specs.Answers.{Read}
-use Rattle.records.specs.declared.Head.{Head}
-use Rattle.records.proofs.Reading.{read_next}
-use Rattle.records.proofs.Tokens.{tokens-end}
+use lib.ListN.{length-take}
 use Rattle.console_bound.specs.Answers.{Enough}
 use Rattle.console_bound.proofs.Room.{console_by_room, console_by-within, console_room}
 
@@ -22,45 +17,59 @@ from_bool-ref k = go (is_start 9 k || is_end 9 k)
     go true = refl
     go false = refl
 
-pub ref_small : (k : Kind) → ref k ≤ 1
+ref_small : (k : Kind) → ref k ≤ 1
 unfolding ref
 ref_small k = pick (λ (n : ℕ). n ≤ 1) _ (λ _. omega arith) (λ _. omega arith)
 
--- so many bytes of text and so many TermRefs stand before a place, and the others from there on
-pub record Counted (s : List ℕ) (at bytes ticks : ℕ) : Type 0 where
-  pub rest : bytes + length (joined (tokens_from s at)) ≡ length (joined (tokens 0 0 s))
-  pub others : ticks + refs (tokens_from s at) ≡ refs (tokens 0 0 s)
-  pub few : (bytes ≤ at) × (ticks ≤ at) × (at ≤ length s)
+-- the records of some bytes, of which the first are passed over: each has six bytes beside its body
+records_bound : (s : List ℕ) (p pass : ℕ) → 54 * length (joined (tokens p pass s)) + refs (tokens p pass s) ≤ 54 * (length s - pass)
+unfolding tokens joined refs token_at
+records_bound [] p pass = omega arith
+records_bound (b ∷ s) p (suc pass) = omega (arith, records_bound s (p + 1) pass)
+records_bound (b ∷ s) p zero =
+    let n = size (b ∷ s) in
+    let t = take n (drop 6 (b ∷ s)) in
+    let k = length-take n (drop 6 (b ∷ s)) in
+    let l = length-drop 6 (b ∷ s) in
+    omega (arith, length-append t (joined (tokens (p + 1) (5 + n) s)), k, l, ref_small (token_at p (b ∷ s)).kind, records_bound s (p + 1) (5 + n))
 
-pub counted_none : (s : List ℕ) → Counted s 0 0 0
-counted_none s = record { rest = omega arith; others = omega arith; few = (omega arith, omega arith, omega arith) }
+pub bound_small : (s : List ℕ) → bound s ≤ 54 * length s + 1
+unfolding bound bound_on
+bound_small s = omega (arith, records_bound s 0 0)
 
--- a record more
-pub counted-on : (s : List ℕ) (at bytes ticks : ℕ) (h : Head) (n : ℕ) → Read s at h → at < length s → n ≡ ref h.kind → Counted s at bytes ticks
-    → Counted s h.next (bytes + (h.stop - h.start)) (ticks + n)
-unfolding joined refs
-counted-on s at bytes ticks h n r l f c =
-    let e = read_next r l in
-    let b = part s h.start h.stop in
-    let rest = tokens_from s h.next in
-    let m : length b ≡ h.stop - h.start =
-    length-take-le (h.stop - h.start) (drop h.start s) (omega (arith, length-drop h.start s, r.high, r.ends)) in
-    let t : length (joined (tokens_from s at)) ≡ length b + length (joined rest) =
-    ap (λ (ts : List Token). length (joined ts)) e ∙ length-append b (joined rest) in
-    let k : refs (tokens_from s at) ≡ ref h.kind + refs rest = ap refs e in
-    record {
-      rest = omega (arith, c.rest);
-      others = omega (arith, c.others);
-      few = (omega (arith, c.few.0, r.low l, r.order, r.ends), omega (arith, c.few.1, r.low l, r.order, ref_small h.kind), r.high);
-    }
+-- so many bytes of text and so many TermRefs, which are few, stand before the records that are left, and the others in these
+pub record Counted (s : List ℕ) (left : List Token) (bytes ticks : ℕ) : Type 0 where
+  pub rest : bytes + length (joined left) ≡ length (joined (tokens 0 0 s))
+  pub others : ticks + refs left ≡ refs (tokens 0 0 s)
+  pub few : 54 * bytes + ticks ≤ 54 * length s
 
--- none is left
-pub counted_all : (s : List ℕ) (at bytes ticks : ℕ) → length s ≤ at → Counted s at bytes ticks → 54 * bytes + ticks + 1 ≡ bound s
-unfolding joined refs bound_on bound
-counted_all s at bytes ticks h c =
-    let t : length (joined (tokens_from s at)) ≡ 0 = ap (λ (ts : List Token). length (joined ts)) (tokens-end s at h) in
-    let k : refs (tokens_from s at) ≡ 0 = ap refs (tokens-end s at h) in
-    omega (arith, c.rest, c.others)
+pub counted_none : (s : List ℕ) {left : List Token} → left ≡ tokens 0 0 s → Counted s left 0 0
+counted_none s e =
+    let f = ap (λ (ts : List Token). length (joined ts)) e in
+    let g = ap refs e in
+    record { rest = omega arith; others = omega arith; few = omega arith }
+
+module _ {s : List ℕ} {left : List Token} {bytes ticks : ℕ} (c : Counted s left bytes ticks) where
+  -- a record more
+  pub counted_on : {t : Token} {rest : List Token} (n : ℕ) → left ≡ t ∷ rest → n ≡ ref t.kind → Counted s rest (bytes + length t.body) (ticks + n)
+  unfolding joined refs
+  counted_on {t} {rest} n e f =
+      let m : length (joined left) ≡ length t.body + length (joined rest) =
+      ap (λ (ts : List Token). length (joined ts)) e ∙ length-append t.body (joined rest) in
+      let k : refs left ≡ ref t.kind + refs rest = ap refs e in
+      record {
+        rest = omega (arith, c.rest);
+        others = omega (arith, c.others);
+        few = omega (arith, records_bound s 0 0, c.rest, c.others);
+      }
+
+  -- none is left
+  pub counted_all : left ≡ [] → 54 * bytes + ticks + 1 ≡ bound s
+  unfolding joined refs bound_on bound
+  counted_all e =
+      let t : length (joined left) ≡ 0 = ap (λ (ts : List Token). length (joined ts)) e in
+      let k : refs left ≡ 0 = ap refs e in
+      omega (arith, c.rest, c.others)
 
 -- The answer
 

@@ -9,7 +9,7 @@ ghost use Rattle.console_bound.specs.Answers.{Enough};
 ghost use Rattle.refusal.specs.Answers.{answered};
 ghost use Rattle.document.specs.Document.{max_bytes};
 
-use records::{Block, Kind};
+use records::{Block, Kind, Records};
 use refusal::Refusal;
 
 // Whether a record is a TermRef's start or end.
@@ -33,13 +33,9 @@ fn bound_of(document: &[u8]) -> usize
 {
     let mut bytes: usize = 0;
     let mut refs: usize = 0;
-    let mut at: usize = 0;
-    while at < document.len() {
-        let h = records::record_at(document, at);
-        let kind = h.kind;
-        bytes += h.stop - h.start;
-        refs += ref_of(kind);
-        at = h.next;
+    for r in Records::of(document) {
+        bytes += r.body.len();
+        refs += ref_of(r.kind);
     }
     54 * bytes + refs + 1
 }

@@ -1,5 +1,6 @@
 -- The steps of a chunk, by the tests that the code makes. Assumes nothing.
-use Rattle.std.proofs.Common.{◌≡◌, ℕ, zero, suc, ◌+◌, ◌-◌, ◌<◌, ◌≤◌, true, false, ◌||◌, eqb, ltb, List, [], ◌∷◌, length, get_or, take, replicate, sym, refl, ◌∙◌, ⊎_elim, arith, le-ltb, lt-ltb, le-leb}
+use Rattle.std.proofs.Common.{◌≡◌, ℕ, zero, suc, ◌+◌, ◌-◌, ◌<◌, ◌≤◌, true, false, ◌||◌, eqb, ltb, List, [], ◌∷◌, length}
+use Rattle.std.proofs.Common.{get_or, take, replicate, sym, refl, ◌∙◌, ⊎_elim, arith, le-ltb, lt-ltb, le-leb}
 use Rattle.std.specs.Prelude.{Result as Answer, Ok, Err}
 use mathlib.Core.Bool.{and-false}
 use borrow.Author.Tests.{lt-leb}

@@ -19,6 +19,9 @@ use splitter::Piece;
 
 // How far the text in a room has come, in bytes, and what is kept beside it. A length past the room says that the text was longer than the
 // room. Bytes and columns are kept apart by their types; the functions of `room`, which know no columns, take the number of bytes alone.
+// The room goes beside the mark, as `(room: &mut [u8], m: Mark)`. Tried in its place: a struct with methods that holds a `room::Text` and the lay
+// takes 0.95 to 1.02 of the time, but the walk over the records does not prove, since of a struct within a struct the room's lender learns nothing. One
+// that holds a `&mut Text` proves, and the console takes up to 11 % longer, 6 to 11 % on options-30k (4 to 5 with one call of `put_chunk`).
 #[derive(Clone, Copy)]
 pub struct Mark {
     pub len: Bytes,

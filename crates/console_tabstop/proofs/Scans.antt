@@ -1,7 +1,7 @@
 -- The records ahead, and the count of the tabstop. Assumes nothing.
 use mathlib.Core.Path.{◌≡◌, refl, sym, ap, ◌∙◌}
 use mathlib.Core.Bool.{true, false, ◌&&◌, false≢true}
-use mathlib.Core.List.{List, ◌∷◌}
+use mathlib.Core.List.{List, [], ◌∷◌}
 use Prim.Native.Nat.{ℕ, ◌+◌, ◌≤◌, ◌<◌}
 use native.Mathlib.Omega.{arith}
 use lib.Dec.{leb, ltb, eqb}
@@ -11,7 +11,7 @@ use Rattle.base.specs.Bytes.{part}
 use Rattle.base.specs.Choice.{when◌then◌else◌}
 use Rattle.base.proofs.Choice.{pick, if_true, if_false, and_right}
 use Rattle.utf8.specs.Utf8.{characters}
-use Rattle.records.specs.Records.{index, tokens_from, is_text, is_start, is_end}
+use Rattle.records.specs.Records.{Token, index, tokens_from, is_text, is_start, is_end}
 use Rattle.records.specs.Answers.{Read, token_of}
 use Rattle.records.specs.declared.Head.{Head}
 use Rattle.records.specs.declared.Block.{Block}
@@ -36,10 +36,6 @@ module _ (s : List ℕ) (at : ℕ) (h : Head) (r : Read s at h) (inside : at < l
   unfolding gap_ahead
   gap_here e = ap gap_ahead listed ∙ if_true _ _ e
 
-  pub empty-one : length s ≤ h.next → empty_block (tokens_from s at) ≡ false
-  unfolding empty_block
-  empty-one e = ap empty_block (listed ∙ ap (λ ts. token_of s at h ∷ ts) (tokens-end s h.next e))
-
   pub terms-next : (t : Terms) → terms (tokens_from s h.next) (term h.kind (part s h.start h.stop) t) ≡ terms (tokens_from s at) t
   unfolding terms
   terms-next t = sym (ap (λ ts. terms ts t) listed)
@@ -54,10 +50,19 @@ module _ (s : List ℕ) (at : ℕ) (h : Head) (r : Read s at h) (inside : at < l
   unfolding settled_from
   settled-later n t e = ap (λ ts. settled_from n ts t) listed ∙ if_false _ _ e
 
-pub empty-two : (s : List ℕ) (at : ℕ) (h g : Head) → Read s at h → at < length s → Read s h.next g → h.next < length s
-    → empty_block (tokens_from s at) ≡ (is_start 7 h.kind && is_end 7 g.kind)
+-- the first records that are left, as an iterator gives them
+pub first-none : {left : List Token} → left ≡ [] → false ≡ empty_block left
 unfolding empty_block
-empty-two s at h g r i q j = ap empty_block (listed s at h r i ∙ ap (λ ts. token_of s at h ∷ ts) (listed s h.next g q j))
+first-none e = sym (ap empty_block e)
+
+pub first-one : {left others : List Token} {t : Token} → left ≡ t ∷ others → others ≡ [] → false ≡ empty_block left
+unfolding empty_block
+first-one {t = t} e f = sym (ap empty_block (e ∙ ap (λ ts. t ∷ ts) f))
+
+pub first-two : {left others rest : List Token} {t u : Token} → left ≡ t ∷ others → others ≡ u ∷ rest
+    → empty_block left ≡ (is_start 7 t.kind && is_end 7 u.kind)
+unfolding empty_block
+first-two {t = t} e f = ap empty_block (e ∙ ap (λ ts. t ∷ ts) f)
 
 -- past the end there is none
 module _ (s : List ℕ) (at : ℕ) (past : length s ≤ at) where

@@ -5,13 +5,14 @@
 ghost use Rattle.std.specs.Prelude.{◌≡◌, false, ◌+◌, ◌-◌, ◌≤◌, ◌<◌, ◌^◌, length};
 ghost use Rattle.records.specs.Records.{index, is_text, is_start, is_end, kind_of, tokens, tokens_from};
 ghost use Rattle.records.specs.declared.Block.TheVariants as block;
-ghost use Rattle.console_rules.specs.Console.{term_start, term_end, term, terms, settles, tabstop, settled_from, settled_at, tabstop_in, settled_in, empty_block, gap_ahead, max_tab};
+ghost use Rattle.console_rules.specs.Console.{term_start, term_end, term, terms, settles, tabstop, settled_from, settled_at, tabstop_in, settled_in};
+ghost use Rattle.console_rules.specs.Console.{empty_block, gap_ahead, max_tab};
 ghost use Rattle.console_tabstop.specs.Answers.{tabstop_of, settled_of};
 ghost use Rattle.console_tabstop.specs.InnerCounted.{terms_of};
 ghost use Rattle.console_tabstop.specs.InnerAhead.{Ahead, Known};
 
 use console_rules::{Columns, MAX_TAB, MAX_TABSTOP};
-use records::{Block, Kind};
+use records::{Block, Kind, Records};
 use refusal::Refusal;
 
 // Whether a record is a Block's start, and whether it is a Block's end.
@@ -31,18 +32,25 @@ fn ends_block(k: Kind) -> bool
 fn empty_block(document: &[u8], at: usize) -> bool
     ensures { result ≡ empty_block (tokens_from document.now at) }
 {
-    if document.len() <= at {
+    let mut records = Records::from_place(document, at);
+    let Some(a) = records.next() else {
         return false;
-    }
-    let a = records::record_at(document, at);
-    if document.len() <= a.next {
+    };
+    let Some(b) = records.next() else {
         return false;
-    }
-    let b = records::record_at(document, a.next);
+    };
     starts_block(a.kind) && ends_block(b.kind)
 }
 
-// Where the records after the next end of a Section4 begin; the document's length where there is none. Only kinds and lengths are read.
+// Kinds as numbers, since only lengths and these kinds are looked for: with whole records read so, the console takes 0.90 to 1.01 of what it takes with
+// each kind taken apart (docs/COSTS.md), so that the three loops below are no `for` over `Records`.
+const SECTION4_END: usize = 0x0203;
+
+const TERM_START: usize = 0x0104;
+
+const TERM_END: usize = 0x0204;
+
+// Where the records after the next end of a Section4 begin, or the document's end: no record follows where there is no such end.
 fn section_end(document: &[u8], at: usize) -> usize
     ensures { Ahead document.now at result }
 {
@@ -50,7 +58,7 @@ fn section_end(document: &[u8], at: usize) -> usize
     while i < document.len() {
         let h = records::raw_at(document, i);
         let next = h.next;
-        if h.code == 0x0203 {
+        if h.code == SECTION4_END {
             return next;
         }
         i = next;
@@ -88,7 +96,7 @@ pub fn gap_ahead(document: &[u8], next: usize, b: Block, known: &mut usize) -> b
 
 // The widest term so far, whether a term is being counted (1 where it is), and its characters so far. A number, since the padding of a `bool` costs in
 // what a loop carries.
-#[derive(Clone, Copy)]
+#[derive(Clone, Copy, Default)]
 struct Terms {
     widest: usize,
     counting: usize,
@@ -99,18 +107,18 @@ struct Terms {
 fn term_start(t: Terms) -> Terms
     ensures { terms_of result ≡ term_start block.ItemTerm (terms_of t) }
 {
-    let mut r = t;
-    r.counting = 1;
-    r.counted = 0;
-    r
+    Terms {
+        counting: 1,
+        counted: 0,
+        ..t
+    }
 }
 
 // 'its end stops the count', and the widest of at most 24 characters is kept.
 fn term_end(t: Terms) -> Terms
     ensures { terms_of result ≡ term_end block.ItemTerm (terms_of t) }
 {
-    let mut r = t;
-    r.counting = 0;
+    let mut r = Terms { counting: 0, ..t };
     if t.widest < t.counted && t.counted <= MAX_TAB {
         r.widest = t.counted;
     }
@@ -129,10 +137,10 @@ fn term_on(t: Terms, code: usize, body: &[u8]) -> Terms
     requires { t.counted + length body.now < 2 ^ 64 }
     ensures { terms_of result ≡ term (kind_of code) body.now (terms_of t) }
 {
-    if code == 0x0104 {
+    if code == TERM_START {
         return term_start(t);
     }
-    if code == 0x0204 {
+    if code == TERM_END {
         return term_end(t);
     }
     let mut r = t;
@@ -146,7 +154,7 @@ fn term_on(t: Terms, code: usize, body: &[u8]) -> Terms
 fn settles(t: Terms, code: usize) -> bool
     ensures { result ≡ settles (kind_of code) (terms_of t) }
 {
-    code == 0x0204 && t.counted == MAX_TAB
+    code == TERM_END && t.counted == MAX_TAB
 }
 
 // The tabstop, and the start of the record that settles it, or the document's length.
@@ -191,11 +199,7 @@ fn find_tabstop(document: &[u8]) -> Tabstop
     ensures tabstop { (result.columns.0 ≡ tabstop (tokens 0 0 document.now)) × (result.columns.0 ≤ max_tab + 4) }
     ensures settled { result.at ≡ settled_at (length document.now) (tokens 0 0 document.now) }
 {
-    let mut t = Terms {
-        widest: 0,
-        counting: 0,
-        counted: 0,
-    };
+    let mut t = Terms::default();
     let mut at: usize = 0;
     while at < document.len() {
         if !records::fits_at(document, at) {
@@ -225,8 +229,7 @@ fn find_tabstop(document: &[u8]) -> Tabstop
 pub fn tabstop_of(document: &[u8]) -> Columns
     ensures { (result.0 ≡ tabstop (tokens 0 0 document.now)) × (result.0 ≤ max_tab + 4) }
 {
-    let found = find_tabstop(document);
-    found.columns
+    find_tabstop(document).columns
 }
 
 // Refusals 1 to 8, then the search.

@@ -1,6 +1,7 @@
 -- What the functions of this crate promise each other and the console's walk; no rule of 01 stands here.
 use Rattle.std.specs.Prelude.{ℕ, ◌+◌, ◌-◌, ◌≤◌, ◌<◌, ◌≡◌, Bool, true, false, List, length}
-use Rattle.base.specs.Result.{Result, ◌>>=◌}
+use Rattle.base.specs.Result.{Result, gives, ◌>>=◌}
+use Rattle.room.specs.Lent.{Given, Lent}
 use Rattle.splitter.specs.Split.{Placed}
 use Rattle.splitter.specs.Answers.{placed_from, cursor}
 use Rattle.splitter.specs.declared.Code.{Code}
@@ -40,13 +41,17 @@ pub record Plain (col : ℕ) (t : Task) (l : Lay) : Type 0 where
   pub quiet : Quiet t.margin l
   pub here : l.column.0 ≡ col
 
+-- something stands in a room
+pub record Some (v : Lent) : Type 0 where
+  pub inside : Given v.shown
+  pub some : (o : List ℕ) → v.shown ≡ gives o → 0 < length o
+
 -- Words went on from one place to another, and the column with them.
-pub record LineAdvance (set : Settings) (x : List ℕ) (old : List ℕ) (len col at : ℕ) (new : List ℕ) (len' col' at' : ℕ) : Type 0 where
-  pub some : 0 < len'
-  pub inside : len' ≤ length old
+pub record LineAdvance (set : Settings) (x : List ℕ) (old : Lent) (col at : ℕ) (new : Lent) (col' at' : ℕ) : Type 0 where
+  pub there : Some new
   pub grows : col ≤ col'
   pub near : col' ≤ col + (at' - at)
-  pub words : words.Advance (full_of set) (rule_of set) (Plain col) (with_column col') x old len at new len' at'
+  pub words : words.Advance (full_of set) (rule_of set) (Plain col) (with_column col') x old at new at'
 
 -- a word would follow at once
 pub record Ready (room : List ℕ) (m : Mark) (margin : ℕ) (c : Code) : Type 0 where

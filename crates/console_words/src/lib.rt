@@ -3,53 +3,46 @@
 
 #![tactic(auto)]
 
-ghost use Rattle.std.specs.Prelude.{◌<◌, ◌≤◌, length};
-ghost use Rattle.console_words.specs.InnerAdvance.{LineAdvance, Ahead, Moves};
+ghost use Rattle.room.specs.Lent.{text_of};
+ghost use Rattle.console_words.specs.InnerAdvance.{LineAdvance, Some, Ahead, Moves};
 
 use console_chunks::Mark;
 use console_rules::{Bytes, Columns, Settings};
+use room::Text;
 use splitter::{Code, Cursor};
 
-// How far the text, the column and the walk of a body have come.
+// How far the column and the walk of a body have come.
 #[derive(Clone, Copy)]
 struct LineFilled {
-    len: Bytes,
     column: Columns,
     at: usize,
 }
 
 // Words and spaces as long as they fit on the line and into the room, run after run. A run has no more bytes than the line has columns left, so
 // that none of its chunks folds, whichever the measure. Where its columns are as many as its bytes, no further run fits.
-fn fill_line(
-    room: &mut [u8],
-    len: Bytes,
-    column: Columns,
-    body: &[u8],
-    from: usize,
-    set: Settings,
-) -> LineFilled
-    requires { (0 < len.0) × (len.0 ≤ length room.old) }
-    ensures { LineAdvance set body.now room.old len.0 column.0 from room.new result.len.0 result.column.0 result.at }
+fn fill_line(t: &mut Text, column: Columns, body: &[u8], from: usize, set: Settings) -> LineFilled
+    requires { Some (text_of t.old) }
+    ensures { LineAdvance set body.now (text_of t.old) column.0 from (text_of t.new) result.column.0 result.at }
 {
-    let mut len = len;
     let mut column = column;
     let mut at = from;
+    // A loop by its place: how far a run goes is known only once it is copied. The free part is lent to `words::copy_run`: with `words::put_run`, which
+    // tests at each run whether the text is full, the console takes 1 to 12 % longer.
     while at < body.len() {
         if set.width <= column.0 || body[at] == b'\n' {
             break;
         }
-        let run = words::copy_run(room, len.0, body, at, set.width - column.0);
-        let n = run.to - at;
-        let longer = len.0 + n;
-        let wider = column.0 + run.width;
-        len = Bytes(longer);
-        column = Columns(wider);
-        at = run.to;
-        if run.width == n {
+        let len = t.len;
+        let room = &mut *t.room;
+        let run = words::copy_run(&mut room[len..], &body[at..], set.width - column.0);
+        t.len = len + run.len;
+        column = Columns(column.0 + run.width);
+        at += run.len;
+        if run.width == run.len {
             break;
         }
     }
-    LineFilled { len, column, at }
+    LineFilled { column, at }
 }
 
 // Whether a word would follow on the line at once: something is written, nothing is due, no column is missing to the margin.
@@ -88,9 +81,10 @@ pub fn put_words(
             at: cursor.at,
         };
     }
-    let line = fill_line(room, m.len, m.lay.column, body, cursor.at, set);
+    let mut t = Text { room, len: m.len.0 };
+    let line = fill_line(&mut t, m.lay.column, body, cursor.at, set);
     let mut mark = m;
-    mark.len = line.len;
+    mark.len = Bytes(t.finish());
     mark.lay.column = line.column;
     Run { mark, at: line.at }
 }

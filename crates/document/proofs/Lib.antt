@@ -1,4 +1,5 @@
 mod Names
 pub mod Refusals
 pub mod Opening
+pub mod Held
 pub mod Walks

@@ -20,21 +20,22 @@ pub const MAX_BYTES: usize = 32_768;
 // 'At most .. 32 open blocks'
 pub const MAX_OPEN: usize = 32;
 
-// The blocks that are open, by their indices, the innermost last.
+// The blocks that are open, the innermost last: at most 32, in fixed memory (no heap, a rule of the project), of which the first `depth` count.
 #[derive(Drop)]
 pub struct OpenBlocks {
-    indices: [u8; MAX_OPEN],
+    blocks: [Block; MAX_OPEN],
     depth: usize,
 }
 
 impl Model for OpenBlocks {
-    ghost use Rattle.std.specs.Prelude.{List, ℕ, ◌≤◌, take};
+    ghost use Rattle.std.specs.Prelude.{List, ℕ, ◌≤◌, ◌≡◌, map, take, length};
+    ghost use Rattle.records.specs.Records.{index};
 
     ghost Value = { List ℕ };
 
-    ghost view = { λ s. take s.depth s.indices };
+    ghost view = { λ s. take s.depth (map index s.blocks) };
 
-    ghost invariant = { λ s. s.depth ≤ 32 };
+    ghost invariant = { λ s. (s.depth ≤ 32) × (length s.blocks ≡ 32) };
 }
 
 impl OpenBlocks {
@@ -42,7 +43,7 @@ impl OpenBlocks {
         ensures { result ≡ [] }
     {
         OpenBlocks {
-            indices: [0; MAX_OPEN],
+            blocks: [Block::Header; MAX_OPEN],
             depth: 0,
         }
     }
@@ -58,10 +59,7 @@ impl OpenBlocks {
     pub fn is_innermost(&self, b: Block) -> bool
         ensures { result ≡ (leb 1 (length self.now) && eqb (top self.now) (index b)) }
     {
-        if self.depth < 1 {
-            return false;
-        }
-        usize::from(self.indices[self.depth - 1]) == b.index()
+        0 < self.depth && self.blocks[self.depth - 1] == b
     }
 
     // One more, where they are fewer than 32.
@@ -69,7 +67,7 @@ impl OpenBlocks {
         requires { length self.old < max_open }
         ensures { self.new ≡ pushed (index b) self.old }
     {
-        self.indices[self.depth] = b.index() as u8;
+        self.blocks[self.depth] = b;
         self.depth += 1;
     }
 
@@ -133,7 +131,8 @@ fn accept(document: &[u8], at: usize, h: Head, blocks: &mut OpenBlocks) -> Resul
     }
 }
 
-// Refusals 2 to 7 of a document, in one pass, and its blocks that are left open.
+// Refusals 2 to 7 of a document, in one pass, and its blocks that are left open. No `Records` here: that iterator reads a record that is cut short as one
+// that ends with the document, and refusal 2 is about just these.
 pub fn open_blocks(document: &[u8]) -> Result<OpenBlocks, Refusal>
     ensures { answered result ≡ open_blocks document.now }
 {

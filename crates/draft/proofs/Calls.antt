@@ -1,59 +1,17 @@
--- The functions' promises: the quick test, the draft after a record, and the calls. Assumes nothing.
-use Rattle.draft.proofs.Names.{ℕ, ◌+◌, ◌-◌, ◌%◌, ◌≤◌, ◌<◌, ◌≡◌, refl, sym, ap, ap₂, ◌∙◌, subst, true, false, List, [], ◌++◌, eqb, length, take, drop}
-use Rattle.draft.proofs.Names.{length-drop, length-take-le, arith, eq-eqb, ne_eqb, le-leb, lt-leb, Result, gives, refused, ◌>>=◌, measured, pushed}
-use Rattle.draft.proofs.Names.{popped, if_true, if_false, refused-gives, gives_same, number, index, size, little, stored, start, end, Style, Block}
+-- The functions' promises: the draft after a record, and the calls. Assumes nothing.
+use Rattle.draft.proofs.Names.{ℕ, ◌+◌, ◌%◌, ◌≤◌, ◌<◌, ◌≡◌, refl, sym, ap, ap₂, ◌∙◌, subst, true, false, List, [], ◌++◌, length, take}
+use Rattle.draft.proofs.Names.{length-take-le, arith, Result, gives, refused, ◌>>=◌, measured, pushed}
+use Rattle.draft.proofs.Names.{popped, refused-gives, gives_same, number, index, stored, start, end, Style, Block}
 use Rattle.draft.proofs.Names.{Kind, kind_opens, kind_closes, index_small, open_blocks, Sane, Allowed, open_after, accept-gives, Refusal, utf8, so_far}
 use Rattle.draft.proofs.Names.{fit, writes, opens_block, closes_block, Follows, kept, Of01, longer, SoFar, follows_same, stops, writes-not}
-use Rattle.draft.proofs.Names.{writes_in, style_in, one_record, Opens, Of, Holds, plausible, drafted_as, Resumed, Does, text_at, Turned, Draft, Calls, Answer, Ok, Err, IsErrAnd, answered}
-use Rattle.base.specs.Choice.{when◌then◌else◌}
-use Rattle.base.proofs.Parts.{part_end}
+use Rattle.draft.proofs.Names.{writes_in, style_in, Opens, Of, Holds, drafted_as, Resumed, Does, text_at, Turned, Draft}
+use Rattle.draft.proofs.Names.{Calls, Answer, Ok, Err, IsErrAnd, answered}
 use Rattle.records.specs.declared.Kind.TheVariants as kind
 use Rattle.refusal.specs.Numbers.{refusal_number, refusal_place}
 use Rattle.std.proofs.lemmas.Result.{err_from_is_err_and}
 use Rattle.draft.proofs.Packing.{opens-same}
 use Rattle.draft.proofs.Places.{placed}
 use Rattle.draft.proofs.Holding.{so_far_held, of_written, of_added, opens-on, closes-on, opens-given, closes-given}
-
--- The quick test
-
-module _ (room : List ℕ) (d : Draft) where
-  pub quick_past : length room < d.length → false ≡ plausible room d
-  unfolding plausible
-  quick_past h = rw (lt-leb d.length (length room) h)
-
-  pub quick_long : d.length ≤ length room → 32768 < d.length → false ≡ plausible room d
-  unfolding plausible
-  quick_long h l = rw (le-leb d.length (length room) h, lt-leb d.length 32768 l)
-
-  module _ (h : d.length ≤ length room) (l : d.length ≤ 32768) where
-    pub quick_deep : 32 < d.depth → false ≡ plausible room d
-    unfolding plausible
-    quick_deep k = rw (le-leb d.length (length room) h, le-leb d.length 32768 l, lt-leb d.depth 32 k)
-
-    module _ (k : d.depth ≤ 32) where
-      quick_on : (when eqb d.length 0 then true else one_record (drop d.last (take d.length room))) ≡ plausible room d
-      unfolding plausible
-      quick_on = rw (le-leb d.length (length room) h, le-leb d.length 32768 l, le-leb d.depth 32 k)
-
-      pub quick_none : d.length ≡ 0 → true ≡ plausible room d
-      quick_none e = sym (if_true true _ (eq-eqb d.length 0 e)) ∙ quick_on
-
-      there : length (drop d.last (take d.length room)) ≡ d.length - d.last
-      there = length-drop d.last (take d.length room) ∙ ap (λ (n : ℕ). n - d.last) (length-take-le d.length room h)
-
-      -- too little stands there for a record's head
-      pub quick_short : (d.length ≡ 0 → ⊥) → d.length - d.last < 6 → false ≡ plausible room d
-      unfolding one_record
-      quick_short n b =
-          let y = drop d.last (take d.length room) in
-          sym (if_false true _ (ne_eqb d.length 0 n) ∙ ne_eqb (length y) (6 + size y) (λ e. omega (arith, there))) ∙ quick_on
-
-      pub quick_one : {n : ℕ} → (d.length ≡ 0 → ⊥) → n ≡ little (take 4 (take (d.length - d.last) (drop d.last room)))
-          → eqb (d.length - d.last) (6 + n) ≡ plausible room d
-      unfolding one_record size
-      quick_one n e =
-          ap₂ (λ (i j : ℕ). eqb i (6 + j)) (sym there) (e ∙ ap (λ (l : List ℕ). little (take 4 l)) (part_end d.length d.last room))
-          ∙ sym (if_false true _ (ne_eqb d.length 0 n)) ∙ quick_on
 
 -- One more record
 
@@ -133,16 +91,6 @@ pub call-refused : (room : List ℕ) (n : ℕ) {ready : Type 0} {s : Answer Draf
 call-refused room n {a} rule e k q =
     calls_refused room a (subst (λ (s : Answer Draft Refusal). Of01 (drafted_as s)) e k)
     (λ y. stops rule (so_far room n) (subst (Resumed room n) e (q y)))
-
--- it is not, and its draft is at hand
-pub call-on : {room new : List ℕ} {n : ℕ} {ready : Type 0} {s r : Answer Draft Refusal} {d : Draft} (rule : ℕ → Result (List ℕ)) → s ≡ Ok d
-    → (ready → Resumed room n s) → Calls (Holds d room) (rule d.length) room new r → Calls ready (rule n) room new r
-call-on {room} {new} {n} {r} {d} rule e q c = record {
-  numbers = c.numbers;
-  does = λ y.
-      let g : (d.length ≡ n) × Holds d room = subst (Resumed room n) e (q y) in
-      subst (λ (m : ℕ). Does (rule m) room new r) g.0 (c.does g.1);
-}
 
 measured-gives : {n : ℕ} (rule : Result (List ℕ)) → gives n ≡ measured rule → (new : List ℕ) × (rule ≡ gives new) × (n ≡ length new)
 measured-gives (gives new) e = (new, refl, gives_same e)

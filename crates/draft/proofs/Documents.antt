@@ -1,5 +1,6 @@
 -- Documents added by a draft. Assumes nothing.
-use Rattle.draft.proofs.Names.{ℕ, ◌+◌, ◌-◌, Bool, ◌≡◌, refl, sym, ap, ◌∙◌, subst, List, [], ◌++◌, append_assoc, length, take, length-append, arith}
+use Rattle.buffer_doc.specs.declared.Form.{Form}
+use Rattle.draft.proofs.Names.{ℕ, ◌+◌, ◌-◌, ◌≡◌, refl, sym, ap, ◌∙◌, subst, List, [], ◌++◌, append_assoc, length, take, length-append, arith}
 use Rattle.draft.proofs.Names.{gives, ◌>>=◌, bind_gives, stored, start, end, around, kind_closes, reads, open_blocks, check}
 use Rattle.draft.proofs.Names.{check-gives, Refusal, add, adds_as, Follows, kept, length-stored, so_far-on, follows_same, Ready, Joins, made_of}
 use Rattle.draft.proofs.Names.{fit_gives, Nested, around_leaves, around_front, made_nested, Last, Opens, Holds, Calls, Draft, Answer, Ok}
@@ -42,16 +43,16 @@ module _ {d : Draft} {room : List ℕ} (o : Holds d room) (x records : List ℕ)
             (stored_is 0x0208 [] (omega arith) (omega arith) ∙ kind_closes block.InlineBlock) (omega arith) c);
       }) (omega (arith, ap length q.0, q.1))
 
-module _ {d : Draft} {room : List ℕ} (x : List ℕ) (em : Bool) {new : List ℕ} {b : Answer ℕ Refusal}
-    (p : Ready room d.length d.depth → Joins x (made_of em x) d.length d.depth room new b) where
-  pub doc-said : Holds d room → Follows (adds_as room d.length x (made_of em x)) room new b
+module _ {d : Draft} {room : List ℕ} (x : List ℕ) (by : Form) {new : List ℕ} {b : Answer ℕ Refusal}
+    (p : Ready room d.length d.depth → Joins x (made_of by x) d.length d.depth room new b) where
+  pub doc-said : Holds d room → Follows (adds_as room d.length x (made_of by x)) room new b
   doc-said o =
       let ready : Ready room d.length d.depth = record { inside = o.inside; small = o.small; shallow = o.of.opens.shallow } in
-      follows_same (sym (adds_on o x (made_of em x))) ((p ready).does o.of.stack (opens-length o.of.opens))
+      follows_same (sym (adds_on o x (made_of by x))) ((p ready).does o.of.stack (opens-length o.of.opens))
 
   pub doc_given : {n at : ℕ} → b ≡ Ok n → at ≡ n - 6
-      → Calls (Holds d room) (adds_as room d.length x (made_of em x)) room new
+      → Calls (Holds d room) (adds_as room d.length x (made_of by x)) room new
       (Ok (record { length = n; last = at; style = 0; depth = d.depth; inner = d.inner; outer = d.outer }))
   doc_given e f =
       built_length e doc-said refl (λ o y g l.
-      of_around o x (made_of em x) y (made_nested em x) g l (f ∙ ap (λ (m : ℕ). m - 6) l) refl refl refl refl)
+      of_around o x (made_of by x) y (made_nested by x) g l (f ∙ ap (λ (m : ℕ). m - 6) l) refl refl refl refl)

@@ -11,6 +11,8 @@ use Rattle.records.specs.Answers.{Read}
 use Rattle.records.specs.declared.Head.{Head}
 use Rattle.records.specs.declared.Kind.TheVariants as kind
 use Rattle.records.proofs.Tokens.{next_at}
+use Rattle.records.specs.Records.{tokens_from}
+use Rattle.buffer.proofs.Taking.{Taken, taken, taken_end, none_left}
 use Rattle.document.proofs.Refusals.{reads-some, reads_at}
 use Rattle.buffer.proofs.Records.{Holds_kind, Holds-size, number_small, stored-size, stored_kind, same_size, same-token, same_first, reads_before}
 use Rattle.buffer.proofs.Records.{reads-start, reads-finish}
@@ -118,7 +120,7 @@ pub of_none : Of Nothing []
 unfolding open_blocks reads
 of_none = record { long = refl; stack = []; accepted = refl; opens = opens-none refl refl refl; last = none refl refl }
 
-pub found_0 : {document : List ℕ} → Accepted document → Found document 0 Nothing
+found_0 : {document : List ℕ} → Accepted document → Found document 0 Nothing
 unfolding open_blocks reads
 found_0 {document} a = record {
   left = a.left;
@@ -135,7 +137,7 @@ module _ {document : List ℕ} {at : ℕ} {d r : Draft} {h : Head} (f : Found do
       × (reads (next_at document at) 0 after (drop (next_at document at) document) ≡ gives f.left)
   passed = bind_gives (first at f.stack (drop at document)) _ f.left (sym (reads_at document at f.stack l) ∙ f.runs)
 
-  pub found_next : Found document h.next r
+  found_next : Found document h.next r
   unfolding token_at
   found_next =
       let n : length (take at document) ≡ at = length-take-le at document f.inside in
@@ -158,8 +160,37 @@ module _ {document : List ℕ} {at : ℕ} {d r : Draft} {h : Head} (f : Found do
         runs = ap (λ (m : ℕ). reads m 0 passed.0 (drop m document)) w ∙ passed.2;
       }
 
-pub found_done : {document : List ℕ} {at : ℕ} {d : Draft} → Found document at d → length document ≤ at → Of d document
+found_done : {document : List ℕ} {at : ℕ} {d : Draft} → Found document at d → length document ≤ at → Of d document
 found_done {document} {at} {d} f h = subst (Of d) (take_all at document h) f.of
+
+-- the draft of the records that an iterator has given, from whose place nothing is refused
+pub record Built (document : List ℕ) (d : Draft) (left : List Token) : Type 0 where
+  pub at : ℕ
+  pub listed : tokens_from document at ≡ left
+  pub found : Found document at d
+
+pub built_0 : {document : List ℕ} {left : List Token} → Accepted document → left ≡ tokens_from document 0 → Built document Nothing left
+built_0 a e = record { at = 0; listed = sym e; found = found_0 a }
+
+module _ {document : List ℕ} {d : Draft} {left : List Token} (b : Built document d left) where
+  pub built_done : left ≡ [] → Of d document
+  built_done e = found_done b.found (none_left document b.at (b.listed ∙ e))
+
+  module _ {t : Token} {others : List Token} (e : left ≡ t ∷ others) where
+    here : Taken document b.at t others
+    here = taken (b.listed ∙ e)
+
+    pub built_inside : t.start + length t.body ≤ length document
+    built_inside = omega (arith, taken_end here, here.read.high)
+
+    pub built_next : {r : Draft} → Turned d t.kind (t.start + length t.body) r → Built document r others
+    built_next {r} u = record {
+      at = here.head.next;
+      listed = here.on;
+      found = found_next b.found here.read here.inside
+          (subst (λ (k : Kind). Turned d k here.head.next r) (ap (λ (t : Token). t.kind) (sym here.is))
+          (subst (λ (n : ℕ). Turned d t.kind n r) (taken_end here) u));
+    }
 
 -- After a call
 

@@ -91,22 +91,6 @@ below : (h x r i : ℕ) → x * h + r ≡ i → i < 16 * h → x < 16
 below h x r i e l =
     ⊎_elim (λ (j : 16 ≤ x). let z : ⊥ = omega (arith, mul-le-mul_right h j) in absurd z) (λ (j : x < 16). j) (le_or_lt 16 x)
 
-pub up_fits : (i o : ℕ) → i < 0x1_0000_0000_0000_0000 → o % 0x1000_0000_0000_0000 * 16 + i / 0x1000_0000_0000_0000 < 0x1_0000_0000_0000_0000
-up_fits i o h =
-    fits-up (o % 0x1000_0000_0000_0000) (i / 0x1000_0000_0000_0000) (mod-lt o {m = 0x1000_0000_0000_0000} (omega arith))
-    (below 0x1000_0000_0000_0000 (i / 0x1000_0000_0000_0000) (i % 0x1000_0000_0000_0000) i (div-add-mod' i 0x1000_0000_0000_0000) h)
-  where
-    fits-up : (a x : ℕ) → a < 0x1000_0000_0000_0000 → x < 16 → a * 16 + x < 0x1_0000_0000_0000_0000
-    fits-up a x l k = omega arith
-
-pub down_fits : (i o : ℕ) → i < 0x1_0000_0000_0000_0000 → i / 16 + o % 16 * 0x1000_0000_0000_0000 < 0x1_0000_0000_0000_0000
-down_fits i o h =
-    let k : i / 16 < 0x1000_0000_0000_0000 = omega (arith, div-add-mod' i 16) in
-    fits-down (i / 16) (o % 16) k (mod-lt o {m = 16} (omega arith))
-  where
-    fits-down : (x c : ℕ) → x < 0x1000_0000_0000_0000 → c < 16 → x + c * 0x1000_0000_0000_0000 < 0x1_0000_0000_0000_0000
-    fits-down x c l k = omega arith
-
 module _ {d : Draft} {stack : List ℕ} (o : Opens d stack) where
   pub opens-length : length stack ≡ d.depth
   opens-length = ap length o.blocks ∙ length_open d.depth (digits d)

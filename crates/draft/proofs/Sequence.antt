@@ -43,7 +43,8 @@ draft_after d (Err a) = d
 
 pub data Drafted-by : List Call → List ℕ → Draft → List ℕ → Draft → Type 0 where
   done : {room : List ℕ} {d : Draft} → Drafted-by [] room d room d
-  then : {c : Call} {cs : List Call} {room mid new : List ℕ} {d e : Draft} (r : Answer Draft Refusal) → (Sound room d → Does (rule_of c room d.length) room mid r)
+  then : {c : Call} {cs : List Call} {room mid new : List ℕ} {d e : Draft} (r : Answer Draft Refusal)
+      → (Sound room d → Does (rule_of c room d.length) room mid r)
       → Drafted-by cs mid (draft_after d r) new e → Drafted-by (c ∷ cs) room d new e
 
 same-state : {a b : List ℕ} {m n : ℕ} → a ≡ b → m ≡ n → ◌≡◌ {A = State} (record { room = a; length = m }) (record { room = b; length = n })

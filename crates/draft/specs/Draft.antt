@@ -1,6 +1,7 @@
 -- A draft: what a check would find out about the document that stands in the first bytes of a room, carried from call to call of the
 -- builder, so that no call reads the document anew.
-use Rattle.std.specs.Prelude.{ℕ, zero, suc, ◌+◌, ◌*◌, ◌/◌, ◌%◌, ◌^◌, ◌≤◌, ◌<◌, ◌≡◌, Bool, true, ◌&&◌, List, [], leb, eqb, length, take, drop, get_or, Result as Answer, Ok, Err}
+use Rattle.std.specs.Prelude.{ℕ, zero, suc, ◌+◌, ◌*◌, ◌/◌, ◌%◌, ◌^◌, ◌≤◌, ◌<◌, ◌≡◌, Bool, true, ◌&&◌, List, [], leb, eqb, length}
+use Rattle.std.specs.Prelude.{take, drop, get_or, Result as Answer, Ok, Err}
 use Rattle.base.specs.Choice.{when◌then◌else◌}
 use Rattle.base.specs.Result.{Result, gives, refused, ◌>>=◌, measured}
 use Rattle.base.specs.Stack.{pushed}

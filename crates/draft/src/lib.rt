@@ -3,20 +3,21 @@
 
 #![tactic(auto)]
 
-ghost use Rattle.std.specs.Prelude.{◌≡◌, ℕ, ◌+◌, ◌-◌, ◌*◌, ◌/◌, ◌%◌, ◌≤◌, ◌<◌, List, length};
+ghost use Rattle.std.specs.Prelude.{◌≡◌, ℕ, ◌+◌, ◌-◌, ◌*◌, ◌/◌, ◌%◌, ◌≤◌, ◌<◌, List, length, drop};
 ghost use Rattle.base.specs.Stack.{pushed, popped};
 ghost use Rattle.records.specs.Records.{number, index};
 ghost use Rattle.buffer.specs.Builder.{writes, opens_block, closes_block, adds_as, adds_doc, adds_em_doc};
 ghost use Rattle.buffer.specs.Answers.{Of01};
 ghost use Rattle.buffer.specs.InnerParts.{Accepted};
 ghost use Rattle.buffer_doc.specs.InnerParts.{made_of};
-ghost use Rattle.draft.specs.Draft.{draft_in, Opens, Of, Holds, plausible, Sound, drafted_as, Resumed, Calls};
+ghost use Rattle.draft.specs.Draft.{draft_in, Opens, Of, Holds, one_record, plausible, Sound, drafted_as, Resumed, Calls};
 ghost use Rattle.draft.specs.InnerParts.{Turned, text_at};
 ghost use Rattle.document.specs.Document.{max_open};
 
+use buffer_doc::Form;
 use document::{MAX_BYTES, MAX_OPEN};
 use record_writer::{end_kind, start_kind};
-use records::{Block, Kind, Style};
+use records::{Block, Kind, Records, Style};
 use refusal::Refusal;
 
 // What a check would find out about a document: its length, where its last record stands and that record's style (its kind, or 0 where it
@@ -47,31 +48,23 @@ fn inner_down(inner: usize, outer: usize) -> usize
 }
 
 impl Draft {
+    // Whether a document's last record begins at `last` and ends with the document.
+    fn ends(self, document: &[u8]) -> bool
+        ensures { result ≡ one_record (drop self.last document.now) }
+    {
+        document.len().saturating_sub(self.last) == 6 + records::four(document, self.last)
+    }
+
     // Whether it may hold of a room: its length is no refusal, a record ends there, and no more than 32 blocks are open.
+    #[tactic(auto, unfolding(crate::specs::Draft::plausible))]
     fn plausible(self, room: &[u8]) -> bool
         ensures { result ≡ plausible room.now self }
     {
         let length = self.length;
-        let last = self.last;
-        if room.len() < length {
-            return false;
-        }
-        if MAX_BYTES < length {
-            return false;
-        }
-        if MAX_OPEN < self.depth {
-            return false;
-        }
-        if length == 0 {
-            return true;
-        }
-        if length < last {
-            return false;
-        }
-        if length - last < 6 {
-            return false;
-        }
-        length - last == 6 + records::four(&room[last..length], 0)
+        length <= room.len()
+            && length <= MAX_BYTES
+            && self.depth <= MAX_OPEN
+            && (length == 0 || self.ends(&room[..length]))
     }
 
     // With one more block.
@@ -151,12 +144,8 @@ fn found(document: &[u8]) -> Draft
         inner: 0,
         outer: 0,
     };
-    let mut at: usize = 0;
-    while at < document.len() {
-        let h = records::record_at(document, at);
-        let next = h.next;
-        d = d.after_record(h.kind, next);
-        at = next;
+    for r in Records::of(document) {
+        d = d.after_record(r.kind, r.start + r.body.len());
     }
     d
 }
@@ -207,7 +196,7 @@ pub fn write_str(room: &mut [u8], d: Draft, style: Style, text: &[u8]) -> Result
     add_text(room, e, style, text)
 }
 
-// A block's start, where the draft holds.
+// A block's start, where the draft holds. (Start and end are two functions, since other refusals come first.)
 fn add_start(room: &mut [u8], d: Draft, b: Block) -> Result<Draft, Refusal>
     ensures { Calls (Holds d room.old) (opens_block room.old d.length b) room.old room.new result }
 {
@@ -249,10 +238,10 @@ pub fn close_block(room: &mut [u8], d: Draft, b: Block) -> Result<Draft, Refusal
 }
 
 // A document's records in InlineBlock, or what `Doc::em_doc` makes of them, where the draft holds. The last record is that block's end.
-fn add_doc(room: &mut [u8], d: Draft, added: &[u8], em: bool) -> Result<Draft, Refusal>
-    ensures { Calls (Holds d room.old) (adds_as room.old d.length added.now (made_of em added.now)) room.old room.new result }
+fn add_doc(room: &mut [u8], d: Draft, added: &[u8], form: Form) -> Result<Draft, Refusal>
+    ensures { Calls (Holds d room.old) (adds_as room.old d.length added.now (made_of form added.now)) room.old room.new result }
 {
-    let length = buffer_doc::add(room, d.length, d.depth, added, em)?;
+    let length = buffer_doc::add(room, d.length, d.depth, added, form)?;
     Ok(Draft {
         length,
         last: length.saturating_sub(6),
@@ -262,28 +251,29 @@ fn add_doc(room: &mut [u8], d: Draft, added: &[u8], em: bool) -> Result<Draft, R
 }
 
 // The same by any draft.
-fn joined(room: &mut [u8], d: Draft, added: &[u8], em: bool) -> Result<Draft, Refusal>
-    ensures { Calls (Sound room.old d) (adds_as room.old d.length added.now (made_of em added.now)) room.old room.new result }
+fn joined(room: &mut [u8], d: Draft, added: &[u8], form: Form) -> Result<Draft, Refusal>
+    ensures { Calls (Sound room.old d) (adds_as room.old d.length added.now (made_of form added.now)) room.old room.new result }
 {
     let e = settled(room, d)?;
-    add_doc(room, e, added, em)
+    add_doc(room, e, added, form)
 }
 
 // A document, as `Doc::doc` adds it.
 pub fn doc(room: &mut [u8], d: Draft, added: &[u8]) -> Result<Draft, Refusal>
     ensures { Calls (Sound room.old d) (adds_doc room.old d.length added.now) room.old room.new result }
 {
-    joined(room, d, added, false)
+    joined(room, d, added, Form::Doc)
 }
 
 // A document, as `Doc::em_doc` adds it.
 pub fn em_doc(room: &mut [u8], d: Draft, added: &[u8]) -> Result<Draft, Refusal>
     ensures { Calls (Sound room.old d) (adds_em_doc room.old d.length added.now) room.old room.new result }
 {
-    joined(room, d, added, true)
+    joined(room, d, added, Form::EmDoc)
 }
 
-// A draft in the eight words of the C interface; the last two are not used.
+// A draft in the eight words of the C interface; the last two are not used. (`as`: the C interface has `uint64_t`, which is no other number as
+// `usize` here; std's conversion of the one into the other may fail, and there is nothing to answer.)
 impl From<[u64; 8]> for Draft {
     ghost from_gives = { λ words d. d ≡ draft_in words };
 

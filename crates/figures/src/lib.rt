@@ -11,7 +11,7 @@ ghost use Rattle.figures.specs.InnerParts.{printed_of, plus, nothing, Few, Bound
 use refusal::Refusal;
 
 // Bodies seen, those with a text, the others, and the printing characters of the texts.
-#[derive(Clone, Copy)]
+#[derive(Clone, Copy, Default)]
 pub struct Figures {
     pub documents: usize,
     pub accepted: usize,
@@ -52,23 +52,22 @@ fn with_document(f: Figures, document: &[u8], room: &mut [u8]) -> Figures
     }
 }
 
-// The figures of a bundle, document by document: 15, then 14, at each record.
+// 'kind 0x0300': the kind of a bundle's records, each of which holds a document.
+const DOCUMENT: usize = 0x0300;
+
+// The figures of a bundle, document by document: 15, then 14, at each record. The loop is no `for` over `records::Records`, which gives a record that is
+// cut short as one that is not, and each kind of a bundle as Unknown.
 fn count_all(bundle: &[u8], room: &mut [u8]) -> Result<Figures, Refusal>
     requires { (length bundle.now ≤ 65_536) × (length room.old ≡ 65_536) }
     ensures { answered result ≡ from bundle.now 0 nothing }
 {
-    let mut f = Figures {
-        documents: 0,
-        accepted: 0,
-        refused: 0,
-        characters: 0,
-    };
+    let mut f = Figures::default();
     let mut at: usize = 0;
     while at < bundle.len() {
         if !records::fits_at(bundle, at) {
             return Err(Refusal::BundleCutShort(at));
         }
-        if records::two(bundle, at + 4) != 0x0300 {
+        if records::two(bundle, at + 4) != DOCUMENT {
             return Err(Refusal::BundleKind(at));
         }
         let start = at + 6;
@@ -86,6 +85,7 @@ pub fn figures_of(bundle: &[u8]) -> Result<Figures, Refusal>
     if 65_536 < bundle.len() {
         return Err(Refusal::BundleTooLong);
     }
+    // an array, since no heap is used here: the room's size is fixed
     let mut room = [0u8; 65536];
     count_all(bundle, &mut room)
 }

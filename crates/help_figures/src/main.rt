@@ -38,7 +38,8 @@ fn show(rt: &HostRuntime, bundle: &[u8]) -> io::Result<()> {
     Ok(())
 }
 
-// One byte more than a bundle may have is read, so that a longer one is refused.
+// One byte more than a bundle may have is read, so that a longer one is refused. `help_text` has a main of the same form: one function of both
+// would take the name, the buffer and what is shown as parameters, and be no shorter.
 fn main(rt: HostRuntime) -> io::Result<()> {
     let mut space = [0u8; 65537];
     let Ok(n) = program::read_input(&mut rt.stdin(), &mut space) else {

@@ -1,8 +1,8 @@
 -- Names of other crates and libraries that the proofs of this crate cite, by where they are from.
-pub use Prim.Native.Nat.{◌+◌, ◌-◌, ◌<◌, ◌≤◌, ℕ}
+pub use Prim.Native.Nat.{◌+◌, ◌-◌, ◌≤◌, ℕ}
 pub use Rattle.base.proofs.Choice.{if_false, if_true}
 pub use Rattle.base.proofs.Results.{bind_assoc, bind_end, bind_same}
-unfoldable pub use Rattle.base.specs.Choice.{when◌then◌else◌}
+unfoldable pub use Rattle.base.specs.Choice.{when◌then◌else◌, when◌then◌else◌ as choose}
 pub use Rattle.base.specs.Result.{Result, gives, refused}
 unfoldable pub use Rattle.base.specs.Result.{◌>>=◌}
 pub use Rattle.base.specs.Stack.{popped, pushed}
@@ -12,21 +12,19 @@ unfoldable pub use Rattle.html_rules.specs.Html.{blank_line, change, chunk, css,
 pub use Rattle.html_rules.specs.declared.Html.{Html}
 pub use Rattle.html_tags.specs.InnerParts.{chunk_text, closed}
 unfoldable pub use Rattle.html_tags.specs.InnerParts.{block_text, headed}
-pub use Rattle.records.specs.Answers.{Read}
-pub use Rattle.records.specs.Records.{Token, index, record_fits, tokens, tokens_from}
+pub use Rattle.records.specs.Records.{Token, index, tokens}
 pub use Rattle.records.specs.declared.Block.{Block}
 pub use Rattle.records.specs.declared.Style.{Style}
-pub use Rattle.renderer.specs.Rendered.{Inside}
-pub use Rattle.renderer.specs.Walk.{anywhere, body, last, page, shown, walk, with_lay, with_out}
+pub use Rattle.renderer.specs.Walk.{anywhere, body, last, page, walk, with_lay, with_out}
 unfoldable pub use Rattle.renderer.specs.Walk.{write}
 pub use Rattle.room.specs.Room.{extended, seen}
 pub use Rattle.skip.specs.Counter.{hides, skip_end, skip_paragraph, skip_start}
-pub use Rattle.splitter.proofs.Answers.{Took, ended, took}
+pub use Rattle.splitter.proofs.Answers.{Took, took}
 pub use Rattle.splitter.specs.Answers.{cursor}
 unfoldable pub use Rattle.splitter.specs.Split.{split}
 pub use borrow.Author.Rules.{rules}
-pub use lib.ListN.{drop, length, set, take}
+pub use lib.ListN.{length}
 pub use mathlib.Core.Bool.{Bool, false, not, true}
-pub use mathlib.Core.List.{List, [], ◌++◌}
-pub use mathlib.Core.Path.{◌∙◌, ◌≡◌, ap, refl, subst, sym}
+pub use mathlib.Core.List.{List, [], ◌++◌, ◌∷◌}
+pub use mathlib.Core.Path.{◌∙◌, ◌≡◌, ap, refl, sym}
 pub use native.Mathlib.Omega.{arith}

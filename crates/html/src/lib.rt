@@ -6,7 +6,8 @@ ghost use Rattle.std.specs.Prelude.{◌≡◌, true, false, [], length};
 ghost use Rattle.base.specs.Choice.{when◌then◌else◌ as choose};
 ghost use Rattle.base.specs.Result.{gives, ◌>>=◌ as bind, measured};
 ghost use Rattle.refusal.specs.Answers.{answered};
-ghost use Rattle.room.specs.Room.{seen, extended};
+ghost use Rattle.room.specs.Room.{extended};
+ghost use Rattle.room.specs.Lent.{text_of, wrote};
 ghost use Rattle.records.specs.Records.{tokens};
 ghost use Rattle.document.specs.Document.{check};
 ghost use Rattle.renderer.specs.Walk.{walk as records};
@@ -16,19 +17,18 @@ ghost use Rattle.html_tags.specs.InnerParts.{closed};
 
 use document::OpenBlocks;
 use html_rules::Html;
-use records::{Kind, Style};
+use records::{Kind, Records, Style};
 use refusal::Refusal;
+use room::Text;
 use skip::Skip;
 use splitter::{Code, Cursor};
 
 // After the last record: the style is closed, and the style sheet follows.
-fn finish(room: &mut [u8], len: usize, st: Style, sheet: &[u8]) -> Result<usize, Refusal>
-    ensures text { standing room.new result ≡ bind (seen room.old len) (λ x. bind (closed (length room.old) st x) (extended (length room.old) sheet.now)) }
-    ensures inside { Inside (length room.old) result }
+fn finish(t: &mut Text, st: Style, sheet: &[u8])
+    ensures { text_of t.new ≡ wrote (λ size x. bind (closed size st x) (extended size sheet.now)) (text_of t.old) }
 {
-    let n = html_tags::change_style(room, len, st, Style::Text);
-    let m = room::put_all(room, n, sheet);
-    renderer::answer(room, m)
+    html_tags::change_style(t, st, Style::Text);
+    t.put_all(sheet);
 }
 
 // The walk over an accepted document.
@@ -43,34 +43,30 @@ fn walk(
     ensures text { standing room.new result ≡ bind (records (turn (length room.old) strict full) (tokens 0 0 document.now) initial) (finished (length room.old) sheet.now) }
     ensures inside { Inside (length room.old) result }
 {
-    let mut at: usize = 0;
-    let mut len: usize = 0;
+    let mut t = Text::new(room);
     let mut lay = Html {
         style: Style::Text,
         skip: Skip::new(),
     };
     let mut blocks = OpenBlocks::new();
-    'records: while at < document.len() {
-        if room.len() < len {
+    'records: for r in Records::of(document) {
+        if t.is_full() {
             return Err(Refusal::NoRoom);
         }
-        let h = records::whole_at(document, at);
-        let kind = h.kind;
-        if html_marks::is_meta(kind) {
-            return html_tags::meet_meta(room, len, lay.style, at);
+        if html_marks::is_meta(r.kind) {
+            return Err(html_tags::meet_meta(&mut t, lay.style, r.place));
         }
-        at = h.next;
-        match kind {
+        match r.kind {
             Kind::Unknown => {}
             Kind::Start(b) => {
-                len = html_tags::put_start(room, len, lay.style, b, &blocks);
+                html_tags::put_start(&mut t, lay.style, b, &blocks);
                 blocks.push(b);
                 lay.style = Style::Text;
                 lay.skip.start(b);
             }
             Kind::End(b) => {
                 blocks.pop();
-                len = html_tags::put_end(room, len, lay.style, b, &blocks);
+                html_tags::put_end(&mut t, lay.style, b, &blocks);
                 lay.style = Style::Text;
                 lay.skip.end(b);
             }
@@ -78,17 +74,16 @@ fn walk(
                 if lay.skip.enabled() {
                     continue 'records;
                 }
-                len = html_tags::change_style(room, len, lay.style, st);
+                html_tags::change_style(&mut t, lay.style, st);
                 lay.style = st;
-                let body = base::get(document, h.start, h.stop);
+                let body = r.body;
                 let mut cursor = Cursor {
                     at: 0,
                     code: Code::No,
                 };
+                // a line and then a chunk at a time, for which the splitter has no iterator: by chunks alone it took 1.7 to 2 times as long
                 'chunks: loop {
-                    let line = html_lines::put_line(room, len, body, cursor, strict);
-                    len = line.len;
-                    cursor.at = line.at;
+                    cursor.at = html_lines::put_line(&mut t, body, cursor, strict);
                     if body.len() <= cursor.at {
                         break 'chunks;
                     }
@@ -99,16 +94,19 @@ fn walk(
                         lay.skip.enable();
                         continue 'records;
                     }
-                    len = html_tags::put_chunk(room, len, body, piece, strict);
+                    html_tags::put_chunk(&mut t, body, piece, strict);
                     cursor = after;
                 }
             }
         }
     }
-    finish(room, len, lay.style, sheet)
+    finish(&mut t, lay.style, sheet);
+    let n = t.finish();
+    renderer::answer(room, n)
 }
 
 // The style sheet, where one is asked for.
+#[tactic(auto, unfolding(utf8::specs::Utf8::bytes, utf8::specs::Utf8::encode, html_rules::specs::Html::css, crate::proofs::Names::choose))]
 fn style_sheet(css: bool) -> &'static [u8]
     ensures { result.now ≡ choose css style_sheet [] }
 {

@@ -1,2 +1,2 @@
-pub mod Entities
+mod Names
 pub mod Escapes

@@ -2,15 +2,15 @@
 
 #![tactic(auto)]
 
-ghost use Rattle.std.specs.Prelude.{◌≡◌, false, true, length};
-ghost use Rattle.base.specs.Result.{◌>>=◌ as bind};
-ghost use Rattle.room.specs.Room.{seen, extended};
+ghost use Rattle.std.specs.Prelude.{◌≡◌, [], ◌∷◌, IfSome, IfNone};
+ghost use Rattle.room.specs.Lent.{text_of, with_bytes};
 ghost use Rattle.html_rules.specs.Marks.{escaped_by};
-ghost use Rattle.html_rules.specs.Html.{entity};
-ghost use Rattle.html_rules.specs.Markdown.{bracket};
 ghost use Rattle.html_escape.specs.InnerParts.{entity_of};
 
-// How the bytes of a chunk are escaped: as HTML, as strict HTML, as Markdown inside Mono.
+use room::Text;
+
+// How the bytes of a chunk are escaped: as HTML, as strict HTML, as Markdown inside Mono. A name and no closure that escapes a byte:
+// what such a closure writes would be asked of callers by a `requires`.
 #[derive(Clone, Copy)]
 pub enum Escape {
     Html,
@@ -18,56 +18,37 @@ pub enum Escape {
     Mono,
 }
 
-// A byte as HTML.
-fn put_entity(room: &mut [u8], len: usize, byte: u8) -> usize
-    ensures { seen room.new result ≡ bind (seen room.old len) (extended (length room.old) (entity false byte)) }
+// What stands for a byte that does not stand for itself.
+#[tactic(auto, unfolding(utf8::specs::Utf8::bytes, utf8::specs::Utf8::encode, html_rules::specs::Html::entity, html_rules::specs::Markdown::bracket, crate::proofs::Names::choose))]
+fn replacement(byte: u8, how: Escape) -> Option<&'static [u8]>
+    ensures text { IfSome result (λ x. x.now ≡ entity_of how byte) }
+    ensures itself { IfNone result (byte ∷ [] ≡ entity_of how byte) }
 {
-    match byte {
-        b'<' => room::put_all(room, len, b"&lt;"),
-        b'>' => room::put_all(room, len, b"&gt;"),
-        _ => room::put(room, len, byte),
-    }
-}
-
-// A byte as strict HTML.
-fn put_strict(room: &mut [u8], len: usize, byte: u8) -> usize
-    ensures { seen room.new result ≡ bind (seen room.old len) (extended (length room.old) (entity true byte)) }
-{
-    match byte {
-        b'&' => room::put_all(room, len, b"&amp;"),
-        _ => put_entity(room, len, byte),
-    }
-}
-
-// A byte as Markdown inside Mono.
-fn put_bracket(room: &mut [u8], len: usize, byte: u8) -> usize
-    ensures { seen room.new result ≡ bind (seen room.old len) (extended (length room.old) (bracket byte)) }
-{
-    match byte {
-        b'[' => room::put_all(room, len, b"\\["),
-        b']' => room::put_all(room, len, b"\\]"),
-        _ => room::put(room, len, byte),
+    match (how, byte) {
+        (Escape::Html | Escape::Strict, b'<') => Some(b"&lt;"),
+        (Escape::Html | Escape::Strict, b'>') => Some(b"&gt;"),
+        (Escape::Strict, b'&') => Some(b"&amp;"),
+        (Escape::Mono, b'[') => Some(b"\\["),
+        (Escape::Mono, b']') => Some(b"\\]"),
+        _ => None,
     }
 }
 
 // A byte of a chunk.
-fn put_escape(room: &mut [u8], len: usize, byte: u8, how: Escape) -> usize
-    ensures { seen room.new result ≡ bind (seen room.old len) (extended (length room.old) (entity_of how byte)) }
+fn put_escape(t: &mut Text, byte: u8, how: Escape)
+    ensures { text_of t.new ≡ with_bytes (entity_of how byte) (text_of t.old) }
 {
-    match how {
-        Escape::Html => put_entity(room, len, byte),
-        Escape::Strict => put_strict(room, len, byte),
-        Escape::Mono => put_bracket(room, len, byte),
+    match replacement(byte, how) {
+        Some(text) => t.put_all(text),
+        None => t.put(byte),
     }
 }
 
 // The bytes of a chunk, escaped in one pass.
-pub fn put_escaped(room: &mut [u8], len: usize, text: &[u8], how: Escape) -> usize
-    ensures { seen room.new result ≡ bind (seen room.old len) (extended (length room.old) (escaped_by (entity_of how) text.now)) }
+pub fn put_escaped(t: &mut Text, text: &[u8], how: Escape)
+    ensures { text_of t.new ≡ with_bytes (escaped_by (entity_of how) text.now) (text_of t.old) }
 {
-    let mut n = len;
     for &byte in text {
-        n = put_escape(room, n, byte, how);
+        put_escape(t, byte, how);
     }
-    n
 }

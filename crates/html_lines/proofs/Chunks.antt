@@ -6,6 +6,9 @@ use Rattle.html_lines.proofs.Names.{State, entity, escaped, chunk, escaped_by, l
 use mathlib.Core.Logic.{⊎_elim}
 use native.Mathlib.Nat.{add-zero}
 use Rattle.base.proofs.Choice.{le_or_lt, eq_or_not}
+use Rattle.room.specs.declared.Text.{Text}
+use Rattle.room.specs.Lent.{Lent, text_of, with_bytes}
+use Rattle.room.proofs.Lents.{sees, with_none}
 use Rattle.splitter.specs.Split.{is_line_end, is_line_end_or_space, line, word, raw}
 use Rattle.splitter.specs.InnerParts.{word_from}
 use Rattle.splitter.specs.Answers.{placed_from, cursor}
@@ -17,7 +20,7 @@ use Rattle.renderer.proofs.Shown.{shown-write}
 use Rattle.renderer.proofs.Leads.{Leads, chunks_then, body-chunk}
 use Rattle.html_rules.specs.declared.Html.{Html}
 use Rattle.html_rules.proofs.Lifts.{lift_then}
-use Rattle.html_lines.proofs.Lines.{before_split, escaped-append, seen_nothing}
+use Rattle.html_lines.proofs.Lines.{before_split, escaped-append}
 
 -- two writes are one
 write_twice : (limit : ℕ) (a b : List ℕ) (s : State) → (write limit a s >>= write limit b) ≡ write limit (a ++ b) s
@@ -110,19 +113,21 @@ module _ (limit : ℕ) (strict full : Bool) (x : List ℕ) (after : State → Re
       go at code.Rest = ap (λ (k : ℕ). write limit [] s >>= left (cursor k code.Rest)) (omega arith)
 
   -- what is shown, and the chunks from a cursor on, give the whole: so they do after a line that was written
-  pub line-leads : (whole : Result (List ℕ)) (old new : List ℕ) (len n : ℕ) (kept : List ℕ) (lay : Html) (c : Cursor) → length old ≡ limit
-      → Leads whole (left c) (shown old len kept lay)
-      → seen new n ≡ (seen old len >>= extended (length old) (escaped strict (plain_line x c))) → Leads whole (left (after_line x c)) (shown new n kept lay)
-  line-leads whole old new len n kept lay c e l w =
-      let same : shown old len kept lay ≡ (shown old len kept lay >>= write limit []) =
-      shown-write (λ s. s) kept kept lay lay (λ y. refl) limit old old len len []
-      (sym (seen_nothing old len) ∙ ap (λ (k : ℕ). seen old len >>= extended k []) e) in
-      let more : shown new n kept lay ≡ (shown old len kept lay >>= write limit (escaped strict (plain_line x c))) =
-      shown-write (λ s. s) kept kept lay lay (λ y. refl) limit old new len n (escaped strict (plain_line x c))
-      (w ∙ ap (λ (k : ℕ). seen old len >>= extended k (escaped strict (plain_line x c))) e) in
+  pub line-leads : (whole : Result (List ℕ)) (old new : Text) (kept : List ℕ) (lay : Html) (c : Cursor) → length old.room.now ≡ limit
+      → Leads whole (left c) (shown old.room.now old.len kept lay) → text_of new ≡ with_bytes (escaped strict (plain_line x c)) (text_of old)
+      → Leads whole (left (after_line x c)) (shown new.room.now new.len kept lay)
+  line-leads whole old new kept lay c e l w =
+      let before : Result State = shown old.room.now old.len kept lay in
+      let none = ap (λ (v : Lent). v.shown) (with_none old.room.ghost_name old.room.now old.len) in
+      let same : before ≡ (before >>= write limit []) =
+      shown-write (λ s. s) kept kept lay lay (λ y. refl) limit old.room.now old.room.now old.len old.len []
+      (sym none ∙ ap (λ (k : ℕ). seen old.room.now old.len >>= extended k []) e) in
+      let more : shown new.room.now new.len kept lay ≡ (before >>= write limit (escaped strict (plain_line x c))) =
+      shown-write (λ s. s) kept kept lay lay (λ y. refl) limit old.room.now new.room.now old.len new.len (escaped strict (plain_line x c))
+      (sees _ _ _ _ w ∙ ap (λ (k : ℕ). seen old.room.now old.len >>= extended k (escaped strict (plain_line x c))) e) in
       ap (λ (r : Result State). r >>= left (after_line x c)) more
-      ∙ sym (bind_assoc (shown old len kept lay) (write limit (escaped strict (plain_line x c))) (left (after_line x c)))
-      ∙ sym (bind_same (shown old len kept lay) _ _ (line_first c))
-      ∙ bind_assoc (shown old len kept lay) (write limit []) (left c)
+      ∙ sym (bind_assoc before (write limit (escaped strict (plain_line x c))) (left (after_line x c)))
+      ∙ sym (bind_same before _ _ (line_first c))
+      ∙ bind_assoc before (write limit []) (left c)
       ∙ ap (λ (r : Result State). r >>= left c) (sym same)
       ∙ l

@@ -4,52 +4,39 @@
 #![tactic(auto)]
 
 ghost use Rattle.std.specs.Prelude.{◌≡◌, ◌+◌, length, drop};
-ghost use Rattle.base.specs.Result.{◌>>=◌ as bind};
-ghost use Rattle.room.specs.Room.{seen, extended};
+ghost use Rattle.room.specs.Lent.{text_of, with_bytes};
 ghost use Rattle.splitter.specs.Split.{line};
 ghost use Rattle.html_rules.specs.Html.{escaped};
 ghost use Rattle.html_lines.specs.InnerLines.{plain_line};
 
+use room::Text;
 use splitter::{Code, Cursor};
 
-// The length of the text after a line, and where in the body the line ends.
-#[derive(Clone, Copy)]
-pub struct LineWritten {
-    pub len: usize,
-    pub at: usize,
-}
-
-// The bytes of a body from a place up to the next line end, escaped.
-fn put_up_to_end(room: &mut [u8], len: usize, body: &[u8], at: usize, strict: bool) -> LineWritten
-    ensures text { seen room.new result.len ≡ bind (seen room.old len) (extended (length room.old) (escaped strict (line (drop at body.now)))) }
-    ensures place { result.at ≡ at + length (line (drop at body.now)) }
+// The bytes of a body from a place up to the next line end, escaped; where in the body the line ends. The place goes on by a run and a byte at a time,
+// which no `for` counts.
+fn put_up_to_end(t: &mut Text, body: &[u8], at: usize, strict: bool) -> usize
+    ensures text { text_of t.new ≡ with_bytes (escaped strict (line (drop at body.now))) (text_of t.old) }
+    ensures place { result ≡ at + length (line (drop at body.now)) }
 {
-    let mut n = len;
     let mut i = at;
     loop {
         let to = runs::run_end(body, i, b'\n', b'<', b'>', b'&');
-        n = room::put_all(room, n, base::get(body, i, to));
-        i = to;
-        if body.len() <= i {
-            return LineWritten { len: n, at: i };
+        t.put_all(base::get(body, i, to));
+        if body.len() <= to || body[to] == b'\n' {
+            return to;
         }
-        if body[i] == b'\n' {
-            return LineWritten { len: n, at: i };
-        }
-        n = html_tags::put_text(room, n, base::get(body, i, i + 1), strict);
-        i += 1;
+        html_tags::put_text(t, base::get(body, to, to + 1), strict);
+        i = to + 1;
     }
 }
 
-// What is left of a line at a cursor outside ticks; in ticks nothing, since each line there is a chunk.
-pub fn put_line(room: &mut [u8], len: usize, body: &[u8], c: Cursor, strict: bool) -> LineWritten
-    ensures text { seen room.new result.len ≡ bind (seen room.old len) (extended (length room.old) (escaped strict (plain_line body.now c))) }
-    ensures place { result.at ≡ c.at + length (plain_line body.now c) }
+// What is left of a line at a cursor outside ticks, and where it ends; in ticks nothing, since each line there is a chunk.
+pub fn put_line(t: &mut Text, body: &[u8], c: Cursor, strict: bool) -> usize
+    ensures text { text_of t.new ≡ with_bytes (escaped strict (plain_line body.now c)) (text_of t.old) }
+    ensures place { result ≡ c.at + length (plain_line body.now c) }
 {
-    let code = c.code;
-    match code {
-        Code::No => put_up_to_end(room, len, body, c.at, strict),
-        Code::First => LineWritten { len, at: c.at },
-        Code::Rest => LineWritten { len, at: c.at },
+    match c.code {
+        Code::No => put_up_to_end(t, body, c.at, strict),
+        Code::First | Code::Rest => c.at,
     }
 }

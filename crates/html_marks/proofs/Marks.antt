@@ -1,43 +1,58 @@
--- A line of its own. Assumes nothing.
-use Prim.Native.Nat.{ℕ, ◌≤◌}
+-- A line of its own, and a refusal after a text. Assumes nothing.
+use Prim.Native.Nat.{ℕ}
 use mathlib.Core.Path.{◌≡◌, refl, sym, ◌∙◌}
 use mathlib.Core.Bool.{Bool, true, false, ◌||◌}
 use mathlib.Core.List.{List, [], ◌∷◌}
-use lib.ListN.{length, take}
-use lib.Seq.{length-take-le}
-use native.Mathlib.Omega.{arith}
-use Rattle.base.specs.Choice.{when◌then◌else◌}
 use Rattle.base.specs.Bytes.{ends_with}
-use Rattle.base.specs.Result.{gives, ◌>>=◌}
+use Rattle.base.specs.Result.{Result, gives, refused, ◌>>=◌}
 use Rattle.base.proofs.Choice.{if_true, if_false}
-use Rattle.base.proofs.Results.{bind_end}
-use Rattle.room.specs.Room.{extended, seen}
-use Rattle.room.proofs.Laws.{seen_in}
+use Rattle.room.specs.Room.{extended}
+use Rattle.room.specs.Lent.{Given, Lent, wrote, with_bytes, is_empty}
+use Rattle.room.proofs.Lents.{wrote-none, wrote_same}
 use Rattle.renderer.specs.Walk.{empty}
 use Rattle.html_rules.specs.Marks.{separated}
-use Rattle.html_rules.proofs.Writes.{seen_then}
 
-not-empty : (x : List ℕ) → 1 ≤ length x → empty x ≡ false
-unfolding empty
-not-empty [] h = let z : ⊥ = omega arith in absurd z
-not-empty (b ∷ x) h = refl
-
-module _ (limit : ℕ) (room mark : List ℕ) (len : ℕ) where
-  pub separated-empty : len ≡ 0 → seen room 0 ≡ (seen room len >>= separated limit mark)
-  unfolding separated empty when◌then◌else◌ ◌>>=◌
-  separated-empty e = rw (e, seen_in room 0 (omega arith))
-
-  pub separated_ends : ends_with mark (take len room) ≡ true → seen room len ≡ (seen room len >>= separated limit mark)
-  unfolding separated
-  separated_ends e = sym (seen_then room len (separated limit mark) gives (λ _. if_true _ _ (or_right (empty (take len room)) e)) ∙ bind_end (seen room len))
+-- nothing stands there, or the mark, or something else
+module _ (mark : List ℕ) (v : Lent) where
+  pub separated-empty : ((o : List ℕ) → v.shown ≡ gives o → true ≡ is_empty o) → v ≡ wrote (λ size. separated size mark) v
+  unfolding separated empty
+  separated-empty h = wrote-none v (λ size. separated size mark) (λ o e. if_true _ _ (left o (h o e)))
     where
-      or_right : (a : Bool) {b : Bool} → b ≡ true → a || b ≡ true
-      or_right true e = refl
-      or_right false e = e
+      left : (o : List ℕ) → true ≡ is_empty o → empty o || ends_with mark o ≡ true
+      left [] e = refl
+      left (b ∷ o) e = cc
 
-  pub separated-put : (new : List ℕ) (r : ℕ) → (len ≡ 0 → ⊥) → ends_with mark (take len room) ≡ false → seen new r ≡ (seen room len >>= extended limit mark)
-      → seen new r ≡ (seen room len >>= separated limit mark)
+  pub separated_ends : ((o : List ℕ) → v.shown ≡ gives o → true ≡ ends_with mark o) → v ≡ wrote (λ size. separated size mark) v
   unfolding separated
-  separated-put new r n e w =
-      w ∙ sym (seen_then room len (separated limit mark) (extended limit mark)
-      (λ h. if_false _ _ (rw (not-empty (take len room) (omega (arith, length-take-le len room h)), e))))
+  separated_ends h = wrote-none v (λ size. separated size mark) (λ o e. if_true _ _ (right (empty o) (h o e)))
+    where
+      right : (a : Bool) {b : Bool} → true ≡ b → a || b ≡ true
+      right true e = refl
+      right false e = sym e
+
+  pub separated-put : (u : Lent) → ((o : List ℕ) → v.shown ≡ gives o → false ≡ is_empty o) → ((o : List ℕ) → v.shown ≡ gives o → false ≡ ends_with mark o)
+      → u ≡ with_bytes mark v → u ≡ wrote (λ size. separated size mark) v
+  unfolding separated empty
+  separated-put u h k w =
+      w ∙ wrote_same v (λ size. extended size mark) (λ size. separated size mark) (λ o e. sym (if_false _ _ (none o (h o e) (k o e))))
+    where
+      none : (o : List ℕ) → false ≡ is_empty o → false ≡ ends_with mark o → empty o || ends_with mark o ≡ false
+      none [] e f = cc
+      none (b ∷ o) e f = sym f
+
+-- 11 after a text that was refused by 13, and after one that stands there
+module _ (s : Result (List ℕ)) (at : ℕ) where
+  abbrev eleven : Result (List ℕ)
+  eleven = refused 11 at
+
+  pub eleven_full : s ≡ refused 13 0 → refused 13 0 ≡ (s >>= λ _. eleven)
+  unfolding ◌>>=◌
+  eleven_full e = rw e
+
+  pub eleven_given : Given s → eleven ≡ (s >>= λ _. eleven)
+  unfolding ◌>>=◌
+  eleven_given g = go s g
+    where
+      go : (r : Result (List ℕ)) → Given r → eleven ≡ (r >>= λ _. eleven)
+      go (gives o) g = refl
+      go (refused n p) g = absurd g

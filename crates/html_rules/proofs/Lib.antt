@@ -1,3 +1,4 @@
-pub mod Writes
 pub mod Lifts
 pub mod Rest
+pub mod Accepted
+pub mod Listed

@@ -2,8 +2,8 @@
 use Rattle.std.specs.Prelude.{◌^◌, min, Bool, true, false}
 use borrow.Author.Tests.{leb-false}
 use Rattle.joined.proofs.Names.{ℕ, ◌+◌, ◌-◌, ◌≤◌, ◌<◌, ◌≡◌, refl, sym, subst, ap, ap₂, ◌∙◌, List, [], ◌∷◌}
-use Rattle.joined.proofs.Names.{leb, leb-true, length, take, drop, arith, le-leb, lt-leb, if_true}
-use Rattle.joined.proofs.Names.{if_false, little, size, records_at, heads_from, heads_in, heads_next, heads_none, size-take}
+use Rattle.joined.proofs.Names.{leb, leb-true, take, arith, le-leb, lt-leb, if_true}
+use Rattle.joined.proofs.Names.{if_false, little, size, records_at, heads_in}
 use Rattle.base.specs.Choice.{when◌then◌else◌}
 use Rattle.joined_rules.specs.Places.{place_from, place_in, byte_from, byte_in}
 
@@ -25,67 +25,68 @@ place_capped q a b (h ∷ hs) p l e =
     same false f true g = absurd (omega (arith, leb-false p a f, leb-true p b g, e, l))
     same false f false g = f ∙ sym g
 
--- The record at q stands at `at` in the document, or past every place, and from there on the rules find what they find from the start.
-abbrev pub Placing : List ℕ → ℕ → ℕ → ℕ → Type 0
-Placing j p q at = place_from q at (heads_from j q) p ≡ place_in j p
-
-pub placing_start : (j : List ℕ) (p : ℕ) {n : ℕ} → n ≡ little (take 4 j) → Placing j p (4 + n) 0
-unfolding place_in heads_in records_at size
-placing_start j p e = ap (λ (m : ℕ). place_from (4 + m) 0 (heads_from j (4 + m)) p) e
-
-module _ (j : List ℕ) (p q at : ℕ) (w : Placing j p q at) where
-  pub placing_end : length j ≤ q → q ≡ place_in j p
+-- The records that are left stand from q on, the first of them at `at` in the document, or past every place.
+module _ (p q at : ℕ) {hs : List (List ℕ)} where
+  pub placing_end : hs ≡ [] → place_from q at hs p ≡ q
   unfolding place_from
-  placing_end h = sym (ap (λ (hs : List (List ℕ)). place_from q at hs p) (heads_none j q h)) ∙ w
+  placing_end e = ap (λ (hs : List (List ℕ)). place_from q at hs p) e
 
-  module _ (l : q < length j) where
-    pub placing_here : p ≤ at → q ≡ place_in j p
+  module _ {h : List ℕ} {rest : List (List ℕ)} (e : hs ≡ h ∷ rest) where
+    pub placing_here : p ≤ at → place_from q at hs p ≡ q
     unfolding place_from
-    placing_here h = sym (ap (λ (hs : List (List ℕ)). place_from q at hs p) (heads_next j q l) ∙ if_true _ _ (le-leb p at h)) ∙ w
+    placing_here l = ap (λ (hs : List (List ℕ)). place_from q at hs p) e ∙ if_true _ _ (le-leb p at l)
 
-    pub placing_next : {n : ℕ} → n ≡ little (take 4 (drop q j)) → at < p → p ≤ top → Placing j p (q + 6) (min (at + (6 + n)) top)
-    unfolding place_from size
-    placing_next {n} e h m =
-        place_capped (q + 6) (min (at + (6 + n)) top) (at + (6 + n)) (heads_from j (q + 6)) p m (omega arith)
-        ∙ ap (λ (k : ℕ). place_from (q + 6) (at + (6 + k)) (heads_from j (q + 6)) p) (e ∙ sym (size-take (drop q j)))
-        ∙ sym (ap (λ (hs : List (List ℕ)). place_from q at hs p) (heads_next j q l) ∙ if_false _ _ (lt-leb p at h)) ∙ w
+    pub placing_next : {n to : ℕ} → n ≡ size h → to ≡ q + 6 → at < p → p ≤ top → place_from q at hs p ≡ place_from to (min (at + (6 + n)) top) rest p
+    unfolding place_from
+    placing_next {n} {to} f g l m =
+        ap (λ (hs : List (List ℕ)). place_from q at hs p) e ∙ if_false _ _ (lt-leb p at l)
+        ∙ ap₂ (λ (k : ℕ) (s : ℕ). place_from k (at + (6 + s)) rest p) (sym g) (sym f)
+        ∙ place_capped to (at + (6 + n)) (min (at + (6 + n)) top) rest p m (omega arith)
+
+pub placing_start : (j : List ℕ) (p : ℕ) {q : ℕ} {hs : List (List ℕ)} → q ≡ records_at j → hs ≡ heads_in j → place_from q 0 hs p ≡ place_in j p
+unfolding place_in
+placing_start j p e f = rw (e, f)
+
+pub start_at : (j : List ℕ) {n : ℕ} → n ≡ little (take 4 j) → 4 + n ≡ records_at j
+unfolding records_at size
+start_at j e = rw e
 
 -- The same of a byte, with its record's text at `from`: at most four more than `at`, which is not past the place.
-pub record Finding (j : List ℕ) (p q at from : ℕ) : Type 0 where
+pub record Finding (j : List ℕ) (p at from : ℕ) (hs : List (List ℕ)) : Type 0 where
   pub near : at ≤ p
   pub short : from ≤ 4 + at
-  pub finds : byte_from from at (heads_from j q) p ≡ byte_in j p
+  pub finds : byte_from from at hs p ≡ byte_in j p
 
-pub finding_start : (j : List ℕ) (p : ℕ) {n : ℕ} → n ≡ little (take 4 j) → Finding j p (4 + n) 0 4
-unfolding byte_in heads_in records_at size
+pub finding_start : (j : List ℕ) (p : ℕ) {hs : List (List ℕ)} → hs ≡ heads_in j → Finding j p 0 4 hs
+unfolding byte_in
 finding_start j p e = record {
   near = omega arith;
   short = omega arith;
-  finds = ap (λ (m : ℕ). byte_from 4 0 (heads_from j (4 + m)) p) e;
+  finds = ap (λ (hs : List (List ℕ)). byte_from 4 0 hs p) e;
 }
 
-module _ {j : List ℕ} {p q at from : ℕ} (w : Finding j p q at from) where
-  pub finding_end : length j ≤ q → from ≡ byte_in j p
+module _ {j : List ℕ} {p at from : ℕ} {hs : List (List ℕ)} (w : Finding j p at from hs) where
+  pub finding_end : hs ≡ [] → from ≡ byte_in j p
   unfolding byte_from
-  finding_end h = sym (ap (λ (hs : List (List ℕ)). byte_from from at hs p) (heads_none j q h)) ∙ w.finds
+  finding_end e = sym (ap (λ (hs : List (List ℕ)). byte_from from at hs p) e) ∙ w.finds
 
-  module _ (l : q < length j) {n : ℕ} (e : n ≡ little (take 4 (drop q j))) where
+  module _ {h : List ℕ} {rest : List (List ℕ)} (f : hs ≡ h ∷ rest) {n : ℕ} (e : n ≡ size h) where
     abbrev step : ℕ → ℕ
-    step m = when leb p (at + (6 + m)) then from + (p - (at + 6)) else byte_from (from + m) (at + (6 + m)) (heads_from j (q + 6)) p
+    step m = when leb p (at + (6 + m)) then from + (p - (at + 6)) else byte_from (from + m) (at + (6 + m)) rest p
 
     finds_here : step n ≡ byte_in j p
-    unfolding byte_from size
-    finds_here = ap step (e ∙ sym (size-take (drop q j))) ∙ sym (ap (λ (hs : List (List ℕ)). byte_from from at hs p) (heads_next j q l)) ∙ w.finds
+    unfolding byte_from
+    finds_here = ap step e ∙ sym (ap (λ (hs : List (List ℕ)). byte_from from at hs p) f) ∙ w.finds
 
     pub finding_here : p ≤ min (at + (6 + n)) top → from + (p - at - 6) ≡ byte_in j p
     finding_here h =
         ap (λ (k : ℕ). from + k) (let z : p - at - 6 ≡ p - (at + 6) = omega arith in z)
         ∙ sym (if_true _ _ (le-leb p (at + (6 + n)) (omega (arith, h)))) ∙ finds_here
 
-    pub finding_next : min (at + (6 + n)) top < p → p ≤ top → Finding j p (q + 6) (min (at + (6 + n)) top) (from + n)
+    pub finding_next : min (at + (6 + n)) top < p → p ≤ top → Finding j p (min (at + (6 + n)) top) (from + n) rest
     finding_next h m =
         let z : at + (6 + n) ≡ min (at + (6 + n)) top = omega (arith, h, m) in
-        subst (λ (k : ℕ). Finding j p (q + 6) k (from + n)) z record {
+        subst (λ (k : ℕ). Finding j p k (from + n) rest) z record {
           near = omega (arith, h, z);
           short = omega (arith, w.short);
           finds = sym (if_false _ _ (lt-leb p (at + (6 + n)) (omega (arith, h, z)))) ∙ finds_here;

@@ -1,58 +1,34 @@
 -- Bytes that are written one part after another into a room, and the parts of both forms. Assumes nothing.
-use Rattle.joined.proofs.Names.{ℕ, ◌+◌, ◌-◌, ◌≤◌, ◌<◌, ◌≡◌, refl, sym, ap, ap₂, ◌∙◌, subst, ⊎_elim, List, [], ◌++◌, append-nil, length, take, drop}
-use Rattle.joined.proofs.Names.{length-take, length-drop, drop_of_length-le, drop-drop, arith, part, Result, gives, ◌>>=◌, le_or_lt, bind_assoc}
-use Rattle.joined.proofs.Names.{bind_same, extended, seen, seen_in, seen-out, extended_in, extended_twice, little, size, tokens_from, joined}
-use Rattle.joined.proofs.Names.{little_bytes, check, AcceptedAt, accepted_at_0, open_whole, open_next, cut, concat, heads_from, heads_in}
-use Rattle.joined.proofs.Names.{records_at, unjoined, check_joined, cut-some, heads_next, heads_none, size-take}
-use Rattle.records.specs.Answers.{Read}
-use Rattle.records.specs.declared.Head.{Head}
-use Rattle.records.proofs.Tokens.{tokens-end}
-use Rattle.records.proofs.Reading.{read_next}
+use Rattle.joined.proofs.Names.{ℕ, zero, suc, ◌+◌, ◌-◌, ◌≤◌, ◌≡◌, refl, sym, ap, ◌∙◌, subst, List, [], ◌∷◌, ◌++◌, length, take, drop}
+use Rattle.joined.proofs.Names.{length-take, length-drop, drop-drop, take_at, take-append-drop, arith, part, gives, size, token_at, tokens, joined, Token}
+use Rattle.joined.proofs.Names.{little_bytes, cut, heads_of, heads_in, unjoined, check_joined, concat}
+use Rattle.room.specs.Lent.{Lent, text_of, with_bytes}
+use Rattle.room.specs.declared.Text.{Text}
+use Rattle.room.proofs.Lents.{with_bytes_twice, with_none}
 use Rattle.joined_rules.specs.Joined.{text_in, records}
 use Rattle.joined_rules.proofs.Moves.{Shared}
-use Rattle.joined_rules.proofs.Forms.{joined_shared, check_joined-gives, text-length}
+use Rattle.joined_rules.proofs.Forms.{joined_shared}
 use Rattle.joined_rules.proofs.Exactly.{shared_first}
 use Rattle.std.specs.Int.{to_le_bytes}
 use Rattle.std.proofs.Math.Nat.{div-div-eq-div-mul}
 use Rattle.std.specs.Int.{w64}
 
--- A room that held some bytes up to `len` is to hold `all` after them; `rest` of it is left to write, from `to` on.
-pub record Putting (old : List ℕ) (len : ℕ) (all rest room : List ℕ) (to : ℕ) : Type 0 where
-  pub same : length room ≡ length old
-  pub leads : (seen room to >>= extended (length old) rest) ≡ (seen old len >>= extended (length old) all)
+-- Some bytes stand in a room; `all` is to stand after what stood there at first, and `rest` of it is left to write.
+pub record Putting (all : List ℕ) (old : Lent) (rest : List ℕ) (t : Lent) : Type 0 where
+  pub leads : with_bytes rest t ≡ with_bytes all old
 
-pub putting_start : (old : List ℕ) (len : ℕ) {all rest : List ℕ} → rest ≡ all → Putting old len all rest old len
-putting_start old len e = record { same = refl; leads = ap (λ (x : List ℕ). seen old len >>= extended (length old) x) e }
+pub putting_start : {all rest : List ℕ} (t : Lent) → rest ≡ all → Putting all t rest t
+putting_start t e = record { leads = ap (λ (x : List ℕ). with_bytes x t) e }
 
 -- some bytes of it were written, which were read as y
-pub putting_more : {old : List ℕ} {len : ℕ} {all left room : List ℕ} {to : ℕ} {x y : List ℕ} (rest room' : List ℕ) (to' : ℕ)
-    → Putting old len all left room to
-    → left ≡ x ++ rest → y ≡ x → length room' ≡ length room → seen room' to' ≡ (seen room to >>= extended (length room) y)
-    → Putting old len all rest room' to'
-putting_more {old} {room} {to} {x} rest room' to' w f g e q = record {
-  same = e ∙ w.same;
-  leads = ap (λ (r : Result (List ℕ)). r >>= extended (length old) rest)
-      (q ∙ ap₂ (λ (n : ℕ) (z : List ℕ). seen room to >>= extended n z) w.same g)
-      ∙ sym (bind_assoc (seen room to) (extended (length old) x) (extended (length old) rest))
-      ∙ bind_same (seen room to) _ _ (λ o. extended_twice (length old) x rest o)
-      ∙ ap (λ (z : List ℕ). seen room to >>= extended (length old) z) (sym f) ∙ w.leads;
+pub putting_more : {all left x y : List ℕ} {old t : Lent} (rest : List ℕ) (new : Lent) → Putting all old left t → left ≡ x ++ rest → y ≡ x
+    → new ≡ with_bytes y t → Putting all old rest new
+putting_more {x} {t} rest new w f g e = record {
+  leads = ap (with_bytes rest) (e ∙ ap (λ (z : List ℕ). with_bytes z t) g) ∙ with_bytes_twice t x rest ∙ ap (λ (z : List ℕ). with_bytes z t) (sym f) ∙ w.leads;
 }
 
-extended_none : (room : List ℕ) (to : ℕ) → (seen room to >>= extended (length room) []) ≡ seen room to
-unfolding ◌>>=◌
-extended_none room to =
-    ⊎_elim
-    (λ h.
-    ap (λ (r : Result (List ℕ)). r >>= extended (length room) []) (seen_in room to h)
-    ∙ extended_in (length room) [] (take to room) (omega (arith, length-take to room))
-    ∙ ap gives (append-nil (take to room)) ∙ sym (seen_in room to h))
-    (λ h. ap (λ (r : Result (List ℕ)). r >>= extended (length room) []) (seen-out room to h) ∙ sym (seen-out room to h))
-    (le_or_lt to (length room))
-
-pub putting_done : {old : List ℕ} {len : ℕ} {all left room : List ℕ} {to : ℕ} → Putting old len all left room to → left ≡ []
-    → seen room to ≡ (seen old len >>= extended (length old) all)
-putting_done {old} {room} {to} w e =
-    sym (extended_none room to) ∙ ap₂ (λ (n : ℕ) (x : List ℕ). seen room to >>= extended n x) w.same (sym e) ∙ w.leads
+pub putting_done : {all rest : List ℕ} {old : Lent} (t : Text) → Putting all old rest (text_of t) → rest ≡ [] → text_of t ≡ with_bytes all old
+putting_done t w e = sym (with_none t.room.ghost_name t.room.now t.len) ∙ ap (λ (x : List ℕ). with_bytes x (text_of t)) (sym e) ∙ w.leads
 
 -- the four lowest bytes of a number
 pub four_bytes : (n : ℕ) → take 4 (to_le_bytes w64 n) ≡ little_bytes 4 n
@@ -61,103 +37,107 @@ four_bytes n = rw (div-div-eq-div-mul n 256 256, div-div-eq-div-mul n 65536 256)
 
 -- Bodies
 
-pub bodies_end : (d : List ℕ) (at : ℕ) → length d ≤ at → joined (tokens_from d at) ≡ []
+pub bodies_step : {all left : List Token} {t : Token} → left ≡ t ∷ all → joined left ≡ t.body ++ joined all
 unfolding joined
-bodies_end d at h = ap joined (tokens-end d at h)
+bodies_step e = ap joined e
 
-module _ {d : List ℕ} {at : ℕ} {h : Head} (r : Read d at h) (l : at < length d) where
-  pub bodies_step : joined (tokens_from d at) ≡ part d h.start h.next ++ joined (tokens_from d h.next)
-  unfolding joined
-  bodies_step =
-      ap joined (read_next r l)
-      ∙ ap (λ (e : ℕ). part d h.start e ++ joined (tokens_from d h.next)) r.ends
+pub bodies_end : {left : List Token} → left ≡ [] → joined left ≡ []
+unfolding joined
+bodies_end e = ap joined e
 
 -- First bytes
 
--- an accepted document is read up to a place
-pub record Going (d : List ℕ) (at : ℕ) : Type 0 where
-  pub stack : List ℕ
-  pub here : AcceptedAt d at stack
+-- Records of a document with the first bytes of each, which go from its place to its body's start.
+pub data Heads (d : List ℕ) : List Token → List (List ℕ) → Type 0 where
+  none : Heads d [] []
+  more : {t : Token} {ts : List Token} {h : List ℕ} {hs : List (List ℕ)} → (t.place ≤ t.start) × (t.start ≤ length d) → part d t.place t.start ≡ h
+      → Heads d ts hs → Heads d (t ∷ ts) (h ∷ hs)
 
-pub going_start : {d : List ℕ} → check d ≡ gives [] → Going d 0
-going_start {d} e = record { stack = []; here = accepted_at_0 d [] e }
+-- a text's first bytes, as many as there are of n
+first_part : (n : ℕ) (x : List ℕ) → take (length (take n x)) x ≡ take n x
+first_part n x =
+    ap (take (length (take n x))) (sym (take-append-drop n x)) ∙ take_at (take n x) (drop n x) (length (take n x)) refl
 
-pub firsts_end : (d : List ℕ) (at : ℕ) → length d ≤ at → concat (cut size 0 (drop at d)) ≡ []
-unfolding cut
-firsts_end d at h = ap (λ (s : List ℕ). concat (cut size 0 s)) (drop_of_length-le d h)
+heads_from_place : (d s : List ℕ) (p pass : ℕ) → s ≡ drop p d → Heads d (tokens p pass s) (cut size pass s)
+unfolding tokens cut token_at
+heads_from_place d [] p pass e = none
+heads_from_place d (b ∷ s) p (suc pass) e = heads_from_place d s (p + 1) pass (ap (drop 1) e ∙ drop-drop 1 p d)
+heads_from_place d (b ∷ s) p zero e =
+    let x = b ∷ s in
+    let k = length (take 6 x) in
+    let z : p + k - p ≡ k = omega arith in
+    more (omega arith, omega (arith, length-take 6 x, ap length e, length-drop p d))
+    (ap (λ (n : ℕ). take n (drop p d)) z ∙ ap (take k) (sym e) ∙ first_part 6 x)
+    (heads_from_place d s (p + 1) (5 + size x) (ap (drop 1) e ∙ drop-drop 1 p d))
 
-module _ {d : List ℕ} {at : ℕ} {h : Head} (w : Going d at) (r : Read d at h) (l : at < length d) where
-  pub going_next : Going d h.next
-  going_next = record { stack = _; here = open_next w.here r l }
+-- The first bytes of the records that are left, of which a text `all` stands written where they are added.
+pub record Heading (d : List ℕ) (old : Lent) (left : List Token) (t : Lent) : Type 0 where
+  pub hs : List (List ℕ)
+  pub firsts : Heads d left hs
+  pub putting : Putting (concat (heads_of d)) old (concat hs) t
 
-  pub going_six : at + 6 ≤ length d
-  going_six = omega (arith, (open_whole w.here r l).0, r.order, r.high)
+pub heading_start : (d : List ℕ) (t : Lent) {left : List Token} → left ≡ tokens 0 0 d → Heading d t left t
+unfolding heads_of
+heading_start d t e = rw e (record { hs = cut size 0 d; firsts = heads_from_place d d 0 0 refl; putting = putting_start t refl })
 
-  pub firsts_step : concat (cut size 0 (drop at d)) ≡ part d at (at + 6) ++ concat (cut size 0 (drop h.next d))
-  firsts_step =
-      ap concat (cut-some size (drop at d) (omega (arith, length-drop at d)))
-      ∙ ap₂ (λ (n : ℕ) (s : List ℕ). take n (drop at d) ++ concat (cut size 0 s)) (let z : 6 ≡ at + 6 - at = omega arith in z)
-      (drop-drop (6 + size (drop at d)) at d ∙ ap (λ (k : ℕ). drop k d) (sym (open_whole w.here r l).1))
+module _ {d : List ℕ} {old v : Lent} {left rest : List Token} {t : Token} (w : Heading d old left v) (e : left ≡ t ∷ rest) where
+  first_head : Heads d (t ∷ rest) w.hs
+  first_head = subst (λ (ts : List Token). Heads d ts w.hs) e w.firsts
+
+  pub heading_within : (t.place ≤ t.start) × (t.start ≤ length d)
+  heading_within = go w.hs first_head
+    where
+      go : (hs : List (List ℕ)) → Heads d (t ∷ rest) hs → (t.place ≤ t.start) × (t.start ≤ length d)
+      go [] k = elim k [ ]
+      go (h ∷ hs) (more l f k) = l
+
+  pub heading_more : (new : Lent) → new ≡ with_bytes (part d t.place t.start) v → Heading d old rest new
+  heading_more new n = go w.hs first_head w.putting
+    where
+      go : (hs : List (List ℕ)) → Heads d (t ∷ rest) hs → Putting (concat (heads_of d)) old (concat hs) v → Heading d old rest new
+      go [] k p = elim k [ ]
+      go (h ∷ hs) (more l f k) p = record { hs = hs; firsts = k; putting = putting_more (concat hs) new p refl f n }
+
+pub heading_done : {d : List ℕ} {old : Lent} {left : List Token} (t : Text) → Heading d old left (text_of t) → left ≡ []
+    → text_of t ≡ with_bytes (concat (heads_of d)) old
+heading_done {d} {old} t w e = go w.hs (subst (λ (ts : List Token). Heads d ts w.hs) e w.firsts) w.putting
+  where
+    go : (hs : List (List ℕ)) → Heads d [] hs → Putting (concat (heads_of d)) old (concat hs) (text_of t) → text_of t ≡ with_bytes (concat (heads_of d)) old
+    go [] none p = putting_done t p refl
+    go (h ∷ hs) k p = elim k [ ]
 
 -- Records of a joined form
 
--- some text is left for the records from `at` on
-pub record Sharing (j text : List ℕ) (at : ℕ) : Type 0 where
-  pub shared : Shared text (heads_from j at)
+-- Some text is left for the records that are left, and what they give together is left to write.
+pub record Sharing (j : List ℕ) (old : Lent) (text : List ℕ) (hs : List (List ℕ)) (t : Lent) : Type 0 where
+  pub shared : Shared text hs
+  pub putting : Putting (unjoined j) old (records text hs) t
 
--- what is left to write
-abbrev pub unjoined_from : List ℕ → List ℕ → ℕ → List ℕ
-unjoined_from j text at = records text (heads_from j at)
+pub sharing_start : (j text : List ℕ) (t : Lent) {hs : List (List ℕ)} → check_joined j ≡ gives [] → text ≡ text_in j → hs ≡ heads_in j → Sharing j t text hs t
+unfolding unjoined
+sharing_start j text t e f g = rw (f, g) (record { shared = joined_shared j [] e; putting = putting_start t refl })
 
-module _ (j text : List ℕ) (e : check_joined j ≡ gives []) (f : text ≡ text_in j) where
-  start : 4 + length text ≡ records_at j
-  unfolding records_at
-  start = rw (f, text-length j (check_joined-gives j [] e).1)
+module _ {j text h : List ℕ} {old t : Lent} {hs rest : List (List ℕ)} (w : Sharing j old text hs t) (e : hs ≡ h ∷ rest) where
+  first : (length h ≡ 6) × (size h ≤ length text) × Shared (drop (size h) text) rest
+  first = shared_first (subst (Shared text) e w.shared)
 
-  pub sharing_start : Sharing j text (4 + length text)
-  unfolding heads_in
-  sharing_start = record { shared = rw (start, f) (joined_shared j [] e) }
+  module _ {n : ℕ} (f : n ≡ size h) where
+    pub sharing_fits : n ≤ length text
+    sharing_fits = omega (arith, first.1, f)
 
-  pub unjoined-start : unjoined_from j text (4 + length text) ≡ unjoined j
-  unfolding unjoined heads_in
-  unjoined-start = rw (start, f)
-
-module _ {j text : List ℕ} {at : ℕ} (w : Sharing j text at) where
-  pub unjoined-end : length j ≤ at → unjoined_from j text at ≡ []
-  unfolding records
-  unjoined-end h = ap (records text) (heads_none j at h)
-
-  module _ (l : at < length j) where
-    abbrev six : List ℕ
-    six = take 6 (drop at j)
-
-    first : (length six ≡ 6) × (size six ≤ length text) × Shared (drop (size six) text) (heads_from j (at + 6))
-    first = shared_first (subst (Shared text) (heads_next j at l) w.shared)
-
-    pub sharing_six : at + 6 ≤ length j
-    sharing_six = omega (arith, first.0, length-take 6 (drop at j), length-drop at j)
-
-    module _ {n : ℕ} (e : n ≡ little (take 4 (drop at j))) where
-      size_is : size six ≡ n
-      unfolding size
-      size_is = size-take (drop at j) ∙ sym e
-
-      pub sharing_fits : n ≤ length text
-      sharing_fits = omega (arith, first.1, size_is)
-
-      pub sharing_next : Sharing j (drop n text) (at + 6)
-      sharing_next = record { shared = rw (← size_is) first.2 }
-
-      -- its first bytes and its share, then the others
-      pub unjoined-step : unjoined_from j text at ≡ part j at (at + 6) ++ (take n text ++ unjoined_from j (drop n text) (at + 6))
-      unfolding records
-      unjoined-step =
-          ap (records text) (heads_next j at l)
-          ∙ ap (λ (m : ℕ). six ++ (take m text ++ records (drop m text) (heads_from j (at + 6)))) size_is
-          ∙ ap (λ (k : ℕ). take k (drop at j) ++ (take n text ++ unjoined_from j (drop n text) (at + 6))) (let z : 6 ≡ at + 6 - at = omega arith in z)
+    -- its first bytes and its share are written
+    pub sharing_more : {x y : List ℕ} (one two : Lent) → one ≡ with_bytes h t → two ≡ with_bytes x one → x ≡ take n text → y ≡ drop n text
+        → Sharing j old y rest two
+    unfolding records
+    sharing_more one two a b g k = rw (k, f) (record {
+      shared = first.2;
+      putting = putting_more (records (drop (size h) text) rest) two
+          (putting_more (take (size h) text ++ records (drop (size h) text) rest) one w.putting (ap (records text) e) refl a) refl
+          (g ∙ ap (λ (m : ℕ). take m text) f) b;
+    })
 
 -- no record is left
-pub records_done : {j text old room : List ℕ} {len at reached : ℕ} → Sharing j text at
-    → Putting old len (unjoined j) (unjoined_from j text at) room reached → length j ≤ at
-    → seen room reached ≡ (seen old len >>= extended (length old) (unjoined j))
-records_done w p h = putting_done p (unjoined-end w h)
+pub sharing_done : {j text : List ℕ} {old : Lent} {hs : List (List ℕ)} (t : Text) → Sharing j old text hs (text_of t) → hs ≡ []
+    → text_of t ≡ with_bytes (unjoined j) old
+unfolding records
+sharing_done {text = text} t w e = putting_done t w.putting (ap (records text) e)

@@ -5,24 +5,25 @@
 ghost use Rattle.std.specs.Prelude.{◌≡◌, [], length};
 ghost use Rattle.std.specs.List.{concat};
 ghost use Rattle.base.specs.Bytes.{overwritten};
-ghost use Rattle.base.specs.Result.{gives, measured, ◌>>=◌ as bind};
+ghost use Rattle.base.specs.Result.{gives, measured};
 ghost use Rattle.records.specs.Records.{document_text};
 ghost use Rattle.records.specs.Stored.{little_bytes};
-ghost use Rattle.document.specs.Document.{check as check_of};
-ghost use Rattle.room.specs.Room.{extended, seen};
+ghost use Rattle.room.specs.Lent.{text_of, with_bytes};
 ghost use Rattle.refusal.specs.Answers.{answered};
 ghost use Rattle.renderer.specs.Rendered.{standing, Inside, filled};
 ghost use Rattle.joined_rules.specs.Joined.{heads_of, unjoined, check_joined, joins_into, unjoins_into};
 ghost use Rattle.joined_rules.specs.Places.{place_in, byte_in};
 
-use records::{four, record_at};
+use joined_check::Shares;
+use records::{Records, four};
 use refusal::Refusal;
+use room::Text;
 
 // A number in four bytes more.
-fn put_four(room: &mut [u8], len: usize, n: usize) -> usize
-    ensures { seen room.new result ≡ bind (seen room.old len) (extended (length room.old) (little_bytes 4 n)) }
+fn put_four(t: &mut Text, n: usize)
+    ensures { text_of t.new ≡ with_bytes (little_bytes 4 n) (text_of t.old) }
 {
-    room::put_all(room, len, &n.to_le_bytes()[..4])
+    t.put_all(&n.to_le_bytes()[..4]);
 }
 
 // A number in the first four bytes of a room; a smaller room stays as it was.
@@ -35,35 +36,21 @@ fn set_four(room: &mut [u8], n: usize)
 // The two passes stay apart: one function of both would take the part of a record that it writes as a closure, and its contract would speak of that.
 
 // The bodies of a document's records.
-fn put_bodies(document: &[u8], room: &mut [u8], len: usize) -> usize
-    ensures { seen room.new result ≡ bind (seen room.old len) (extended (length room.old) (document_text document.now)) }
+fn put_bodies(document: &[u8], t: &mut Text)
+    ensures { text_of t.new ≡ with_bytes (document_text document.now) (text_of t.old) }
 {
-    let mut to = len;
-    let mut at: usize = 0;
-    while at < document.len() {
-        let h = record_at(document, at);
-        let start = h.start;
-        let next = h.next;
-        to = room::put_all(room, to, &document[start..next]);
-        at = next;
+    for r in Records::of(document) {
+        t.put_all(r.body);
     }
-    to
 }
 
-// The first six bytes of each record of an accepted document.
-fn put_heads(document: &[u8], room: &mut [u8], len: usize) -> usize
-    requires { check_of document.now ≡ gives [] }
-    ensures { seen room.new result ≡ bind (seen room.old len) (extended (length room.old) (concat (heads_of document.now))) }
+// The first six bytes of each record of a document; of the last one those that are there.
+fn put_heads(document: &[u8], t: &mut Text)
+    ensures { text_of t.new ≡ with_bytes (concat (heads_of document.now)) (text_of t.old) }
 {
-    let mut to = len;
-    let mut at: usize = 0;
-    while at < document.len() {
-        let h = record_at(document, at);
-        let start = at + 6;
-        to = room::put_all(room, to, &document[at..start]);
-        at = h.next;
+    for r in Records::of(document) {
+        t.put_all(&document[r.place..r.start]);
     }
-    to
 }
 
 // Refusals 1 to 8, then the joined form; the text's length is known and set once the text is written.
@@ -72,9 +59,13 @@ fn joined_into(document: &[u8], room: &mut [u8]) -> Result<usize, Refusal>
     ensures inside { Inside (length room.old) result }
 {
     document::check(document)?;
-    let text = put_four(room, 0, 0);
-    let heads = put_bodies(document, room, text);
-    let end = put_heads(document, room, heads);
+    let mut t = Text::new(room);
+    put_four(&mut t, 0);
+    let text = t.len;
+    put_bodies(document, &mut t);
+    let heads = t.len;
+    put_heads(document, &mut t);
+    let end = t.finish();
     set_four(room, heads.saturating_sub(text));
     renderer::answer(room, end)
 }
@@ -90,23 +81,17 @@ pub fn join(document: &[u8], room: &mut [u8]) -> Result<usize, Refusal>
 }
 
 // Each record's first bytes with its share of the text, of an accepted joined form.
-#[tactic(auto, using(crate::proofs::Writing::records_done))]
-fn put_records(joined: &[u8], room: &mut [u8], len: usize) -> usize
+fn put_records(joined: &[u8], t: &mut Text)
     requires { check_joined joined.now ≡ gives [] }
-    ensures { seen room.new result ≡ bind (seen room.old len) (extended (length room.old) (unjoined joined.now)) }
+    ensures { text_of t.new ≡ with_bytes (unjoined joined.now) (text_of t.old) }
 {
-    let mut reached = len;
     let mut text = joined_check::text_in(joined);
-    let mut at = 4 + text.len();
-    while at < joined.len() {
-        let next = at + 6;
-        let (share, rest) = text.split_at(four(joined, at));
-        reached = room::put_all(room, reached, &joined[at..next]);
-        reached = room::put_all(room, reached, share);
+    for s in Shares::of(joined) {
+        let (share, rest) = text.split_at(s.size());
+        t.put_all(s.head);
+        t.put_all(share);
         text = rest;
-        at = next;
     }
-    reached
 }
 
 // Refusals 1, 17, 2 to 8 and 18, then the document.
@@ -115,7 +100,9 @@ fn unjoined_into(joined: &[u8], room: &mut [u8]) -> Result<usize, Refusal>
     ensures inside { Inside (length room.old) result }
 {
     joined_check::check(joined)?;
-    let end = put_records(joined, room, 0);
+    let mut t = Text::new(room);
+    put_records(joined, &mut t);
+    let end = t.finish();
     renderer::answer(room, end)
 }
 
@@ -132,34 +119,32 @@ pub fn unjoin(joined: &[u8], room: &mut [u8]) -> Result<usize, Refusal>
 pub fn place_in(joined: &[u8], p: usize) -> usize
     ensures { result ≡ place_in joined.now p }
 {
-    let mut q = 4 + four(joined, 0);
+    let mut end = 4 + four(joined, 0);
     let mut at: usize = 0;
-    while q < joined.len() {
+    for s in Shares::of(joined) {
         if p <= at {
-            return q;
+            return s.place;
         }
-        at = at.saturating_add(6 + four(joined, q));
-        q += 6;
+        at = at.saturating_add(6 + s.size());
+        end = s.next;
     }
-    q
+    end
 }
 
 // Where the byte of a body stands, or the body's end, that the document has at place `p`.
 pub fn byte_in(joined: &[u8], p: usize) -> usize
     ensures { result ≡ byte_in joined.now p }
 {
-    let mut q = 4 + four(joined, 0);
     let mut at: usize = 0;
     let mut from: usize = 4;
-    while q < joined.len() {
-        let size = four(joined, q);
+    for s in Shares::of(joined) {
+        let size = s.size();
         let next = at.saturating_add(6 + size);
         if p <= next {
             return from + (p - at).saturating_sub(6);
         }
         from += size;
         at = next;
-        q += 6;
     }
     from
 }

@@ -1,17 +1,16 @@
 -- The refusals of a joined form as the code finds them. Assumes nothing.
-use Rattle.joined_check.proofs.Names.{ℕ, ◌+◌, ◌-◌, ◌≤◌, ◌<◌, ◌≡◌, sym, ap, ap₂, ◌∙◌, length, take, arith, utf8, opens, closes}
+use Rattle.joined_check.proofs.Names.{ℕ, ◌+◌, ◌-◌, ◌≤◌, ◌<◌, ◌≡◌, refl, sym, ap, ◌∙◌, length, take, arith, utf8, opens, closes}
 use mathlib.Core.Bool.{true, false}
-use mathlib.Core.List.{List, []}
+use mathlib.Core.List.{List, [], ◌∷◌}
 use lib.Dec.{leb}
-use lib.ListN.{drop, length-drop, length-take}
-use lib.Seq.{drop-drop, take-take, take_all}
+use lib.ListN.{drop}
+use lib.Seq.{take_all}
 use borrow.Author.Tests.{le-leb, lt-leb, le-ltb, lt-ltb, eq-eqb, ne_eqb}
 use Rattle.base.specs.Bytes.{part}
 use Rattle.base.specs.Choice.{when◌then◌else◌}
-use Rattle.base.specs.Result.{Result, gives, refused, ◌>>=◌}
+use Rattle.base.specs.Result.{gives, refused, ◌>>=◌}
 use Rattle.base.proofs.Choice.{if_true, if_false}
-use Rattle.base.proofs.Parts.{part_end}
-use Rattle.records.specs.Records.{little, kind_of, index, size}
+use Rattle.records.specs.Records.{little, index, size}
 use Rattle.records.specs.declared.Block.{Block}
 use Rattle.records.specs.declared.Style.{Style}
 use Rattle.records.specs.declared.Kind.{Kind}
@@ -19,10 +18,8 @@ use Rattle.records.specs.declared.Kind.TheVariants as kind
 use Rattle.document.specs.Document.{closed}
 use Rattle.joined_rules.specs.Joined.{head_kind, has_text, text_in, records_at, heads_from, heads_in, lengthless, shares, accept_share, first_share, used}
 use Rattle.joined_rules.specs.Joined.{reads_shares, short_joined, whole_text, reads_joined, check_joined}
-use Rattle.joined_rules.proofs.Cut.{heads_next, heads_none}
-use Rattle.joined_rules.proofs.Heads.{size-take}
+use Rattle.joined_rules.proofs.Cut.{heads_next}
 use Rattle.joined_rules.proofs.Moves.{accept-body}
-use Rattle.joined_rules.proofs.Forms.{text-length}
 
 -- The text
 
@@ -82,84 +79,61 @@ module _ {k : Kind} (p n : ℕ) (text stack : List ℕ) where
   unfolding accept_share lengthless
   share-end-length e h = rw e (sym (if_false _ _ (ne_eqb n 0 (omega arith))))
 
--- The loop over the records
+-- The records that are left
 
-module _ (j text stack : List ℕ) (at : ℕ) where
-  -- some text is left, some blocks are open, and the records from `at` on are read
-  abbrev pub left : Result (List ℕ)
-  left = reads_shares (length j) at text stack (heads_from j at)
+module _ (j : List ℕ) where
+  -- where they start
+  pub heads-by : {n : ℕ} → n ≡ little (take 4 j) → (heads_from j (4 + n) ≡ heads_in j) × (4 + n ≡ records_at j)
+  unfolding heads_in records_at size
+  heads-by e = rw e (refl, refl)
 
-  -- the records after the one at `at`, of which so many bytes were the share
-  abbrev onward : ℕ → List ℕ → Result (List ℕ)
-  onward n after = reads_shares (length j) (at + 6) (drop n text) after (heads_from j (at + 6))
+  -- the first of them, and the others
+  pub left_part : (at : ℕ) → at < length j → {h : List ℕ} → h ≡ part j at (at + 6) → heads_from j at ≡ h ∷ heads_from j (at + 6)
+  left_part at l e =
+      heads_next j at l ∙ ap (λ (k : ℕ). take k (drop at j) ∷ heads_from j (at + 6)) (let z : 6 ≡ at + 6 - at = omega arith in z)
+      ∙ ap (λ (h : List ℕ). h ∷ heads_from j (at + 6)) (sym e)
 
-  module _ (l : at < length j) where
-    first : left ≡ (first_share at text stack (take 6 (drop at j)) >>= onward (size (take 6 (drop at j))))
-    unfolding reads_shares
-    first = ap (reads_shares (length j) at text stack) (heads_next j at l)
+-- The loop over the records, where some text is left and some blocks are open: a record at p, and the records after it
 
-    pub left_cut : length j - at < 6 → left ≡ refused 2 at
-    unfolding first_share ◌>>=◌
-    left_cut m =
-        first
-        ∙ ap (λ (r : Result (List ℕ)). r >>= onward (size (take 6 (drop at j))))
-        (if_false _ _ (lt-leb 6 (length (take 6 (drop at j))) (omega (arith, length-take 6 (drop at j), length-drop at j))))
+module _ (m at p : ℕ) (text stack : List ℕ) {h : List ℕ} {hs rest : List (List ℕ)} (f : hs ≡ h ∷ rest) (q : p ≡ at) where
+  pub left_cut : length h < 6 → reads_shares m at text stack hs ≡ refused 2 p
+  unfolding reads_shares first_share ◌>>=◌ when◌then◌else◌
+  left_cut l = rw (f, q, lt-leb 6 (length h) l)
 
-    module _ {n m : ℕ} {k : Kind} (s : 6 ≤ length j - at) (e : n ≡ little (take 4 (drop at j))) (g : k ≡ kind_of m)
-        (f : m ≡ little (take 2 (drop (at + 4) j))) where
-      size_is : size (take 6 (drop at j)) ≡ n
-      unfolding size
-      size_is = size-take (drop at j) ∙ sym e
+  module _ {n : ℕ} {k : Kind} (l : 6 ≤ length h) (e : n ≡ size h) (g : k ≡ head_kind h) where
+    pub left-refused : {a b : ℕ} → accept_share p k n text stack ≡ refused a b → reads_shares m at text stack hs ≡ refused a b
+    unfolding reads_shares first_share ◌>>=◌ when◌then◌else◌
+    left-refused w = rw (f, le-leb 6 (length h) l, ← e, ← g, ← q, w)
 
-      kind_is : head_kind (take 6 (drop at j)) ≡ k
-      unfolding head_kind
-      kind_is =
-          ap (λ (x : List ℕ). kind_of (little (take 2 x))) (sym (part_end 6 4 (drop at j)) ∙ ap (take 2) (drop-drop 4 at j))
-          ∙ ap (λ (x : List ℕ). kind_of (little x)) (take-take 2 2 (drop (at + 4) j) (omega arith)) ∙ ap kind_of (sym f) ∙ sym g
+    pub left-next : {to : ℕ} {after : List ℕ} → accept_share p k n text stack ≡ gives after → to ≡ at + 6
+        → reads_shares m at text stack hs ≡ reads_shares m to (drop n text) after rest
+    unfolding reads_shares first_share ◌>>=◌ when◌then◌else◌
+    left-next {after = after} w t = rw (f, le-leb 6 (length h) l, ← e, ← g, ← q, w, t) (ap (λ (k : ℕ). reads_shares m (k + 6) (drop n text) after rest) q)
 
-      left_on : left ≡ (accept_share at k n text stack >>= onward n)
-      unfolding first_share
-      left_on =
-          first
-          ∙ ap (λ (r : Result (List ℕ)). r >>= onward (size (take 6 (drop at j))))
-          (if_true _ _ (le-leb 6 (length (take 6 (drop at j))) (omega (arith, length-take 6 (drop at j), length-drop at j)))
-          ∙ ap₂ (λ (i : Kind) (z : ℕ). accept_share at i z text stack) kind_is size_is)
-          ∙ ap (λ (z : ℕ). accept_share at k n text stack >>= onward z) size_is
+-- an accepted record's share lies in the text
+pub share_fits : (at n : ℕ) (k : Kind) (text stack : List ℕ) {after : List ℕ} → accept_share at k n text stack ≡ gives after → n ≤ length text
+share_fits at n k text stack {after} q = (accept-body 0 at n text stack after k q).0
 
-      pub left-refused : {a b : ℕ} → accept_share at k n text stack ≡ refused a b → left ≡ refused a b
-      unfolding ◌>>=◌
-      left-refused q = left_on ∙ rw q
+-- none is left
+module _ (m at : ℕ) (text stack : List ℕ) {hs : List (List ℕ)} (f : hs ≡ []) where
+  pub left-open : (length stack ≡ 0 → ⊥) → reads_shares m at text stack hs ≡ refused 8 m
+  unfolding reads_shares closed ◌>>=◌ when◌then◌else◌
+  left-open n = rw (f, ne_eqb (length stack) 0 n)
 
-      pub left-next : {after : List ℕ} → accept_share at k n text stack ≡ gives after → left ≡ onward n after
-      unfolding ◌>>=◌
-      left-next q = left_on ∙ rw q
+  module _ (z : length stack ≡ 0) where
+    pub left_over : (length text ≡ 0 → ⊥) → reads_shares m at text stack hs ≡ refused 18 m
+    unfolding reads_shares closed used ◌>>=◌ when◌then◌else◌
+    left_over n = rw (f, z, ne_eqb (length text) 0 n)
 
-  -- an accepted record's share lies in the text
-  pub share_fits : (n : ℕ) (k : Kind) {after : List ℕ} → accept_share at k n text stack ≡ gives after → n ≤ length text
-  share_fits n k {after} q = (accept-body 0 at n text stack after k q).0
-
-  module _ (l : length j ≤ at) where
-    ends : left ≡ (closed (length j) stack >>= used (length j) text)
-    unfolding reads_shares
-    ends = ap (reads_shares (length j) at text stack) (heads_none j at l)
-
-    pub left-open : (length stack ≡ 0 → ⊥) → left ≡ refused 8 (length j)
-    unfolding closed ◌>>=◌ when◌then◌else◌
-    left-open n = ends ∙ rw (ne_eqb (length stack) 0 n)
-
-    module _ (z : length stack ≡ 0) where
-      pub left_over : (length text ≡ 0 → ⊥) → left ≡ refused 18 (length j)
-      unfolding closed used ◌>>=◌ when◌then◌else◌
-      left_over n = ends ∙ rw (z, ne_eqb (length text) 0 n)
-
-      pub left_done : length text ≡ 0 → left ≡ gives []
-      unfolding closed used ◌>>=◌ when◌then◌else◌
-      left_done e = ends ∙ rw (z, e) (ap gives (sym (take_all 0 stack (omega (arith, z)))))
+    pub left_done : length text ≡ 0 → reads_shares m at text stack hs ≡ gives []
+    unfolding reads_shares closed used ◌>>=◌ when◌then◌else◌
+    left_done e = rw (f, z, e) (ap gives (sym (take_all 0 stack (omega (arith, z)))))
 
 -- before the first record all of the text is left, and no block is open
-pub left_start : (j text : List ℕ) → has_text j ≡ true → text ≡ text_in j → left j text [] (4 + length text) ≡ reads_joined j
-unfolding reads_joined heads_in records_at
-left_start j text e f = rw (f, text-length j e)
+pub left_start : (j text : List ℕ) {at : ℕ} {hs : List (List ℕ)} → hs ≡ heads_in j → at ≡ records_at j → text ≡ text_in j
+    → reads_shares (length j) at text [] hs ≡ reads_joined j
+unfolding reads_joined
+left_start j text e f g = rw (e, f, g)
 
 -- 1 and 17
 

@@ -2,9 +2,13 @@
 
 #![tactic(auto)]
 
-ghost use Rattle.std.specs.Prelude.{◌≡◌, true, List, [], ℕ};
+ghost use Rattle.std.specs.Prelude.{◌≡◌, List, [], ℕ, ◌<◌, ◌^◌};
+ghost use Rattle.std.specs.Iterator.{item_count};
+ghost use Rattle.records.specs.Records.{size};
 ghost use Rattle.document.specs.Answers.{verdict_of};
-ghost use Rattle.joined_rules.specs.Joined.{has_text, text_in, shares, accept_share, reads_joined, check_joined};
+ghost use Rattle.joined_rules.specs.Joined.{has_text, text_in, records_at, heads_in, head_kind};
+ghost use Rattle.joined_rules.specs.Joined.{shares, accept_share, reads_joined, check_joined};
+ghost use Rattle.joined_check.specs.Listed.{left, GivesShare};
 
 use document::OpenBlocks;
 use records::{Kind, four, kind_of, two};
@@ -28,8 +32,73 @@ pub fn text_in<'a>(joined: &'a [u8]) -> &'a [u8]
     base::get(joined, 4, 4 + four(joined, 0))
 }
 
+// A record of a joined form: where it stands, its length and kind, six bytes, and where the next one stands. The last may be cut short.
+#[derive(Clone, Copy)]
+pub struct Share<'a> {
+    pub place: usize,
+    pub head: &'a [u8],
+    pub next: usize,
+}
+
+impl<'a> Share<'a> {
+    // How many bytes of the text are its share.
+    pub fn size(&self) -> usize
+        ensures { (result ≡ size self.now.head.now) × (result < 2 ^ 32) }
+    {
+        four(self.head, 0)
+    }
+
+    // Its kind.
+    pub fn kind(&self) -> Kind
+        ensures { result ≡ head_kind self.now.head.now }
+    {
+        kind_of(two(self.head, 4))
+    }
+}
+
+// The records of a joined form that are left, in order.
+#[derive(Clone, Copy)]
+pub struct Shares<'a> {
+    pub joined: &'a [u8],
+    pub at: usize,
+}
+
+impl<'a> Iterator for Shares<'a> {
+    type Item = Share<'a>;
+
+    ghost next_gives = { GivesShare };
+
+    ghost remaining = { item_count left };
+
+    fn next(&mut self) -> Option<Share<'a>> {
+        let place = self.at;
+        if self.joined.len() <= place {
+            return None;
+        }
+        let next = place + 6;
+        self.at = next;
+        Some(Share {
+            place,
+            head: base::get(self.joined, place, next),
+            next,
+        })
+    }
+}
+
+impl<'a> Shares<'a> {
+    // The records of a joined form.
+    pub fn of(joined: &'a [u8]) -> Shares<'a>
+        ensures { (left result ≡ heads_in joined.now) × (result.at ≡ records_at joined.now) }
+    {
+        Shares {
+            joined,
+            at: 4 + four(joined, 0),
+        }
+    }
+}
+
 // Refusals 18 and 5: a share of `size` bytes, where some text is left.
-fn share(text: &[u8], size: usize, at: usize) -> Result<(), Refusal>
+fn check_share(text: &[u8], size: usize, at: usize) -> Result<(), Refusal>
     ensures { (stack : List ℕ) → verdict_of result stack ≡ shares at size text.now stack }
 {
     if text.len() < size {
@@ -53,7 +122,7 @@ fn accept(
 {
     match kind {
         Kind::Unknown => Err(Refusal::UnknownKind(at)),
-        Kind::Text(_) => share(text, size, at),
+        Kind::Text(_) => check_share(text, size, at),
         Kind::Start(b) => {
             if 0 < size {
                 return Err(Refusal::BlockWithBody(at));
@@ -71,21 +140,17 @@ fn accept(
 
 // Record by record 2 to 7 and 18, then 8, then 18: what follows 1 and 17, and 9 in the console.
 fn read_shares(joined: &[u8]) -> Result<(), Refusal>
-    requires { has_text joined.now ≡ true }
     ensures { verdict_of result [] ≡ reads_joined joined.now }
 {
     let mut blocks = OpenBlocks::new();
     let mut text = text_in(joined);
-    let mut at = 4 + text.len();
-    while at < joined.len() {
-        if joined.len() - at < 6 {
-            return Err(Refusal::CutShort(at));
+    for s in Shares::of(joined) {
+        if s.head.len() < 6 {
+            return Err(Refusal::CutShort(s.place));
         }
-        let size = four(joined, at);
-        let kind = kind_of(two(joined, at + 4));
-        accept(text, kind, size, at, &mut blocks)?;
+        let size = s.size();
+        accept(text, s.kind(), size, s.place, &mut blocks)?;
         text = &text[size..];
-        at += 6;
     }
     if blocks.depth() != 0 {
         return Err(Refusal::LeftOpen(joined.len()));

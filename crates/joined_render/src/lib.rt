@@ -62,6 +62,7 @@ fn render(joined: &[u8], asked: Asked, room: &mut [u8]) -> Result<usize, Refusal
         return refuse(room, Refusal::TooWide);
     }
     let n = joined.len() - 4;
+    // Arrays, since the library has no heap; two of them, since zeros for the large one would take a small form much of its time.
     if n <= 4_096 {
         let mut small: [u8; 4_096] = [0; 4_096];
         return through(joined, asked, &mut small[..n], room);
@@ -78,7 +79,7 @@ pub fn joined_console(joined: &[u8], set: Settings, room: &mut [u8]) -> Result<u
     render(joined, Asked::Console(set), room)
 }
 
-// Its HTML.
+// Its HTML. This one and the next are two functions, as the C interface has them.
 pub fn joined_html(joined: &[u8], full: bool, css: bool, room: &mut [u8]) -> Result<usize, Refusal>
     ensures answer { answered result ≡ measured (joined_html (length room.old) false full css joined.now) }
     ensures room { room.new ≡ filled (length room.old) (joined_html (length room.old) false full css joined.now) }

@@ -1,6 +1,7 @@
 -- What a block's start or end pushes, and what it does to capture. Assumes nothing.
-use Rattle.manpage.proofs.Names.{ℕ, ◌≡◌, refl, sym, Bool, true, false, false≢true, List, [], eqb, when◌then◌else◌, gives}
-use Rattle.manpage.proofs.Names.{refused, if_true, if_false, bytes, index, Block, Style, Roff, Piece, Followed, pushed_none, Locals, Outcome}
+use Rattle.manpage.proofs.Names.{ℕ, ◌≡◌, refl, sym, ap, ◌∙◌, Bool, true, false, false≢true, List, [], eqb, when◌then◌else◌, gives}
+use Rattle.manpage.proofs.Names.{refused, if_true, if_false, bytes, index, Block, Style, Roff, Piece, Records, Composed, roff_of, pushed, stripped}
+use Rattle.manpage.proofs.Names.{pushed_none, Locals, Outcome}
 use Rattle.manpage.proofs.Names.{subsection, heading, started, ended, locals, Follows, is_heading, is_term_ref, opening, closing, closed, opened, shut}
 use Rattle.std.specs.Prelude.{Option, Some, None, is_some, unwrap_or}
 use Rattle.records.specs.declared.Block.TheVariants as block
@@ -9,8 +10,8 @@ use Rattle.records.specs.declared.Style.TheVariants as style
 
 -- Capture
 
-module _ (b : Block) (captured : Option ℕ) where
-  module _ (from : ℕ) where
+module _ (b : Block) (captured : Option Records) where
+  module _ (from : Records) where
     pub opened-heading : is_heading b ≡ true → Some from ≡ opened b captured from
     unfolding opened
     opened-heading e = sym (if_true _ _ e)
@@ -52,7 +53,7 @@ module _ (b : Block) (captured : Option ℕ) where
       go true = refl
       go false = refl
 
-  pub shut-from : (from : ℕ) → unwrap_or captured from ≡ from → unwrap_or (shut b captured) from ≡ from
+  pub shut-from : (from : Records) → unwrap_or captured from ≡ from → unwrap_or (shut b captured) from ≡ from
   unfolding shut when◌then◌else◌
   shut-from from e = go (is_heading b)
     where
@@ -71,26 +72,26 @@ subsection-nothing style.Literal h = refl
 subsection-nothing style.Metavar h = refl
 subsection-nothing style.Invalid h = refl
 
-module _ (p : ℕ) (kept : List ℕ) (capture : Bool) (room : List ℕ) (m : Roff) where
+module _ (p : ℕ) (kept : List ℕ) (capture : Bool) (m : Roff) where
   -- nothing, at the start of these blocks and at the end of those
   pub started-nothing : (b : Block) → (b ≡ block.ItemTerm → ⊥) → (b ≡ block.Block → ⊥) → (b ≡ block.Meta → ⊥)
-      → Follows (started p b (locals m kept capture)) room m room m
+      → Follows (started p b (locals m.strip kept capture)) (roff_of m) (roff_of m)
   unfolding started
-  started-nothing block.Header h0 h1 h2 = pushed_none room m
-  started-nothing block.Section2 h0 h1 h2 = pushed_none room m
-  started-nothing block.Section3 h0 h1 h2 = pushed_none room m
-  started-nothing block.Section4 h0 h1 h2 = pushed_none room m
+  started-nothing block.Header h0 h1 h2 = pushed_none m
+  started-nothing block.Section2 h0 h1 h2 = pushed_none m
+  started-nothing block.Section3 h0 h1 h2 = pushed_none m
+  started-nothing block.Section4 h0 h1 h2 = pushed_none m
   started-nothing block.ItemTerm h0 h1 h2 = absurd (h0 refl)
-  started-nothing block.ItemBody h0 h1 h2 = pushed_none room m
-  started-nothing block.DefinitionList h0 h1 h2 = pushed_none room m
+  started-nothing block.ItemBody h0 h1 h2 = pushed_none m
+  started-nothing block.DefinitionList h0 h1 h2 = pushed_none m
   started-nothing block.Block h0 h1 h2 = absurd (h1 refl)
-  started-nothing block.InlineBlock h0 h1 h2 = pushed_none room m
+  started-nothing block.InlineBlock h0 h1 h2 = pushed_none m
   started-nothing block.TermRef h0 h1 h2 = tt
   started-nothing block.Meta h0 h1 h2 = absurd (h2 refl)
-  started-nothing block.Mono h0 h1 h2 = pushed_none room m
+  started-nothing block.Mono h0 h1 h2 = pushed_none m
 
   pub ended-nothing : (b : Block) → is_heading b ≡ false → (b ≡ block.ItemTerm → ⊥) → (b ≡ block.ItemBody → ⊥) → (b ≡ block.Meta → ⊥)
-      → Follows (ended p b (locals m kept capture)) room m room m
+      → Follows (ended p b (locals m.strip kept capture)) (roff_of m) (roff_of m)
   unfolding ended
   ended-nothing block.Header e h0 h1 h2 = absurd (false≢true (sym e))
   ended-nothing block.Section2 e h0 h1 h2 = absurd (false≢true (sym e))
@@ -98,12 +99,12 @@ module _ (p : ℕ) (kept : List ℕ) (capture : Bool) (room : List ℕ) (m : Rof
   ended-nothing block.Section4 e h0 h1 h2 = absurd (false≢true (sym e))
   ended-nothing block.ItemTerm e h0 h1 h2 = absurd (h0 refl)
   ended-nothing block.ItemBody e h0 h1 h2 = absurd (h1 refl)
-  ended-nothing block.DefinitionList e h0 h1 h2 = pushed_none room m
-  ended-nothing block.Block e h0 h1 h2 = pushed_none room m
-  ended-nothing block.InlineBlock e h0 h1 h2 = pushed_none room m
+  ended-nothing block.DefinitionList e h0 h1 h2 = pushed_none m
+  ended-nothing block.Block e h0 h1 h2 = pushed_none m
+  ended-nothing block.InlineBlock e h0 h1 h2 = pushed_none m
   ended-nothing block.TermRef e h0 h1 h2 = tt
   ended-nothing block.Meta e h0 h1 h2 = absurd (h2 refl)
-  ended-nothing block.Mono e h0 h1 h2 = pushed_none room m
+  ended-nothing block.Mono e h0 h1 h2 = pushed_none m
 
 -- a heading that is no Header
 pub ended-section : (p : ℕ) (l : Locals) (b : Block) → is_heading b ≡ true
@@ -122,10 +123,10 @@ ended-section p l block.TermRef e h = absurd (false≢true e)
 ended-section p l block.Meta e h = absurd (false≢true e)
 ended-section p l block.Mono e h = absurd (false≢true e)
 
--- line ends are stripped from here on, or not
-pub stripped : {ps : List Piece} {s state : Bool} {old new : List ℕ} {m n r : Roff} → (r.len ≡ n.len) × (r.fresh ≡ n.fresh) × (r.strip ≡ state)
-    → Followed ps s old m new n → Followed ps state old m new r
-stripped e f = rw (e.0, e.1) (record { text = f.text; line = f.line; strip = e.2 })
+-- some pieces were pushed, and line ends are stripped from here on, or not
+pub stripped_after : (old mid new : Composed) (ps : List Piece) (state : Bool) → mid ≡ pushed ps old → new ≡ stripped state mid
+    → new ≡ stripped state (pushed ps old)
+stripped_after old mid new ps state e w = w ∙ ap (λ (v : Composed). stripped state v) e
 
 -- What a block does where it is no TermRef, and what is captured then
 

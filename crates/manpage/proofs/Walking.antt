@@ -1,82 +1,97 @@
 -- The walk over the records: what stands in the room, and the rules run from here on, give the whole. Assumes nothing.
-use Rattle.manpage.proofs.Names.{ℕ, ◌-◌, ◌≤◌, ◌<◌, ◌≡◌, refl, sym, ap, ap₂, ◌∙◌, subst, Bool, true, false, false≢true, ⊎_elim, List, [], ◌++◌}
-use Rattle.manpage.proofs.Names.{append_assoc, append-nil, length, take, length-take-le, arith, part, when◌then◌else◌, Result, gives, refused, ◌>>=◌}
-use Rattle.manpage.proofs.Names.{if_true, if_false, pick, le_or_lt, bind_assoc, Token, tokens, tokens_from, check, Read, Head, Kind, Style, Block}
-use Rattle.manpage.proofs.Names.{read-on, seen, extended, seen_in, seen-out, walk, standing, Inside, Roff, preamble, Written, escape_all, line_after}
-use Rattle.manpage.proofs.Names.{writes, begun, pushes, text, Followed, Pushed, pushes-writes, pushed_none, Locals, initial, Outcome, captures}
+use Rattle.manpage.proofs.Names.{ℕ, zero, suc, ◌+◌, ◌-◌, ◌≤◌, ◌<◌, ◌≡◌, refl, sym, ap, ap₂, ◌∙◌, subst, Bool, true, false, false≢true, ⊎_elim, List, [], ◌∷◌}
+use Rattle.manpage.proofs.Names.{◌++◌}
+use Rattle.manpage.proofs.Names.{length-drop, length-take, drop-drop, drop_of_length-le, take-nil, part_none, pick}
+use Rattle.records.specs.Records.{size as record_size}
+use Rattle.manpage.proofs.Names.{append_assoc, append-nil, length, take, drop, length-take-le, arith, part, Result, gives, refused, ◌>>=◌}
+use Rattle.manpage.proofs.Names.{if_true, if_false, le_or_lt, bind_assoc, Token, tokens, tokens_from, token_at, check, Record, Records, left, Kind, Style}
+use Rattle.manpage.proofs.Names.{Block}
+use Rattle.manpage.proofs.Names.{seen, extended, seen_in, seen-out, walk, Roff, Composed, roff_of, pushed, stripped, preamble, Written}
+use Rattle.manpage.proofs.Names.{escape_all, line_after, writes, begun, pushes, text, pushes-writes, pushed_none, Locals, initial, Outcome, captures}
 use Rattle.manpage.proofs.Names.{font_of, subsection, started, ended, token, State, state, turn, roff_on, roff, locals, Follows, is_heading, is_term_ref}
-use Rattle.manpage.proofs.Names.{record_text, texts_valid, between, beginning, opening, closing, closed}
-use native.Mathlib.Nat.{le_refl}
+use Rattle.manpage.proofs.Names.{ends_heading, record_text, texts_valid, heading_text, opened, opening, shut, closed}
+use Rattle.refusal.specs.Answers.{answered}
 use Rattle.refusal.specs.Numbers.{refusal_number, refusal_place}
+use Rattle.records.specs.Listed.{token as listed}
 use Rattle.records.specs.declared.Kind.TheVariants as kind
+use Rattle.records.proofs.Tokens.{tokens_at, tokens-end, next_at}
 use Rattle.refusal.specs.declared.Refusal.{Refusal}
 use Rattle.std.specs.Prelude.{Result as Answer, Ok, Err, Option, Some, None, is_some, unwrap_or}
-use Rattle.renderer.proofs.Leads.{Leads, leads-on, leads-out, leads-refused, leads-end, records, turned, walk_record, walk_end}
-use Rattle.manpage.proofs.Capturing.{between_record, valid_record, between_none}
-use Rattle.manpage.proofs.Blocks.{started-gives, ended-gives, started-refused, ended-refused}
+use Rattle.room.specs.Lent.{Given}
+use Rattle.room.proofs.Lents.{past_room}
+use Rattle.renderer.proofs.Leads.{Leads, leads-on, leads-out, leads-refused, leads-end}
+use Rattle.manpage.specs.InnerParts.{HasBegun, IsSameRoom}
+use Rattle.manpage.proofs.Capturing.{heading-ends, heading_on, valid_after}
+use Rattle.manpage.proofs.Blocks.{started-gives, ended-gives, started-refused, ended-refused, opened-on, opened-heading, opened-other, shut-on, shut-heading}
+use Rattle.manpage.proofs.Blocks.{shut-other}
 
--- Text from one place to a further one goes by another between them.
-abbrev pub Chain : List ℕ → ℕ → ℕ → Type 0
-Chain document from at = (n : ℕ) → at ≤ n → between document from n ≡ between document from at ++ between document at n
+-- Records of a document
 
-chain_here : (document : List ℕ) (at : ℕ) → Chain document at at
-chain_here document at n h = ap (λ (x : List ℕ). x ++ between document at n) (sym (between_none document at at (le_refl at)))
+-- those after the first are those from a later place on
+pub listed_after : (document : List ℕ) (at : ℕ) (t : Token) (us : List Token) → t ∷ us ≡ tokens_from document at → (n : ℕ) × (us ≡ tokens_from document n)
+listed_after document at t us e =
+    ⊎_elim
+    (λ (h : length document ≤ at). let z : ⊥ = omega (arith, ap length (e ∙ tokens-end document at h)) in absurd z)
+    (λ (h : at < length document). (next_at document at, ap (drop 1) (e ∙ tokens_at document at h)))
+    (le_or_lt (length document) at)
 
--- where capture is off, none is captured
-idle : (document : List ℕ) (on : Bool) (from at : ℕ) → on ≡ false → between document (beginning on from at) at ≡ []
-unfolding beginning when◌then◌else◌
-idle document on from at e = rw e (between_none document at at (le_refl at))
+take_own : (n : ℕ) (l : List ℕ) → take (length (take n l)) l ≡ take n l
+take_own zero l = refl
+take_own (suc n) [] = refl
+take_own (suc n) (b ∷ l) = ap (λ (x : List ℕ). b ∷ x) (take_own n l)
 
--- After a record
+-- a record's body, by its places
+abbrev Placed : List ℕ → Token → Type 0
+Placed document t = (t.start + length t.body ≤ length document) × (part document t.start (t.start + length t.body) ≡ t.body)
 
-module _ {document : List ℕ} {at : ℕ} {h : Head} (r : Read document at h) (l : at < length document) (from : ℕ) (chain : Chain document from at) where
-  abbrev own : List ℕ
-  own = record_text h.kind (part document h.start h.stop)
+placed : (document : List ℕ) (at : ℕ) → at < length document → Placed document (token_at at (drop at document))
+unfolding token_at
+placed document at h =
+    let s = drop at document in
+    let n = record_size s in
+    let body = take n (drop 6 s) in
+    let long = length-drop at document in
+    ⊎_elim
+    (λ (k : at + 6 ≤ length document).
+    let six : length (take 6 s) ≡ 6 = length-take-le 6 s (omega (arith, long)) in
+    let e : at + 6 + length body - (at + 6) ≡ length body = omega arith in (
+      omega (arith, six, length-take n (drop 6 s), length-drop 6 s, long),
+      rw (six, e, ← drop-drop 6 at document) (take_own n (drop 6 s)),
+    ))
+    (λ (k : length document < at + 6).
+    let none : body ≡ [] = ap (take n) (drop_of_length-le s {i = 6} (omega (arith, long))) ∙ take-nil n in
+    let zero : length body ≡ 0 = ap length none in (
+      omega (arith, zero, length-take 6 s, long),
+      part_none document (at + length (take 6 s)) (at + length (take 6 s) + length body) (omega (arith, zero)) ∙ sym none,
+    ))
+    (le_or_lt (at + 6) (length document))
 
-  -- its text is captured too
-  between_next : between document from h.next ≡ between document from at ++ own
-  between_next =
-      chain h.next (omega (arith, (read-on r l).0))
-      ∙ ap (λ (x : List ℕ). between document from at ++ x)
-      (between_record r l h.next (read-on r l).0
-      ∙ ap (λ (x : List ℕ). own ++ x) (between_none document h.next h.next (le_refl h.next))
-      ∙ append-nil own)
-
-  chain_next : Chain document from h.next
-  chain_next n k =
-      chain n (omega (arith, (read-on r l).0))
-      ∙ ap (λ (x : List ℕ). between document from at ++ x) (between_record r l n (omega (arith, (read-on r l).0)))
-      ∙ sym (append_assoc (between document from at) own (between document h.next n))
-      ∙ ap (λ (x : List ℕ). x ++ between document h.next n) (sym between_next)
-
-  chain_on : (on : Bool) → Chain document (beginning on from h.next) h.next
-  unfolding beginning
-  chain_on on = pick (λ (f : ℕ). Chain document f h.next) on (λ _. chain_next) (λ _. chain_here document h.next)
-
-  -- what is captured stays, where the record has no text
-  kept_on : (on : Bool) → own ≡ [] → (on ≡ false → between document from at ≡ [])
-      → between document (beginning on from h.next) h.next ≡ between document from at
-  unfolding beginning
-  kept_on on t none =
-      pick (λ (f : ℕ). between document f h.next ≡ between document from at) on
-      (λ _. between_next ∙ ap (λ (x : List ℕ). between document from at ++ x) t ∙ append-nil (between document from at))
-      (λ e. between_none document h.next h.next (le_refl h.next) ∙ sym (none e))
+pub placed_first : (document : List ℕ) (at : ℕ) (t : Token) (us : List Token) → t ∷ us ≡ tokens_from document at → Placed document t
+placed_first document at t us e =
+    ⊎_elim
+    (λ (h : length document ≤ at). let z : ⊥ = omega (arith, ap length (e ∙ tokens-end document at h)) in absurd z)
+    (λ (h : at < length document).
+    let q = e ∙ tokens_at document at h in
+    let same : token_at at (drop at document) ≡ t = cc in
+    subst (Placed document) same (placed document at h))
+    (le_or_lt (length document) at)
 
 -- The state
 
--- what stands in a room up to a mark's length, with some locals
-unfoldable pub marked : List ℕ → Roff → Locals → Result State
-marked room m l = seen room m.len >>= λ x. gives (state l (record { out = x; fresh = m.fresh }))
+-- what a `Roff` holds, with some locals
+unfoldable pub marked : Roff → Locals → Result State
+marked m l = seen m.text.now.room.now m.text.now.len >>= λ x. gives (state l (record { out = x; fresh = m.fresh }))
 
--- a length within the room, and one past it
-module _ (room : List ℕ) (m : Roff) (l : Locals) where
-  marked_in : m.len ≤ length room → marked room m l ≡ gives (state l (record { out = take m.len room; fresh = m.fresh }))
+-- a text that fits, and one that does not
+module _ (m : Roff) (l : Locals) where
+  marked_in : m.text.now.len ≤ length m.text.now.room.now
+      → marked m l ≡ gives (state l (record { out = take m.text.now.len m.text.now.room.now; fresh = m.fresh }))
   unfolding marked ◌>>=◌
-  marked_in h = rw (seen_in room m.len h)
+  marked_in h = rw (seen_in m.text.now.room.now m.text.now.len h)
 
-  marked-out : length room < m.len → marked room m l ≡ refused 13 0
+  marked-out : length m.text.now.room.now < m.text.now.len → marked m l ≡ refused 13 0
   unfolding marked ◌>>=◌
-  marked-out h = rw (seen-out room m.len h)
+  marked-out h = rw (seen-out m.text.now.room.now m.text.now.len h)
 
 -- two rules that agree on what can stand in a room
 seen_then : {A : Type 0} (room : List ℕ) (len : ℕ) (f g : List ℕ → Result A) → ((x : List ℕ) → length x ≤ length room → f x ≡ g x)
@@ -99,57 +114,104 @@ module _ (limit p q : ℕ) (k : Kind) (x : List ℕ) (ts : List Token) (l : Loca
       ∙ ap (λ (t : Result Written). t >>= λ v. gives (state o.after v)) (pushes-writes limit o.pushed w h)
       ∙ sym (bind_assoc (extended limit (escape_all w.fresh o.pushed) w.out) _ _)
 
-  turn_made : (old new : List ℕ) (m r : Roff) → length old ≡ limit → Followed o.pushed o.after.strip old m new r
-      → marked new r o.after ≡ (marked old m l >>= turn limit p q k x ts)
+  turn_made : (m r : Roff) → length m.text.now.room.now ≡ limit → roff_of r ≡ stripped o.after.strip (pushed o.pushed (roff_of m))
+      → marked r o.after ≡ (marked m l >>= turn limit p q k x ts)
   unfolding marked ◌>>=◌
-  turn_made old new m r size f =
+  turn_made m r size f =
+      let old = m.text.now.room.now in
+      let len = m.text.now.len in
+      let start = m.fresh in
       let rest : Bool → List ℕ → Result State = λ b y. gives (state o.after (record { out = y; fresh = b })) in
-      let bytes = escape_all m.fresh o.pushed in
-      let after = line_after m.fresh o.pushed in
-      ap₂ (λ (t : Result (List ℕ)) (b : Bool). t >>= rest b) (f.text ∙ ap (λ (n : ℕ). seen old m.len >>= extended n bytes) size) f.line
-      ∙ sym (bind_assoc (seen old m.len) (extended limit bytes) (rest after))
-      ∙ sym (seen_then old m.len _ _ (λ y h. turn-writes (record { out = y; fresh = m.fresh }) (omega (arith, size))))
-      ∙ bind_assoc (seen old m.len) _ (turn limit p q k x ts)
+      let bytes = escape_all start o.pushed in
+      let after = line_after start o.pushed in
+      ap₂ (λ (t : Result (List ℕ)) (b : Bool). t >>= rest b)
+      (ap (λ (v : Composed). v.payload.text.shown) f ∙ ap (λ (n : ℕ). seen old len >>= extended n bytes) size) (ap (λ (v : Composed). v.payload.fresh) f)
+      ∙ sym (bind_assoc (seen old len) (extended limit bytes) (rest after))
+      ∙ sym (seen_then old len _ _ (λ y h. turn-writes (record { out = y; fresh = start }) (omega (arith, size))))
+      ∙ bind_assoc (seen old len) _ (turn limit p q k x ts)
+
+-- a text that stands in a room fits it
+pub inside : (room : List ℕ) (len : ℕ) → Given (seen room len) → len ≤ length room
+inside room len g =
+    ⊎_elim (λ (h : len ≤ length room). h) (λ (h : length room < len). absurd (subst Given (seen-out room len h) g)) (le_or_lt len (length room))
 
 -- The whole
 
 abbrev pub whole : ℕ → List ℕ → Result State
 whole limit document = begun limit >>= λ w. walk (turn limit) (tokens 0 0 document) (state initial w)
 
--- an answer, and the room it speaks of
-pub record Answered (limit : ℕ) (document room : List ℕ) (a : Answer ℕ Refusal) : Type 0 where
-  pub stands : standing room a ≡ roff_on limit (tokens 0 0 document)
-  pub inside : Inside (length room) a
-
-pub answer-refused : (limit : ℕ) (document room : List ℕ) (a : Refusal) → whole limit document ≡ refused (refusal_number a) (refusal_place a)
-    → (n : ℕ) → limit ≡ n → Answered n document room (Err a)
+pub whole-refused : (limit : ℕ) (document : List ℕ) (n p : ℕ) → whole limit document ≡ refused n p
+    → refused n p ≡ roff_on limit (tokens 0 0 document)
 unfolding ◌>>=◌
-answer-refused limit document room a e n k = record {
-  stands = subst (λ (n : ℕ). refused (refusal_number a) (refusal_place a) ≡ roff_on n (tokens 0 0 document)) k
-      (sym (ap (λ (s : Result State). s >>= λ s. gives s.written.out) e));
-  inside = tt;
-}
+whole-refused limit document n p e = sym (ap (λ (s : Result State). s >>= λ s. gives s.written.out) e)
 
--- Before a record: what is captured is the text from where capture began up to here; from there on, and from here on, text is UTF-8.
-pub record On (limit : ℕ) (document room : List ℕ) (m : Roff) (on : Bool) (from at : ℕ) : Type 0 where
-  pub same : length room ≡ limit
-  pub ahead : texts_valid (tokens_from document at) ≡ true
-  pub behind : texts_valid (tokens_from document (beginning on from at)) ≡ true
-  pub chain : Chain document (beginning on from at) at
-  pub leads : Leads (whole limit document) (records (turn limit) document at) (marked room m (locals m (between document (beginning on from at) at) on))
+-- What is captured before some records: the text from where capture began up to there. From where it began on, text is UTF-8.
+pub record Holds (captured : Option Records) (records : Records) (kept : List ℕ) : Type 0 where
+  pub valid : texts_valid (left (unwrap_or captured records)) ≡ true
+  pub chain : heading_text (left (unwrap_or captured records)) ≡ kept ++ heading_text (left records)
+  pub none : is_some captured ≡ false → kept ≡ []
 
-pub on-start : (limit : ℕ) (document room : List ℕ) (m : Roff) → texts_valid (tokens 0 0 document) ≡ true → length room ≡ limit
-    → seen room m.len ≡ extended limit preamble [] → (m.fresh ≡ true) × (m.strip ≡ false) → On limit document room m false 0 0
-unfolding beginning when◌then◌else◌ marked begun writes ◌>>=◌
-on-start limit document room m v k e f = record {
-  same = k;
-  ahead = v;
-  behind = v;
-  chain = chain_here document 0;
-  leads = rw (e, f.0, f.1, between_none document 0 0 (le_refl 0))
-      (sym (bind_assoc (extended limit preamble []) _ _)
-      ∙ bind_assoc (extended limit preamble []) _ (λ w. walk (turn limit) (tokens 0 0 document) (state initial w)));
-}
+module _ (records after : Records) (kept : List ℕ) (ahead : texts_valid (left after) ≡ true) where
+  holds_none : Holds None after []
+  holds_none = record { valid = ahead; chain = refl; none = λ z. refl }
+
+  -- while capture is off
+  holds_off : (captured : Option Records) → is_some captured ≡ false → Holds captured records kept → Holds captured after kept
+  holds_off (Some x) e h = absurd (false≢true (sym e))
+  holds_off None e h = subst (Holds None after) (sym (h.none refl)) holds_none
+
+  -- after captured text
+  holds_more : (x : List ℕ) (captured : Option Records) → is_some captured ≡ true → heading_text (left records) ≡ x ++ heading_text (left after)
+      → Holds captured records kept → Holds captured after (kept ++ x)
+  holds_more x None e f h = absurd (false≢true e)
+  holds_more x (Some from) e f h = record {
+    valid = h.valid;
+    chain = h.chain ∙ ap (λ (y : List ℕ). kept ++ y) f ∙ sym (append_assoc kept x (heading_text (left after)));
+    none = λ z. absurd (false≢true (sym z));
+  }
+
+  module _ (same : heading_text (left records) ≡ heading_text (left after)) where
+    -- after a record that has no text
+    holds_on : (captured : Option Records) → Holds captured records kept → Holds captured after kept
+    holds_on (Some from) h = record { valid = h.valid; chain = h.chain ∙ ap (λ (y : List ℕ). kept ++ y) same; none = h.none }
+    holds_on None h = holds_off None refl h
+
+    -- after a heading's start
+    holds_some : (captured : Option Records) → Holds captured records kept → Holds (Some (unwrap_or captured records)) after kept
+    holds_some captured h = record {
+      valid = h.valid;
+      chain = h.chain ∙ ap (λ (y : List ℕ). kept ++ y) same;
+      none = λ z. absurd (false≢true (sym z));
+    }
+
+-- Before a record.
+pub record On (first : Composed) (document : List ℕ) (m : Roff) (captured : Option Records) (records : Records) : Type 0 where
+  pub same : IsSameRoom first (roff_of m)
+  pub at : ℕ
+  pub among : left records ≡ tokens_from document at
+  pub ahead : texts_valid (left records) ≡ true
+  pub kept : List ℕ
+  pub holds : Holds captured records kept
+  pub leads : Leads (whole first.payload.text.size document) (walk (turn first.payload.text.size) (left records))
+      (marked m (locals m.strip kept (is_some captured)))
+
+pub on_start : (document : List ℕ) (m : Roff) (records : Records) → texts_valid (tokens 0 0 document) ≡ true → left records ≡ tokens 0 0 document
+    → HasBegun (roff_of m) → On (roff_of m) document m None records
+unfolding marked begun writes ◌>>=◌
+on_start document m records v r e =
+    let limit = length m.text.now.room.now in
+    let valid = ap texts_valid r ∙ v in
+    record {
+      same = record { loan = refl; name = refl; size = refl };
+      at = 0;
+      among = r;
+      ahead = valid;
+      kept = [];
+      holds = record { valid = valid; chain = refl; none = λ z. refl };
+      leads = rw (r, ap (λ (v : Composed). v.payload.text.shown) e, ap (λ (v : Composed). v.payload.fresh) e, ap (λ (v : Composed). v.strip) e)
+          (sym (bind_assoc (extended limit preamble []) _ _)
+          ∙ bind_assoc (extended limit preamble []) _ (λ w. walk (turn limit) (tokens 0 0 document) (state initial w)));
+    }
 
 token-refused : (p : ℕ) (k : Kind) (x : List ℕ) (l : Locals) → is_term_ref k ≡ true → token p k x l ≡ refused 11 p
 unfolding token
@@ -162,172 +224,149 @@ opening_off : (b : Block) (on : Bool) → opening b on ≡ false → on ≡ fals
 unfolding opening
 opening_off b on = pick (λ (c : Bool). c ≡ false → on ≡ false) (is_heading b) (λ _ e. absurd (false≢true (sym e))) (λ _ e. e)
 
--- At a record that was read: what is captured is the text from a place f on.
-pub record Taken (limit : ℕ) (document room : List ℕ) (m : Roff) (on : Bool) (f at : ℕ) (h : Head) : Type 0 where
-  pub same : length room ≡ limit
-  pub inside : at < length document
-  pub reads : Read document at h
-  pub ahead : texts_valid (tokens_from document at) ≡ true
-  pub behind : texts_valid (tokens_from document f) ≡ true
-  pub chain : Chain document f at
-  pub none : on ≡ false → between document f at ≡ []
-  pub leads : Leads (whole limit document) (records (turn limit) document at) (marked room m (locals m (between document f at) on))
-
-pub taken : {limit : ℕ} {document room : List ℕ} {m : Roff} {on : Bool} {from at : ℕ} {h : Head} → On limit document room m on from at → Read document at h
-    → at < length document → (f : ℕ) → f ≡ beginning on from at → Taken limit document room m on f at h
-taken {limit} {document} {room} {m} {on} {from} {at} o r l f e = record {
-  same = o.same;
-  inside = l;
-  reads = r;
-  ahead = o.ahead;
-  behind = subst (λ (x : ℕ). texts_valid (tokens_from document x) ≡ true) (sym e) o.behind;
-  chain = subst (λ (x : ℕ). Chain document x at) (sym e) o.chain;
-  none = λ q. ap (λ (x : ℕ). between document x at) e ∙ idle document on from at q;
-  leads = subst (λ (x : ℕ). Leads (whole limit document) (records (turn limit) document at) (marked room m (locals m (between document x at) on)))
-      (sym e) o.leads;
-}
-
-module _ {limit : ℕ} {document room : List ℕ} {m : Roff} {on : Bool} {f at : ℕ} {h : Head} (t : Taken limit document room m on f at h) where
-  -- fewer bytes are left after it
-  pub taken_less : length document - h.next < length document - at
-  taken_less = omega (arith, t.inside, (read-on t.reads t.inside).0)
-
-  abbrev body : List ℕ
-  body = part document h.start h.stop
+module _ {start : Composed} {document : List ℕ} {m : Roff} {captured : Option Records} {records : Records} (o : On start document m captured records) where
+  abbrev limit : ℕ
+  limit = start.payload.text.size
 
   abbrev here : Locals
-  here = locals m (between document f at) on
+  here = locals m.strip o.kept (is_some captured)
 
-  ahead-on : texts_valid (tokens_from document h.next) ≡ true
-  ahead-on = (valid_record t.reads t.inside t.ahead).1
-
-  behind-on : (on' : Bool) → texts_valid (tokens_from document (beginning on' f h.next)) ≡ true
-  unfolding beginning
-  behind-on on' = pick (λ (x : ℕ). texts_valid (tokens_from document x) ≡ true) on' (λ _. t.behind) (λ _. ahead-on)
-
-  -- a record's token was followed
-  on-next : (room' : List ℕ) (m' : Roff) (on' : Bool) (q : Outcome) → length room' ≡ length room → token at h.kind body here ≡ gives q
-      → Followed q.pushed q.after.strip room m room' m' → q.after.kept ≡ between document (beginning on' f h.next) h.next
-      → q.after.capture ≡ on' → On limit document room' m' on' f h.next
-  on-next room' m' on' q k e w kept c = record {
-    same = k ∙ t.same;
-    ahead = ahead-on;
-    behind = behind-on on';
-    chain = chain_on t.reads t.inside f t.chain on';
-    leads = leads-on (whole limit document) (records (turn limit) document at) (marked room m here) t.leads
-        (turned (turn limit) document at h) (records (turn limit) document h.next) (marked room' m' _)
-        (walk_record (turn limit) document at h t.reads t.inside)
-        (ap (marked room' m') (λ i. record { strip = w.strip i; kept = sym kept i; capture = sym c i })
-        ∙ turn_made limit at h.start h.kind body (tokens_from document h.next) here q e room room' m m' t.same w);
-  }
-
-  -- by its kind
-  as_kind : (k : Kind) (v : Result Outcome) → h.kind ≡ k → token at k body here ≡ v → token at h.kind body here ≡ v
-  as_kind k v e q = ap (λ (k : Kind). token at k body here) e ∙ q
-
-  no_text : (k : Kind) → h.kind ≡ k → record_text k body ≡ [] → record_text h.kind body ≡ []
-  no_text k e z = ap (λ (k : Kind). record_text k body) e ∙ z
-
-  pub on_unknown : h.kind ≡ kind.Unknown → On limit document room m on f h.next
-  unfolding token
-  on_unknown e =
-      on-next room m on _ refl (as_kind kind.Unknown _ e refl) (pushed_none room m)
-      (sym (kept_on t.reads t.inside f t.chain on (no_text kind.Unknown e refl) t.none)) refl
-
-  module _ (room' : List ℕ) (m' : Roff) (same : length room' ≡ length room) where
-    pub on-started : {b : Block} (on' : Bool) → h.kind ≡ kind.Start b → is_term_ref (kind.Start b) ≡ false → on' ≡ opening b on
-        → ((p : ℕ) (kept : List ℕ) (capture : Bool) → Follows (started p b (locals m kept capture)) room m room' m')
-        → On limit document room' m' on' f h.next
-    unfolding token
-    on-started {b} on' e n c w =
-        let g = started-gives at here b n in
-        on-next room' m' on' g.0 same (as_kind (kind.Start b) (gives g.0) e g.1)
-        (subst (λ (v : Result Outcome). Follows v room m room' m') g.1 (w at (between document f at) on))
-        (g.2.keeps ∙ sym (kept_on t.reads t.inside f t.chain on' (no_text (kind.Start b) e refl) (λ z. t.none (opening_off b on (sym c ∙ z)))))
-        (g.2.captures ∙ sym c)
-
-    closed-kept : (b : Block) (on' : Bool) → record_text h.kind body ≡ [] → on' ≡ closing b on
-        → between document (beginning on' f h.next) h.next ≡ closed b (between document f at)
-    unfolding closed closing
-    closed-kept b on' z e = go (is_heading b) refl
-      where
-        go : (c : Bool) → is_heading b ≡ c → between document (beginning on' f h.next) h.next ≡ closed b (between document f at)
-        go true q = idle document on' f h.next (e ∙ if_true _ _ q) ∙ sym (if_true _ _ q)
-        go false q = kept_on t.reads t.inside f t.chain on' z (λ y. t.none (sym (e ∙ if_false _ _ q) ∙ y)) ∙ sym (if_false _ _ q)
-
-    pub on-ended : {b : Block} (on' : Bool) → h.kind ≡ kind.End b → is_term_ref (kind.End b) ≡ false → on' ≡ closing b on
-        → ((p : ℕ) (capture : Bool) → Follows (ended p b (locals m (between document f at) capture)) room m room' m')
-        → On limit document room' m' on' f h.next
-    unfolding token
-    on-ended {b} on' e n c w =
-        let g = ended-gives at here b n in
-        on-next room' m' on' g.0 same (as_kind (kind.End b) (gives g.0) e g.1)
-        (subst (λ (v : Result Outcome). Follows v room m room' m') g.1 (w at on))
-        (g.2.keeps ∙ sym (closed-kept b on' (no_text (kind.End b) e refl) c))
-        (g.2.captures ∙ sym c)
-
-    pub on-text : {st : Style} → h.kind ≡ kind.Text st → on ≡ false
-        → Pushed (subsection st ++ text m.strip (font_of st) body) room m room' m' → On limit document room' m' on f h.next
-    unfolding token
-    on-text {st} e q w =
-        on-next room' m' on _ same (as_kind (kind.Text st) _ e (if_false _ _ q)) w
-        (t.none q ∙ sym (idle document on f h.next q)) refl
-
-  pub on_captured : {st : Style} → h.kind ≡ kind.Text st → on ≡ true → On limit document room m on f h.next
-  unfolding token captures beginning
-  on_captured {st} e q =
-      on-next room m on _ refl (as_kind (kind.Text st) _ e (if_true _ _ q)) (pushed_none room m)
-      (sym (ap (λ (x : ℕ). between document x h.next) (if_true _ _ q) ∙ between_next t.reads t.inside f t.chain
-      ∙ ap (λ (k : Kind). between document f at ++ record_text k body) e)) refl
-
-  -- 11, where no refusal by 13 was met before
-
-  refuses : (n p : ℕ) → m.len ≤ length room → token at h.kind body here ≡ refused n p → whole limit document ≡ refused n p
-  unfolding turn ◌>>=◌
-  refuses n p i e =
-      leads-refused (whole limit document) (records (turn limit) document at) (marked room m here) t.leads
-      (turned (turn limit) document at h) (records (turn limit) document h.next) n p (walk_record (turn limit) document at h t.reads t.inside)
-      (rw (marked_in room m here i, e) refl)
-
-  pub refused_11 : m.len ≤ length room → is_term_ref h.kind ≡ true → whole limit document ≡ refused 11 at
-  refused_11 i e = refuses 11 at i (token-refused at h.kind body here e)
-
-module _ {limit : ℕ} {document room : List ℕ} {m : Roff} {on : Bool} {from at : ℕ} (o : On limit document room m on from at) where
-  abbrev now-locals : Locals
-  now-locals = locals m (between document (beginning on from at) at) on
-
-  pub refused_13 : length room < m.len → whole limit document ≡ refused 13 0
+  pub refused_13 : seen m.text.now.room.now m.text.now.len ≡ refused 13 0 → refused 13 0 ≡ roff_on limit (tokens 0 0 document)
   refused_13 h =
-      leads-out (whole limit document) (records (turn limit) document at) (marked room m now-locals) o.leads 13 0
-      (marked-out room m now-locals h)
+      whole-refused limit document 13 0
+      (leads-out (whole limit document) (walk (turn limit) (left records)) (marked m here) o.leads 13 0
+      (marked-out m here (past_room m.text.now.room.now m.text.now.len h)))
 
-  pub done : length document ≤ at → m.len ≤ length room → (n : ℕ) → limit ≡ n → Answered n document room (Ok m.len)
-  unfolding ◌>>=◌
-  done h i n k = record {
-    stands = subst (λ (n : ℕ). gives (take m.len room) ≡ roff_on n (tokens 0 0 document)) k
-        (sym (ap (λ (s : Result State). s >>= λ s. gives s.written.out)
-        (sym (leads-end (whole limit document) (records (turn limit) document at) (marked room m now-locals) o.leads (walk_end (turn limit) document at h))
-        ∙ marked_in room m now-locals i)));
-    inside = i;
-  }
+  pub done : left records ≡ [] → m.text.now.len ≤ length m.text.now.room.now
+      → seen m.text.now.room.now m.text.now.len ≡ roff_on limit (tokens 0 0 document)
+  unfolding ◌>>=◌ walk
+  done h i =
+      seen_in m.text.now.room.now m.text.now.len i
+      ∙ sym (ap (λ (s : Result State). s >>= λ s. gives s.written.out)
+      (sym (leads-end (whole limit document) (walk (turn limit) (left records)) (marked m here) o.leads
+      (λ s. ap (λ (ts : List Token). walk (turn limit) ts s) h))
+      ∙ marked_in m here i))
 
--- Where capture is on or off as an option says, what is captured begins at the place in it, or here.
+  -- at a record
+  module _ (r : Record) (after : Records) (first : left records ≡ listed r ∷ left after) where
+    abbrev turned : State → Result State
+    turned = turn limit r.place r.start r.kind r.body.now (left after)
 
-module _ {limit : ℕ} {document room : List ℕ} {m : Roff} where
-  pub by_captured : (captured : Option ℕ) (f at : ℕ) → unwrap_or captured f ≡ f → On limit document room m (is_some captured) f at
-      → On limit document room m (is_some captured) (unwrap_or captured at) at
-  unfolding beginning when◌then◌else◌
-  by_captured (Some x) f at e o = subst (λ (y : ℕ). On limit document room m true y at) (sym e) o
-  by_captured None f at e o = record { same = o.same; ahead = o.ahead; behind = o.behind; chain = o.chain; leads = o.leads }
+    walks : (s : State) → walk (turn limit) (left records) s ≡ (turned s >>= walk (turn limit) (left after))
+    unfolding walk
+    walks s = ap (λ (ts : List Token). walk (turn limit) ts s) first
 
-pub begins-at : (captured : Option ℕ) (at : ℕ) → unwrap_or captured at ≡ beginning (is_some captured) (unwrap_or captured at) at
-unfolding beginning when◌then◌else◌
-begins-at (Some x) at = refl
-begins-at None at = refl
+    -- its body, by its places
+    pub places : Placed document (listed r)
+    places = placed_first document o.at (listed r) (left after) (sym first ∙ o.among)
 
-pub same-from : (captured : Option ℕ) (at : ℕ) → unwrap_or captured (unwrap_or captured at) ≡ unwrap_or captured at
-same-from (Some x) at = refl
-same-from None at = refl
+    pub ahead-on : texts_valid (left after) ≡ true
+    ahead-on = valid_after r first o.ahead
+
+    -- its token was followed
+    next : (m' : Roff) (captured' : Option Records) (kept' : List ℕ) (q : Outcome) → token r.place r.kind r.body.now here ≡ gives q
+        → roff_of m' ≡ stripped q.after.strip (pushed q.pushed (roff_of m)) → q.after.kept ≡ kept' → q.after.capture ≡ is_some captured'
+        → Holds captured' after kept' → On start document m' captured' after
+    next m' captured' kept' q e w k c h =
+        let tail = listed_after document o.at (listed r) (left after) (sym first ∙ o.among) in
+        record {
+          same = record {
+            loan = ap (λ (v : Composed). v.loan) w ∙ o.same.loan;
+            name = ap (λ (v : Composed). v.payload.text.name) w ∙ o.same.name;
+            size = ap (λ (v : Composed). v.payload.text.size) w ∙ o.same.size;
+          };
+          at = tail.0;
+          among = tail.1;
+          ahead = ahead-on;
+          kept = kept';
+          holds = h;
+          leads = leads-on (whole limit document) (walk (turn limit) (left records)) (marked m here) o.leads
+              turned (walk (turn limit) (left after)) (marked m' _) walks
+              (ap (marked m') (λ i. record { strip = ap (λ (v : Composed). v.strip) w i; kept = sym k i; capture = sym c i })
+              ∙ turn_made limit r.place r.start r.kind r.body.now (left after) here q e m m' o.same.size w);
+        }
+
+    -- by its kind
+    as_kind : (k : Kind) (v : Result Outcome) → r.kind ≡ k → token r.place k r.body.now here ≡ v → token r.place r.kind r.body.now here ≡ v
+    as_kind k v e q = ap (λ (k : Kind). token r.place k r.body.now here) e ∙ q
+
+    -- a record that neither ends a heading nor has text
+    passes : (k : Kind) → r.kind ≡ k → ends_heading k ≡ false → record_text k r.body.now ≡ [] → heading_text (left records) ≡ heading_text (left after)
+    passes k e n t = heading_on r first [] (sym (ap (λ (k : Kind). record_text k r.body.now) e ∙ t)) (ap ends_heading e ∙ n)
+
+    pub on_unknown : r.kind ≡ kind.Unknown → On start document m captured after
+    unfolding token
+    on_unknown e =
+        next m captured o.kept _ (as_kind kind.Unknown _ e refl) (pushed_none m) refl refl
+        (holds_on records after o.kept ahead-on (passes kind.Unknown e refl refl) captured o.holds)
+
+    pub on_started : {b : Block} (m' : Roff) → r.kind ≡ kind.Start b → is_term_ref (kind.Start b) ≡ false
+        → ((p : ℕ) (kept : List ℕ) (capture : Bool) → Follows (started p b (locals m.strip kept capture)) (roff_of m) (roff_of m'))
+        → On start document m' (opened b captured (unwrap_or captured records)) after
+    unfolding token
+    on_started {b} m' e q w =
+        let from = unwrap_or captured records in
+        let g = started-gives r.place here b q in
+        let same = passes (kind.Start b) e refl refl in
+        next m' (opened b captured from) o.kept g.0 (as_kind (kind.Start b) (gives g.0) e g.1)
+        (subst (λ (v : Result Outcome). Follows v (roff_of m) (roff_of m')) g.1 (w r.place o.kept (is_some captured)))
+        g.2.keeps (g.2.captures ∙ sym (opened-on b captured from)) (go (is_heading b) refl same)
+      where
+        go : (c : Bool) → is_heading b ≡ c → heading_text (left records) ≡ heading_text (left after)
+            → Holds (opened b captured (unwrap_or captured records)) after o.kept
+        go true h same =
+            subst (λ (q : Option Records). Holds q after o.kept) (opened-heading b captured (unwrap_or captured records) h)
+            (holds_some records after o.kept ahead-on same captured o.holds)
+        go false h same =
+            subst (λ (q : Option Records). Holds q after o.kept) (opened-other b captured (unwrap_or captured records) h)
+            (holds_on records after o.kept ahead-on same captured o.holds)
+
+    pub on_ended : {b : Block} (m' : Roff) → r.kind ≡ kind.End b → is_term_ref (kind.End b) ≡ false
+        → ((p : ℕ) (kept : List ℕ) (capture : Bool) → (is_heading b ≡ true → heading_text (left (unwrap_or captured records)) ≡ kept)
+        → Follows (ended p b (locals m.strip kept capture)) (roff_of m) (roff_of m'))
+        → On start document m' (shut b captured) after
+    unfolding token closed
+    on_ended {b} m' e q w =
+        let g = ended-gives r.place here b q in
+        let all : is_heading b ≡ true → heading_text (left (unwrap_or captured records)) ≡ o.kept =
+        λ h. o.holds.chain ∙ ap (λ (y : List ℕ). o.kept ++ y) (heading-ends r first (ap ends_heading e ∙ h)) ∙ append-nil o.kept in
+        next m' (shut b captured) (closed b o.kept) g.0 (as_kind (kind.End b) (gives g.0) e g.1)
+        (subst (λ (v : Result Outcome). Follows v (roff_of m) (roff_of m')) g.1 (w r.place o.kept (is_some captured) all))
+        g.2.keeps (g.2.captures ∙ sym (shut-on b captured)) (go (is_heading b) refl)
+      where
+        go : (c : Bool) → is_heading b ≡ c → Holds (shut b captured) after (closed b o.kept)
+        go true h =
+            subst (λ (q : Option Records). Holds q after (closed b o.kept)) (shut-heading b captured h)
+            (subst (Holds None after) (sym (if_true _ _ h)) (holds_none records after o.kept ahead-on))
+        go false h =
+            subst (λ (q : Option Records). Holds q after (closed b o.kept)) (shut-other b captured h)
+            (subst (Holds captured after) (sym (if_false _ _ h))
+            (holds_on records after o.kept ahead-on (passes (kind.End b) e h refl) captured o.holds))
+
+    pub on_text : {st : Style} (m' : Roff) → r.kind ≡ kind.Text st → is_some captured ≡ false
+        → roff_of m' ≡ pushed (subsection st ++ text m.strip (font_of st) (part document r.start (r.start + length r.body.now))) (roff_of m)
+        → On start document m' captured after
+    unfolding token
+    on_text {st} m' e q w =
+        next m' captured o.kept _ (as_kind (kind.Text st) _ e (if_false _ _ q))
+        (w ∙ ap (λ (x : List ℕ). pushed (subsection st ++ text m.strip (font_of st) x) (roff_of m)) places.1)
+        refl refl (holds_off records after o.kept ahead-on captured q o.holds)
+
+    pub on_captured : {st : Style} → r.kind ≡ kind.Text st → is_some captured ≡ true → On start document m captured after
+    unfolding token captures
+    on_captured {st} e q =
+        next m captured (o.kept ++ r.body.now) _ (as_kind (kind.Text st) _ e (if_true _ _ q)) (pushed_none m) refl refl
+        (holds_more records after o.kept ahead-on r.body.now captured q
+        (heading_on r first r.body.now (sym (ap (λ (k : Kind). record_text k r.body.now) e)) (ap ends_heading e)) o.holds)
+
+    -- 11, where no refusal by 13 was met before
+    pub refused_11 : m.text.now.len ≤ length m.text.now.room.now → is_term_ref r.kind ≡ true
+        → refused 11 r.place ≡ roff_on limit (tokens 0 0 document)
+    unfolding turn ◌>>=◌
+    refused_11 i e =
+        whole-refused limit document 11 r.place
+        (leads-refused (whole limit document) (walk (turn limit) (left records)) (marked m here) o.leads turned (walk (turn limit) (left after)) 11 r.place
+        walks (rw (marked_in m here i, token-refused r.place r.kind r.body.now here e) refl))
 
 -- The document
 
@@ -339,3 +378,15 @@ module _ (n : ℕ) (document : List ℕ) where
   pub roff-refused : (number place : ℕ) → check document ≡ refused number place → roff n document ≡ refused number place
   unfolding roff ◌>>=◌
   roff-refused number place e = rw e
+
+-- What the walk answers, with the text that it leaves
+
+module _ (limit : ℕ) (document : List ℕ) (r : Answer (Unit {0}) Refusal) (s : Result (List ℕ))
+    (walked : (answered r >>= λ _. s) ≡ roff_on limit (tokens 0 0 document)) where
+  pub walked_refused : {a : Refusal} → r ≡ Err a → check document ≡ gives [] → refused (refusal_number a) (refusal_place a) ≡ roff limit document
+  unfolding ◌>>=◌
+  walked_refused e k = sym (ap (λ (r : Answer (Unit {0}) Refusal). answered r >>= λ _. s) e) ∙ walked ∙ roff_accepted limit document k
+
+  pub walked_given : {u : Unit {0}} → r ≡ Ok u → check document ≡ gives [] → s ≡ roff limit document
+  unfolding ◌>>=◌
+  walked_given e k = sym (ap (λ (r : Answer (Unit {0}) Refusal). answered r >>= λ _. s) e) ∙ walked ∙ roff_accepted limit document k

@@ -2,47 +2,30 @@
 
 #![tactic(auto)]
 
-ghost use Rattle.std.specs.Prelude.{◌≡◌, Bool, true, false, not, ◌&&◌, List, ◌++◌, ℕ, ◌≤◌, ltb, length, drop};
+ghost use Rattle.std.specs.Prelude.{◌≡◌, Bool, true, false, not, List, ◌++◌, ◌+◌, ℕ, length};
 ghost use Rattle.base.specs.Bytes.{part};
-ghost use Rattle.base.specs.Result.{◌>>=◌ as bind, measured};
+ghost use Rattle.base.specs.Result.{measured, ◌>>=◌ as bind};
 ghost use Rattle.utf8.specs.Utf8.{utf8};
 ghost use Rattle.upper.specs.Upper.{upper};
 ghost use Rattle.upper.specs.InnerParts.{Columns};
-ghost use Rattle.records.specs.Records.{tokens, tokens_from};
+ghost use Rattle.records.specs.Records.{tokens};
+ghost use Rattle.records.specs.Listed.{left as tokens_left};
 ghost use Rattle.records.specs.declared.Kind.TheVariants as kind;
-ghost use Rattle.room.specs.Room.{seen, extended};
 ghost use Rattle.renderer.specs.Walk.{empty};
 ghost use Rattle.refusal.specs.Answers.{answered};
 ghost use Rattle.renderer.specs.Rendered.{standing, filled, Inside};
 ghost use Rattle.roff_escape.specs.declared.escape.Escape.TheVariants as mode;
-ghost use Rattle.roff_escape.specs.Escape.{escape, line_start};
 ghost use Rattle.roff_escape.specs.Composer.{control, text};
-ghost use Rattle.roff_escape.specs.InnerParts.{Pushed};
+ghost use Rattle.roff_escape.specs.InnerParts.{roff_of, with_escaped, pushed};
 ghost use Rattle.manpage.specs.Roff.{font_of, subsection, started, ended, roff_on, roff};
-ghost use Rattle.manpage.specs.InnerParts.{argument_pieces, locals, Follows, CasedTo, is_heading, is_text, is_term_ref, texts_valid, between, opened, shut};
+ghost use Rattle.manpage.specs.InnerParts.{HasBegun, IsSameRoom, argument_pieces, locals, Follows, CasedTo, is_heading, ends_heading, is_term_ref, record_text, texts_valid, heading_text, opened, shut};
 
-use records::{Block, Head, Kind, Style};
+use records::{Block, Kind, Record, Records, Style};
 use refusal::Refusal;
-use roff_escape::escape::{Escape, Payload};
+use roff_escape::escape::Escape;
+use roff_escape::roff;
 use roff_escape::roff::{Font, Roff};
-use roff_escape::{escape, roff};
-
-// The captured text as it was written: the length of the text then, whether a line starts there, and whether any was captured. The length
-// stands also where none was, so no Option.
-#[derive(Clone, Copy)]
-struct Captured {
-    len: usize,
-    fresh: bool,
-    some: bool,
-}
-
-// Text as far as it was written: the length then, whether a line starts there, and the place up to which it was read.
-#[derive(Clone, Copy)]
-struct Cased {
-    len: usize,
-    fresh: bool,
-    next: usize,
-}
+use room::Text;
 
 // `From<Style> for Font`
 fn font_of(style: Style) -> Font
@@ -77,318 +60,258 @@ fn is_term_ref(kind: Kind) -> bool
     )
 }
 
-// Whether a record holds text that is not empty.
-fn holds_text(h: Head) -> bool
-    ensures { result ≡ (is_text h.kind && ltb h.start h.stop) }
+// What ends all capture: the end of a heading.
+fn ends_heading(kind: Kind) -> bool
+    ensures { result ≡ ends_heading kind }
 {
-    matches!(h.kind, Kind::Text(_)) && h.start < h.stop
+    matches!(
+        kind,
+        Kind::End(Block::Header | Block::Section2 | Block::Section3 | Block::Section4)
+    )
 }
 
-// Text of a heading from a place on, in upper case by the table, of which two columns are lent. The steps are whole characters, so no `for`.
-fn escape_mapped(
-    room: &mut [u8],
-    len: usize,
-    start: bool,
-    characters: &[u16],
-    capitals: &[u16],
-    bytes: &[u8],
-    at: usize,
-) -> Payload
-    requires { Columns characters.now capitals.now × (utf8 (drop at bytes.now) ≡ true) }
-    ensures text { seen room.new result.len ≡ bind (seen room.old len) (extended (length room.old) (escape mode.Spaces start (upper (drop at bytes.now)))) }
-    ensures line { result.fresh ≡ line_start mode.Spaces start (upper (drop at bytes.now)) }
+// The text of a record; a block record has none.
+fn text_of<'a>(r: Record<'a>) -> &'a [u8]
+    ensures { result.now ≡ record_text r.entry.kind r.entry.body.now }
 {
-    let mut n = len;
-    let mut fresh = start;
-    let mut i = at;
+    match r.kind {
+        Kind::Text(_) => r.body,
+        _ => &r.body[..0],
+    }
+}
+
+// Text of a heading in upper case by the table, of which two columns are lent. The steps are whole characters, so no `for`.
+fn escape_mapped(m: &mut Roff, characters: &[u16], capitals: &[u16], bytes: &[u8])
+    requires { Columns characters.now capitals.now × (utf8 bytes.now ≡ true) }
+    ensures { roff_of m.new ≡ with_escaped mode.Spaces (upper bytes.now) (roff_of m.old) }
+{
+    let mut i: usize = 0;
     while i < bytes.len() {
         let cased = upper::to_uppercase(characters, capitals, bytes, i);
         let stop = cased.len;
         let mapped = cased.bytes;
-        let line = escape::escape_bytes(room, n, Escape::Spaces, fresh, &mapped[..stop]);
-        n = line.len;
-        fresh = line.fresh;
+        m.escape_bytes(Escape::Spaces, &mapped[..stop]);
         i = cased.next;
     }
-    Payload { len: n, fresh }
 }
 
-// Text of a heading in upper case, up to the first byte beyond ASCII.
-fn escape_upper(room: &mut [u8], len: usize, start: bool, bytes: &[u8]) -> Cased
+// Text of a heading in upper case, up to the first byte beyond ASCII; what is left of it from there on.
+fn escape_upper<'a>(m: &mut Roff, bytes: &'a [u8]) -> &'a [u8]
     requires { utf8 bytes.now ≡ true }
-    ensures { CasedTo room.old len start bytes.now room.new result }
+    ensures { CasedTo bytes.now (roff_of m.old) (roff_of m.new) result.now }
 {
-    let mut n = len;
-    let mut fresh = start;
     for (i, &b) in bytes.iter().enumerate() {
         if 0x7F < b {
-            return Cased {
-                len: n,
-                fresh,
-                next: i,
-            };
+            return &bytes[i..];
         }
-        let c = upper::to_ascii_uppercase(b);
-        n = escape::put_byte(room, n, Escape::Spaces, fresh, c);
-        fresh = escape::starts_line(Escape::Spaces, c);
+        m.put_byte(Escape::Spaces, upper::to_ascii_uppercase(b));
     }
-    Cased {
-        len: n,
-        fresh,
-        next: bytes.len(),
-    }
+    &bytes[bytes.len()..]
 }
 
 // Text of a heading in upper case, ASCII first and then by the table, of which two columns are lent.
-fn escape_cased(
-    room: &mut [u8],
-    len: usize,
-    start: bool,
-    characters: &[u16],
-    capitals: &[u16],
-    bytes: &[u8],
-) -> Payload
+fn escape_cased(m: &mut Roff, characters: &[u16], capitals: &[u16], bytes: &[u8])
     requires { Columns characters.now capitals.now × (utf8 bytes.now ≡ true) }
-    ensures text { seen room.new result.len ≡ bind (seen room.old len) (extended (length room.old) (escape mode.Spaces start (upper bytes.now))) }
-    ensures line { result.fresh ≡ line_start mode.Spaces start (upper bytes.now) }
+    ensures { roff_of m.new ≡ with_escaped mode.Spaces (upper bytes.now) (roff_of m.old) }
 {
-    let a = escape_upper(room, len, start, bytes);
-    escape_mapped(room, a.len, a.fresh, characters, capitals, bytes, a.next)
+    let rest = escape_upper(m, bytes);
+    escape_mapped(m, characters, capitals, rest);
 }
 
-// The rest of a record's text, from its first byte beyond ASCII on, and then the text between two places, all in upper case: the columns are
-// named here once for a heading, and lent.
-fn put_mapped(
-    room: &mut [u8],
-    len: usize,
-    start: bool,
-    bytes: &[u8],
-    i: usize,
-    document: &[u8],
-    from: usize,
-    to: usize,
-) -> Payload
-    requires { (utf8 (drop i bytes.now) ≡ true) × (to ≤ length document.now) × (texts_valid (tokens_from document.now from) ≡ true) }
-    ensures text { seen room.new result.len ≡ bind (seen room.old len) (extended (length room.old) (escape mode.Spaces start (upper (drop i bytes.now) ++ upper (between document.now from to)))) }
-    ensures line { result.fresh ≡ line_start mode.Spaces start (upper (drop i bytes.now) ++ upper (between document.now from to)) }
+// The rest of a record's text, from its first byte beyond ASCII on, and then that of the records up to the heading's end, all in upper case: the
+// columns are named here once for a heading, and lent.
+fn put_mapped(m: &mut Roff, rest: &[u8], records: Records)
+    requires { (utf8 rest.now ≡ true) × (texts_valid (tokens_left records) ≡ true) }
+    ensures { roff_of m.new ≡ with_escaped mode.Spaces (upper rest.now ++ upper (heading_text (tokens_left records.entry))) (roff_of m.old) }
 {
     let characters = upper::from_column();
     let capitals = upper::to_column();
-    let first = escape_mapped(room, len, start, &characters, &capitals, bytes, i);
-    let mut n = first.len;
-    let mut fresh = first.fresh;
-    let mut at = from;
-    while at < to {
-        let h = records::record_at(document, at);
-        if holds_text(h) {
-            let line = escape_cased(
-                room,
-                n,
-                fresh,
-                &characters,
-                &capitals,
-                &document[h.start..h.stop],
-            );
-            n = line.len;
-            fresh = line.fresh;
+    escape_mapped(m, &characters, &capitals, rest);
+    for r in records {
+        if ends_heading(r.kind) {
+            return;
         }
-        at = h.next;
+        escape_cased(m, &characters, &capitals, text_of(r));
     }
-    Payload { len: n, fresh }
 }
 
-// The text between two places in upper case, from its records read again. From the first byte beyond ASCII on the table is needed.
-fn put_captured(
-    room: &mut [u8],
-    len: usize,
-    start: bool,
-    document: &[u8],
-    from: usize,
-    to: usize,
-) -> Captured
-    requires { (to ≤ length document.now) × (texts_valid (tokens_from document.now from) ≡ true) }
-    ensures text { seen room.new result.len ≡ bind (seen room.old len) (extended (length room.old) (escape mode.Spaces start (upper (between document.now from to)))) }
-    ensures line { result.fresh ≡ line_start mode.Spaces start (upper (between document.now from to)) }
-    ensures some { result.some ≡ not (empty (between document.now from to)) }
+// The text of the records up to a heading's end in upper case; whether there was any. From the first byte beyond ASCII on the table is needed, and
+// the records that are left then are passed on: so no `for`.
+fn put_captured(m: &mut Roff, records: Records) -> bool
+    requires { texts_valid (tokens_left records) ≡ true }
+    ensures text { roff_of m.new ≡ with_escaped mode.Spaces (upper (heading_text (tokens_left records.entry))) (roff_of m.old) }
+    ensures some { result ≡ not (empty (heading_text (tokens_left records.entry))) }
 {
-    let mut n = len;
-    let mut fresh = start;
+    let mut after = records;
     let mut some = false;
-    let mut at = from;
-    while at < to {
-        let h = records::record_at(document, at);
-        if holds_text(h) {
-            let body = &document[h.start..h.stop];
-            let a = escape_upper(room, n, fresh, body);
-            if a.next < body.len() {
-                let line = put_mapped(room, a.len, a.fresh, body, a.next, document, h.next, to);
-                return Captured {
-                    len: line.len,
-                    fresh: line.fresh,
-                    some: true,
-                };
-            }
-            n = a.len;
-            fresh = a.fresh;
-            some = true;
+    while let Some(r) = after.next() {
+        if ends_heading(r.kind) {
+            return some;
         }
-        at = h.next;
+        let body = text_of(r);
+        let rest = escape_upper(m, body);
+        if !rest.is_empty() {
+            put_mapped(m, rest, after);
+            return true;
+        }
+        some |= !body.is_empty();
     }
-    Captured {
-        len: n,
-        fresh,
-        some,
-    }
+    some
 }
 
 // The argument of a heading's control line, and the space before it; an empty one is `""`.
-fn put_argument(room: &mut [u8], m: Roff, document: &[u8], from: usize, to: usize) -> Roff
-    requires { (to ≤ length document.now) × (texts_valid (tokens_from document.now from) ≡ true) }
-    ensures { Pushed (argument_pieces (upper (between document.now from to))) room.old m room.new result }
+fn put_argument(m: &mut Roff, records: Records)
+    requires { texts_valid (tokens_left records) ≡ true }
+    ensures { roff_of m.new ≡ pushed (argument_pieces (upper (heading_text (tokens_left records.entry)))) (roff_of m.old) }
 {
-    let a = roff::push(room, m, Escape::Unescaped, b" ");
-    let b = put_captured(room, a.len, a.fresh, document, from, to);
-    let c = Roff {
-        len: b.len,
-        fresh: b.fresh,
-        strip: a.strip,
-    };
-    if b.some {
-        return c;
+    m.push(Escape::Unescaped, b" ");
+    if put_captured(m, records) {
+        return;
     }
-    roff::push(room, c, Escape::Spaces, b"\"\"")
+    m.push(Escape::Spaces, b"\"\"");
 }
 
-// `Roff::control` with the text between two places as its argument.
-fn control(room: &mut [u8], m: Roff, name: &[u8], document: &[u8], from: usize, to: usize) -> Roff
-    requires { (to ≤ length document.now) × (texts_valid (tokens_from document.now from) ≡ true) }
-    ensures { Pushed (control name.now (upper (between document.now from to))) room.old m room.new result }
+// `Roff::control` with the text of the records up to a heading's end as its argument.
+fn control(m: &mut Roff, name: &[u8], records: Records)
+    requires { texts_valid (tokens_left records) ≡ true }
+    ensures { roff_of m.new ≡ pushed (control name.now (upper (heading_text (tokens_left records.entry)))) (roff_of m.old) }
 {
-    let a = roff::control_name(room, m, name);
-    let b = put_argument(room, a, document, from, to);
-    roff::roff_linebreak(room, b)
+    m.control_name(name);
+    put_argument(m, records);
+    m.roff_linebreak();
 }
 
 // 'if style == Style::Emphasis': a control line before it.
-fn put_subsection(room: &mut [u8], m: Roff, style: Style) -> Roff
-    ensures { Pushed (subsection style) room.old m room.new result }
+fn put_subsection(m: &mut Roff, style: Style)
+    ensures { roff_of m.new ≡ pushed (subsection style) (roff_of m.old) }
 {
     match style {
-        Style::Emphasis => roff::control0(room, m, b"SS"),
-        _ => m,
+        Style::Emphasis => m.control0(b"SS"),
+        _ => {}
     }
 }
 
 // The text between two places of a document, which is not captured.
-fn put_text(room: &mut [u8], m: Roff, style: Style, document: &[u8], from: usize, to: usize) -> Roff
-    ensures { Pushed (subsection style ++ text m.strip (font_of style) (part document.now from to)) room.old m room.new result }
+fn put_text(m: &mut Roff, style: Style, document: &[u8], from: usize, to: usize)
+    ensures { roff_of m.new ≡ pushed (subsection style ++ text m.old.strip (font_of style) (part document.now from to)) (roff_of m.old) }
 {
-    let a = put_subsection(room, m, style);
-    roff::text(room, a, font_of(style), document, from, to)
+    put_subsection(m, style);
+    m.text(font_of(style), document, from, to);
 }
 
 // `Token::BlockStart`. The walk starts capture at a heading, and refuses TermRef before it comes here.
-fn started(room: &mut [u8], m: Roff, b: Block) -> Roff
-    ensures { (p : ℕ) (kept : List ℕ) (capture : Bool) → Follows (started p b (locals m kept capture)) room.old m room.new result }
+fn started(m: &mut Roff, b: Block)
+    ensures { (p : ℕ) (kept : List ℕ) (capture : Bool) → Follows (started p b (locals m.old.strip kept capture)) (roff_of m.old) (roff_of m.new) }
 {
     match b {
-        Block::ItemTerm => roff::strip_newlines(roff::control0(room, m, b"TP"), true),
-        Block::Block => roff::control0(room, m, b"PP"),
-        Block::Meta => roff::control0(room, m, b"nf"),
-        _ => m,
+        Block::ItemTerm => {
+            m.control0(b"TP");
+            m.strip_newlines(true);
+        }
+        Block::Block => m.control0(b"PP"),
+        Block::Meta => m.control0(b"nf"),
+        _ => {}
     }
 }
 
-// The end of a heading at a place, where the text from `from` on is captured.
-fn headed(room: &mut [u8], m: Roff, b: Block, document: &[u8], from: usize, at: usize) -> Roff
-    requires { (is_heading b ≡ true) × (at ≤ length document.now) × (texts_valid (tokens_from document.now from) ≡ true) }
-    ensures { (p : ℕ) (capture : Bool) → Follows (ended p b (locals m (between document.now from at) capture)) room.old m room.new result }
+// The end of a heading, where the text of some records up to it is captured.
+fn headed(m: &mut Roff, b: Block, records: Records)
+    requires { (is_heading b ≡ true) × (texts_valid (tokens_left records) ≡ true) }
+    ensures { (p : ℕ) (capture : Bool) → Follows (ended p b (locals m.old.strip (heading_text (tokens_left records.entry)) capture)) (roff_of m.old) (roff_of m.new) }
 {
     match b {
-        Block::Header => control(room, m, b"SH", document, from, at),
-        _ => control(room, m, b"SS", document, from, at),
+        Block::Header => control(m, b"SH", records),
+        _ => control(m, b"SS", records),
     }
 }
 
 // The end of a block that is no heading; the text that is captured does not matter.
-fn left(room: &mut [u8], m: Roff, b: Block) -> Roff
+fn left(m: &mut Roff, b: Block)
     requires { is_heading b ≡ false }
-    ensures { (p : ℕ) (kept : List ℕ) (capture : Bool) → Follows (ended p b (locals m kept capture)) room.old m room.new result }
+    ensures { (p : ℕ) (kept : List ℕ) (capture : Bool) → Follows (ended p b (locals m.old.strip kept capture)) (roff_of m.old) (roff_of m.new) }
 {
     match b {
-        Block::ItemTerm => roff::strip_newlines(roff::roff_linebreak(room, m), false),
-        Block::ItemBody => roff::strip_newlines(roff::control0(room, m, b"PP"), false),
-        Block::Meta => roff::control0(room, m, b"fi"),
-        _ => m,
+        Block::ItemTerm => {
+            m.roff_linebreak();
+            m.strip_newlines(false);
+        }
+        Block::ItemBody => {
+            m.control0(b"PP");
+            m.strip_newlines(false);
+        }
+        Block::Meta => m.control0(b"fi"),
+        _ => {}
     }
 }
 
-// `Token::BlockEnd` at a place, where the text from `from` on is captured. TermRef is refused before. Headings, which are few, stand apart: the
-// others then need nothing of the document at hand.
-fn ended(room: &mut [u8], m: Roff, b: Block, document: &[u8], from: usize, at: usize) -> Roff
-    requires { (at ≤ length document.now) × (texts_valid (tokens_from document.now from) ≡ true) }
-    ensures { (p : ℕ) (capture : Bool) → Follows (ended p b (locals m (between document.now from at) capture)) room.old m room.new result }
+// `Token::BlockEnd`, where the text of some records up to it is captured. TermRef is refused before. Headings, which are few, stand apart: the others
+// then need nothing of the records at hand.
+fn ended(m: &mut Roff, b: Block, records: Records)
+    requires { texts_valid (tokens_left records) ≡ true }
+    ensures { (p : ℕ) (kept : List ℕ) (capture : Bool) → (is_heading b ≡ true → heading_text (tokens_left records.entry) ≡ kept) → Follows (ended p b (locals m.old.strip kept capture)) (roff_of m.old) (roff_of m.new) }
 {
     if is_heading(b) {
-        return headed(room, m, b, document, from, at);
+        headed(m, b, records);
+    } else {
+        left(m, b);
     }
-    left(room, m, b)
 }
 
-// From where on text is captured after a block's start at a place, if it is.
-fn opens_capture(b: Block, captured: Option<usize>, from: usize) -> Option<usize>
-    ensures { result ≡ opened b captured from }
+// From where on text is captured after a block's start, if it is.
+fn opens_capture<'a>(
+    b: Block,
+    captured: Option<Records<'a>>,
+    from: Records<'a>,
+) -> Option<Records<'a>>
+    ensures { result ≡ opened b captured.entry from.entry }
 {
     if is_heading(b) { Some(from) } else { captured }
 }
 
 // And after a block's end.
-fn ends_capture(b: Block, captured: Option<usize>) -> Option<usize>
-    ensures { result ≡ shut b captured }
+fn ends_capture<'a>(b: Block, captured: Option<Records<'a>>) -> Option<Records<'a>>
+    ensures { result ≡ shut b captured.entry }
 {
     if is_heading(b) { None } else { captured }
 }
 
-// The walk over the records of a document. Text is captured from a place on, or not; a heading's end reads the records from there again. No
-// record is captured by two headings, so each is read twice at most.
-fn walk(document: &[u8], room: &mut [u8]) -> Result<usize, Refusal>
-    requires { texts_valid (tokens 0 0 document.now) ≡ true }
-    ensures text { standing room.new result ≡ roff_on (length room.old) (tokens 0 0 document.now) }
-    ensures inside { Inside (length room.new) result }
+// The walk over the records of a document. Text is captured from a record on, or not; a heading's end reads the records from there again: the
+// iterator is at hand for that, so no `for`. No record is captured by two headings, so each is read twice at most.
+fn walk(m: &mut Roff, document: &[u8]) -> Result<(), Refusal>
+    requires begun { HasBegun (roff_of m.old) }
+    requires valid { texts_valid (tokens 0 0 document.now) ≡ true }
+    ensures same { IsSameRoom (roff_of m.old) (roff_of m.new) }
+    ensures text { bind (answered result) (λ _. (roff_of m.new).payload.text.shown) ≡ roff_on (roff_of m.old).payload.text.size (tokens 0 0 document.now) }
 {
-    let mut m = roff::put_preamble(room);
-    let mut captured: Option<usize> = None;
-    let mut at: usize = 0;
+    let mut records = Records::of(document);
+    let mut captured: Option<Records> = None;
     loop {
-        if room.len() < m.len {
+        if m.text.is_full() {
             return Err(Refusal::NoRoom);
         }
-        if document.len() <= at {
-            return Ok(m.len);
+        let from = captured.unwrap_or(records);
+        let Some(r) = records.next() else {
+            return Ok(());
+        };
+        if is_term_ref(r.kind) {
+            return Err(Refusal::NoForm(r.place));
         }
-        let from = captured.unwrap_or(at);
-        let h = records::record_at(document, at);
-        let kind = h.kind;
-        if is_term_ref(kind) {
-            return Err(Refusal::NoForm(at));
-        }
-        match kind {
+        match r.kind {
             Kind::Text(style) => {
                 if captured.is_none() {
-                    m = put_text(room, m, style, document, h.start, h.stop);
+                    put_text(m, style, document, r.start, r.start + r.body.len());
                 }
             }
             Kind::Start(b) => {
-                m = started(room, m, b);
+                started(m, b);
                 captured = opens_capture(b, captured, from);
             }
             Kind::End(b) => {
-                m = ended(room, m, b, document, from, at);
+                ended(m, b, from);
                 captured = ends_capture(b, captured);
             }
             Kind::Unknown => {}
         }
-        at = h.next;
     }
 }
 
@@ -398,7 +321,17 @@ fn rendered(document: &[u8], room: &mut [u8]) -> Result<usize, Refusal>
     ensures inside { Inside (length room.old) result }
 {
     document::check(document)?;
-    walk(document, room)
+    let mut text = Text::new(room);
+    roff::put_preamble(&mut text);
+    // made here and not by a function, since Rattle tells what a text is after a loan of it in a struct only where both are made
+    let mut m = Roff {
+        text: &mut text,
+        fresh: true,
+        strip: false,
+    };
+    walk(&mut m, document)?;
+    let len = text.finish();
+    renderer::answer(room, len)
 }
 
 // `Doc::render_roff` given `Roff::new()`: the text stands in the room, with zeros beyond it; after a refusal the room is all zeros.

@@ -1,27 +1,31 @@
 -- What holds at each record of the walk over an accepted document, and at each chunk of a body. Assumes nothing.
-use Rattle.markdown.proofs.Names.{ℕ, ◌+◌, ◌-◌, ◌≤◌, ◌<◌, ◌≡◌, refl, sym, ap, ◌∙◌, subst, Bool, true, false, List, [], ◌++◌, length, drop, length-take}
-use Rattle.markdown.proofs.Names.{arith, Result, gives, refused, ◌>>=◌, bind_assoc, bind_same, bind_end, extended, seen, index, tokens, tokens_from}
-use Rattle.markdown.proofs.Names.{record_fits, check, Read, Style, Block, DeepAt, accepted_at_0, check-gives, deep-from, fits_here, open_next, split}
-use Rattle.markdown.proofs.Names.{chunk_of, placed_from, cursor, start, page, with_lay, write, shown, last, anywhere, walk, body, hides, skip_paragraph}
-use Rattle.markdown.proofs.Names.{Markdown, met_term, start_of, end_of, closed, start_rule, chunk_rule, fence_after}
+use Rattle.markdown.proofs.Names.{ℕ, zero, suc, ◌+◌, ◌≤◌, ◌≡◌, refl, sym, ap, ◌∙◌, subst, Bool, true, false, List, [], ◌∷◌, ◌++◌, length}
+use Rattle.markdown.proofs.Names.{drop, length-take, length-drop}
+use Rattle.markdown.proofs.Names.{arith, Result, gives, refused, ◌>>=◌, bind_assoc, bind_same, bind_end, extended, seen, index, size, token_at, tokens}
+use Rattle.markdown.proofs.Names.{Token, check, Style, Block, split, chunk_of, placed_from, cursor, start, page, with_lay, write, shown, last, anywhere}
+use Rattle.markdown.proofs.Names.{walk, body, hides, skip_paragraph, Markdown, met_term, start_of, end_of, closed, start_rule, chunk_rule, fence_after}
 use borrow.Author.Tests.{eqb-true, eqb-false}
-use Rattle.base.specs.Bytes.{part}
+use Rattle.std.specs.Borrow.{GName}
+use Rattle.document.proofs.Walks.{check-gives}
 use Rattle.records.specs.declared.Style.TheVariants as style
 use Rattle.records.specs.declared.Kind.{Kind}
 use Rattle.records.specs.declared.Kind.TheVariants as kind
-use Rattle.records.specs.declared.Head.{Head}
+use Rattle.room.specs.declared.Text.{Text}
+use Rattle.room.specs.Lent.{text_of, lent_empty, wrote, with_bytes}
+use Rattle.room.proofs.Lents.{same_room, sees, past_room}
 use Rattle.splitter.specs.declared.Code.{Code}
 use Rattle.splitter.specs.declared.Cursor.{Cursor}
 use Rattle.splitter.specs.declared.Piece.{Piece}
 use Rattle.splitter.specs.declared.Piece.TheVariants.{Raw, Space, Paragraph, LineBreak}
 use Rattle.splitter.proofs.Answers.{Took}
-use Rattle.renderer.proofs.Shown.{shown_in, shown_then, shown_by, shown-write, shown_changed}
+use Rattle.renderer.proofs.Shown.{shown_then, shown_by, shown-write, shown_changed}
 use Rattle.renderer.proofs.Leads.{Leads, leads-start, leads-on, chunks_then}
 use Rattle.html_rules.specs.Markdown.{State, plain, initial, with_style, with_skip, with_fenced, opening, closing, term_ends, code_ends, change, body_ends}
 use Rattle.html_rules.specs.Markdown.{finish, chunk, turn}
 use Rattle.html_marks.specs.InnerParts.{is_meta}
 use Rattle.markdown_marks.specs.InnerParts.{started_text, ended_text, Few}
-use Rattle.html_rules.proofs.Rest as walking
+use Rattle.html_rules.proofs.Accepted.{few_records}
+use Rattle.html_rules.proofs.Listed as walking
 use Rattle.html_rules.proofs.Rest.{chunks-on, chunks-stop, chunks-done}
 use Rattle.markdown_chunks.specs.InnerAdvance.{marked_from, Moves}
 use Rattle.markdown_marks.proofs.Flags.{start_few, end_few, met_few, met_skip, met_mono, met_style, met_styled}
@@ -33,271 +37,283 @@ fence_any (Space at) y f = refl
 fence_any (Paragraph at) y f = refl
 fence_any (LineBreak at) y f = refl
 
-module _ (limit : ℕ) (full : Bool) (document : List ℕ) where
-  -- the records from a place on, and the end; after a body, its end first
-  abbrev rest : ℕ → State → Result (List ℕ)
-  rest = walking.rest (turn limit full) (finish limit) document
+-- The bodies of some records are as short as an accepted document.
+abbrev Short : List Token → Type 0
+Short [] = Unit {0}
+Short (t ∷ ts) = (length t.body ≤ 32_768) × Short ts
 
-  abbrev after : ℕ → State → Result (List ℕ)
-  after at s = body_ends limit s >>= rest at
+short_from : (s : List ℕ) (p pass : ℕ) → length s ≤ 32_768 → Short (tokens p pass s)
+unfolding tokens token_at
+short_from [] p zero h = tt
+short_from [] p (suc pass) h = tt
+short_from (b ∷ s) p (suc pass) h = short_from s (p + 1) pass (omega (arith, h))
+short_from (b ∷ s) p zero h = (
+  omega (arith, h, length-take (size (b ∷ s)) (drop 6 (b ∷ s)), length-drop 6 (b ∷ s)),
+  short_from s (p + 1) (5 + size (b ∷ s)) (omega (arith, h)),
+)
+
+module _ (name : GName) (limit : ℕ) (full : Bool) (document : List ℕ) where
+  -- some records, and the end; after a body, its end first
+  abbrev rest : List Token → State → Result (List ℕ)
+  rest = walking.rest (turn limit full) (finish limit)
+
+  abbrev after : List Token → State → Result (List ℕ)
+  after ts s = body_ends limit s >>= rest ts
 
   abbrev pub whole : Result (List ℕ)
   whole = walk (turn limit full) (tokens 0 0 document) initial >>= finish limit
 
-  -- where a record is read next
-  pub record On (room : List ℕ) (at len : ℕ) (lay : Markdown) : Type 0 where
-    pub opened : DeepAt [] document at 0
-    pub same : length room ≡ limit
-    pub few : lay.skip ≤ at
-    pub open_few : lay.mono ≤ at
-    pub short : length document ≤ 32_768
-    pub leads : Leads whole (rest at) (shown room len [] lay)
+  -- the page whose text stands there
+  abbrev shows : Text → Markdown → Result State
+  shows t lay = shown t.room.now t.len [] lay
 
-  pub on-start : (room : List ℕ) → length room ≡ limit → check document ≡ gives [] → On room 0 0 plain
-  on-start room s e = record {
-    opened = deep-from 0 (accepted_at_0 document [] e) (omega arith);
-    same = s;
-    few = omega arith;
-    open_few = omega arith;
-    short = (check-gives document [] e).0;
-    leads = leads-start (rest 0) (shown room 0 [] plain) initial (shown_in {L = Markdown} room 0 [] plain (omega arith));
+  -- the room that was lent
+  abbrev Same : Text → Type 0
+  Same t = (t.room.ghost_name ≡ name) × (length t.room.now ≡ limit)
+
+  module _ (t u : Text) (rule : ℕ → List ℕ → Result (List ℕ)) (s : Same t) (w : text_of u ≡ wrote rule (text_of t)) where
+    still : Same u
+    still = let r = same_room _ _ _ _ w in (r.0 ∙ s.0, r.1 ∙ s.1)
+
+    at_limit : seen u.room.now u.len ≡ (seen t.room.now t.len >>= rule limit)
+    at_limit = sees _ _ _ _ w ∙ ap (λ (n : ℕ). seen t.room.now t.len >>= rule n) s.1
+
+  -- before a record is read, with those that are left
+  pub record On (t : Text) (ts : List Token) (lay : Markdown) : Type 0 where
+    pub short : Short ts
+    pub same : Same t
+    pub few : lay.skip + length ts ≤ 32_768
+    pub open_few : lay.mono + length ts ≤ 32_768
+    pub leads : Leads whole (rest ts) (shows t lay)
+
+  pub on-start : (t : Text) (loan : GName) → text_of t ≡ lent_empty loan limit → t.room.ghost_name ≡ name → check document ≡ gives []
+      → On t (tokens 0 0 document) plain
+  unfolding shown ◌>>=◌
+  on-start t loan w n e = record {
+    short = short_from document 0 0 (check-gives document [] e).0;
+    same = (n, (same_room _ _ _ _ w).1);
+    few = omega (arith, few_records document [] e);
+    open_few = omega (arith, few_records document [] e);
+    leads = leads-start (rest (tokens 0 0 document)) (shows t plain) initial (begun (sees _ _ _ _ w));
   }
+    where
+      begun : seen t.room.now t.len ≡ gives [] → shows t plain ≡ gives initial
+      begun e = rw e
 
   -- the chunks of a body from a cursor on are left, and then what follows the body
-  pub record InBody (room : List ℕ) (at len : ℕ) (lay : Markdown) (y : List ℕ) (c : Cursor) : Type 0 where
-    pub few : lay.skip ≤ at
-    pub open_few : lay.mono ≤ at
-    pub leads : Leads whole (chunks_then full (anywhere (chunk limit full)) (after at) (placed_from y c)) (shown room len [] lay)
+  pub record InBody (t : Text) (ts : List Token) (lay : Markdown) (y : List ℕ) (c : Cursor) : Type 0 where
+    pub short : (length y ≤ 32_768) × Short ts
+    pub same : Same t
+    pub few : lay.skip + 1 + length ts ≤ 32_768
+    pub open_few : lay.mono + length ts ≤ 32_768
+    pub leads : Leads whole (chunks_then full (anywhere (chunk limit full)) (after ts) (placed_from y c)) (shows t lay)
 
   -- words that went out as they stand
-  pub body_words : {room : List ℕ} {at len : ℕ} {lay : Markdown} {y : List ℕ} {from : ℕ} {d : Code} → InBody room at len lay y (cursor from d)
-      → (new : List ℕ) (n from' : ℕ) → length room ≡ limit → length y ≤ 32_768 → Moves lay y d room len from new n from' → InBody new at n lay y
-      (cursor from' d)
-  body_words {room} {at} {len} {lay} {y} {from} {d} i new n from' s f m = record {
+  pub body_words : {t : Text} {ts : List Token} {lay : Markdown} {y : List ℕ} {from : ℕ} {d : Code} → InBody t ts lay y (cursor from d)
+      → (u : Text) (from' : ℕ) → Moves lay y d (text_of t) from (text_of u) from' → InBody u ts lay y (cursor from' d)
+  unfolding shown
+  body_words {t} {ts} {lay} {y} {from} {d} i u from' m = record {
+    short = i.short;
+    same = (m.name ∙ i.same.0, m.size ∙ i.same.1);
     few = i.few;
     open_few = i.open_few;
-    leads = bind_assoc (shown new n [] lay) (marked_from full limit y from' d) (after at)
-        ∙ ap (λ (r : Result State). r >>= after at)
-        (subst (λ (k : ℕ). (shown new n [] lay >>= marked_from full k y from' d) ≡ (shown room len [] lay >>= marked_from full k y from d)) s
-        (m.same f full []))
-        ∙ sym (bind_assoc (shown room len [] lay) (marked_from full limit y from d) (after at))
+    leads = bind_assoc (shows u lay) (marked_from full limit y from' d) (after ts)
+        ∙ ap (λ (r : Result State). r >>= after ts)
+        (subst (λ (k : ℕ). (shows u lay >>= marked_from full k y from' d) ≡ (shows t lay >>= marked_from full k y from d)) i.same.1
+        (m.same i.short.0 full []))
+        ∙ sym (bind_assoc (shows t lay) (marked_from full limit y from d) (after ts))
         ∙ i.leads;
   }
 
-  -- a chunk that goes on
-  pub body-on : {room : List ℕ} {at len : ℕ} {lay : Markdown} {y : List ℕ} {c : Cursor} → InBody room at len lay y c
-      → {p : Piece} {d : Cursor} → Took y c p d → (new : List ℕ) (n : ℕ) (f : Bool) → length room ≡ limit → last full (chunk_of y p) ≡ false
-      → (seen new n ≡ (seen room len >>= chunk_rule (length room) lay (chunk_of y p)))
-      → f ≡ fence_after (chunk_of [] p) lay.fenced → InBody new at n (with_fenced f lay) y d
-  body-on {room} {at} {len} {lay} {y} {c} i {p} t new n f s e w g = record {
-    few = i.few;
-    open_few = i.open_few;
-    leads = chunks-on full (chunk limit full) (after at) whole y c (shown room len [] lay) i.leads t (shown new n [] (with_fenced f lay))
-        (shown_by (with_lay (fencing (chunk_of y p))) [] [] lay (with_fenced f lay)
-        (λ x. ap (λ (b : Bool). page [] (with_fenced b lay) x) (fence_any p y lay.fenced ∙ sym g))
-        (chunk_rule limit lay (chunk_of y p)) room new len n (w ∙ ap (λ (m : ℕ). seen room len >>= chunk_rule m lay (chunk_of y p)) s)
-        ∙ sym (shown_then room len [] lay (chunk limit full (chunk_of y p)) _ (λ x. chunk-on limit (page [] lay x) full (chunk_of y p) e))) e;
-  }
+  module _ {t : Text} {ts : List Token} {lay : Markdown} {y : List ℕ} {c : Cursor} (i : InBody t ts lay y c) where
+    -- a chunk that goes on
+    pub body-on : {p : Piece} {d : Cursor} → Took y c p d → (u : Text) (f : Bool) → last full (chunk_of y p) ≡ false
+        → text_of u ≡ wrote (λ size. chunk_rule size lay (chunk_of y p)) (text_of t) → f ≡ fence_after (chunk_of [] p) lay.fenced
+        → InBody u ts (with_fenced f lay) y d
+    body-on {p} took u f e w g = record {
+      short = i.short;
+      same = still t u (λ n. chunk_rule n lay (chunk_of y p)) i.same w;
+      few = i.few;
+      open_few = i.open_few;
+      leads = chunks-on full (chunk limit full) (after ts) whole y c (shows t lay) i.leads took (shows u (with_fenced f lay))
+          (shown_by (with_lay (fencing (chunk_of y p))) [] [] lay (with_fenced f lay)
+          (λ x. ap (λ (b : Bool). page [] (with_fenced b lay) x) (fence_any p y lay.fenced ∙ sym g))
+          (chunk_rule limit lay (chunk_of y p)) t.room.now u.room.now t.len u.len (at_limit t u (λ n. chunk_rule n lay (chunk_of y p)) i.same w)
+          ∙ sym (shown_then t.room.now t.len [] lay (chunk limit full (chunk_of y p)) _ (λ x. chunk-on limit (page [] lay x) full (chunk_of y p) e))) e;
+    }
 
-  module _ {room : List ℕ} {at len : ℕ} {lay : Markdown} (o : On room at len lay) where
-    -- the length is past the room
-    pub on_out : length room < len → refused 13 0 ≡ whole
-    on_out h = walking.rest_out (turn limit full) (finish limit) document whole at room len [] lay o.leads h
+    -- the chunks are done, or one ended the walk of the body; the code lines end
+    module _ (u : Text) (w : text_of u ≡ with_bytes (code_ends lay) (text_of t)) where
+      ends : (l : Markdown) → l.fenced ≡ lay.fenced → Leads whole (after ts) (shows t l) → Leads whole (rest ts) (shows u (with_fenced false l))
+      unfolding body_ends
+      ends l f g =
+          leads-on whole (after ts) (shows t l) g (body_ends limit) (rest ts) (shows u (with_fenced false l)) (λ s. refl)
+          (shown-write (with_lay (with_fenced false)) [] [] l (with_fenced false l) (λ x. refl) limit t.room.now u.room.now t.len u.len (code_ends l)
+          (at_limit t u (λ n. extended n (code_ends lay)) i.same w
+          ∙ ap (λ (b : Bool). seen t.room.now t.len >>= extended limit (code_ends (with_fenced b l))) (sym f))
+          ∙ sym (shown_then t.room.now t.len [] l (body_ends limit) (λ s. write limit (code_ends l) (with_lay (with_fenced false) s)) (λ x. refl)))
 
-    -- no record is left
-    pub on-end : (text : Result (List ℕ)) → length document ≤ at → (text ≡ (seen room len >>= closed (length room) lay.style))
-        → text ≡ whole
-    on-end text h w =
-        walking.rest_end (turn limit full) (finish limit) document whole at room len [] lay o.leads text (closed limit lay.style) h
-        (λ x. finish-is limit full at at [] [] [] lay x)
-        (w ∙ ap (λ (m : ℕ). seen room len >>= closed m lay.style) o.same)
-
-    -- the record that was read without a look at the document's end: it lies whole there
-    pub on_read : {h : Head} → at < length document → (record_fits (drop at document) ≡ true → Read document at h) → Read document at h
-    on_read l r = r (fits_here o.opened.here l)
-
-    -- a record was read here
-    module _ {h : Head} (r : Read document at h) (l : at < length document) where
-      abbrev Turned : State → Result State
-      Turned = walking.Turned (turn limit full) (finish limit) document whole at room len [] lay o.leads r l
-
-      further : at + 1 ≤ h.next
-      further = walking.further (turn limit full) (finish limit) document whole at room len [] lay o.leads r l
-
-      opened_next : DeepAt [] document h.next 0
-      opened_next = deep-from 0 (open_next o.opened.here r l) (omega arith)
-
-      by_kind : (k : Kind) → h.kind ≡ k → (s : State)
-          → Turned s ≡ turn limit full at h.start k (part document h.start h.stop) (tokens_from document h.next) s
-      by_kind = walking.by_kind (turn limit full) (finish limit) document whole at room len [] lay o.leads r l
-
-      turn-leads : (rule : List ℕ → Result (List ℕ)) (new : List ℕ) (n : ℕ) (lay' : Markdown)
-          → ((x : List ℕ) → Turned (page [] lay x) ≡ (rule x >>= λ z. gives (page [] lay' z))) → seen new n ≡ (seen room len >>= rule)
-          → Leads whole (rest h.next) (shown new n [] lay')
-      turn-leads rule new n lay' t e = walking.turn-leads (turn limit full) (finish limit) document whole at room len [] lay o.leads r l rule new n [] lay'
-          t e
-
-      -- nothing is done
-      passes : ((x : List ℕ) → Turned (page [] lay x) ≡ gives (page [] lay x)) → On room h.next len lay
-      unfolding ◌>>=◌
-      passes t = record {
-        opened = opened_next;
-        same = o.same;
-        few = omega (arith, o.few, further);
-        open_few = omega (arith, o.open_few, further);
-        short = o.short;
-        leads = turn-leads gives room len lay t (sym (bind_end (seen room len)));
+      pub on-done : placed_from y c ≡ [] → On u ts (with_fenced false lay)
+      on-done f = record {
+        short = i.short.1;
+        same = still t u (λ n. extended n (code_ends lay)) i.same w;
+        few = omega (arith, i.few);
+        open_few = i.open_few;
+        leads = ends lay refl (chunks-done full (chunk limit full) (after ts) whole y c (shows t lay) i.leads f);
       }
 
-      pub on_unknown : h.kind ≡ kind.Unknown → On room h.next len lay
-      on_unknown e = passes (λ x. by_kind kind.Unknown e (page [] lay x) ∙ unknown_is limit full at _ _ _ [] lay x)
+      pub on_stopped : {p : Piece} {d : Cursor} → Took y c p d → last full (chunk_of y p) ≡ true
+          → (k : ℕ) → k ≡ skip_paragraph lay.skip → On u ts (with_fenced false (with_skip k lay))
+      on_stopped {p} took f k g = record {
+        short = i.short.1;
+        same = still t u (λ n. extended n (code_ends lay)) i.same w;
+        few = omega (arith, i.few, g);
+        open_few = i.open_few;
+        leads = ends (with_skip k lay) refl
+            (chunks-stop full (chunk limit full) (after ts) whole y c (shows t lay) i.leads took (shows t (with_skip k lay))
+            (shown_changed (with_lay (with_skip 1)) [] [] lay (with_skip k lay) (λ x. ap (λ (n : ℕ). page [] (with_skip n lay) x) (sym g)) t.room.now t.len
+            ∙ sym (bind_same (shows t lay) _ _ (λ s. chunk-last limit s full (chunk_of y p) f))) f);
+      }
+
+  module _ {t : Text} {ts : List Token} {lay : Markdown} (o : On t ts lay) where
+    -- more was written than the room holds
+    pub on_full : seen t.room.now t.len ≡ refused 13 0 → refused 13 0 ≡ whole
+    on_full h = walking.rest_out (turn limit full) (finish limit) whole ts t.room.now t.len [] lay o.leads (past_room _ _ h)
+
+    -- no record is left
+    pub on-end : (text : Result (List ℕ)) (u : Text) → ts ≡ [] → text_of u ≡ wrote (λ size. closed size lay.style) (text_of t)
+        → text ≡ seen u.room.now u.len → text ≡ whole
+    on-end text u h w e =
+        walking.rest_end (turn limit full) (finish limit) whole ts t.room.now t.len [] lay o.leads text (closed limit lay.style) h
+        (λ x. finish-is limit full 0 0 [] [] [] lay x) (e ∙ at_limit t u (λ size. closed size lay.style) o.same w)
+
+    -- a record was read
+    module _ {h : Token} {us : List Token} (first : ts ≡ h ∷ us) where
+      abbrev Turned : State → Result State
+      Turned = walking.Turned (turn limit full) (finish limit) whole ts t.room.now t.len [] lay o.leads first
+
+      by_kind : (k : Kind) → h.kind ≡ k → (s : State) → Turned s ≡ turn limit full h.place h.start k h.body us s
+      by_kind = walking.by_kind (turn limit full) (finish limit) whole ts t.room.now t.len [] lay o.leads first
+
+      turn-leads : (rule : List ℕ → Result (List ℕ)) (new : List ℕ) (n : ℕ) (lay' : Markdown)
+          → ((x : List ℕ) → Turned (page [] lay x) ≡ (rule x >>= λ z. gives (page [] lay' z))) → seen new n ≡ (seen t.room.now t.len >>= rule)
+          → Leads whole (rest us) (shown new n [] lay')
+      turn-leads rule new n lay' f e =
+          walking.turn-leads (turn limit full) (finish limit) whole ts t.room.now t.len [] lay o.leads first rule new n [] lay' f e
+
+      fewer : length ts ≡ 1 + length us
+      fewer = omega (arith, ap length first)
+
+      short_left : (length h.body ≤ 32_768) × Short us
+      short_left = subst Short first o.short
+
+      -- nothing is done
+      passes : ((x : List ℕ) → Turned (page [] lay x) ≡ gives (page [] lay x)) → On t us lay
+      unfolding ◌>>=◌
+      passes f = record {
+        short = short_left.1;
+        same = o.same;
+        few = omega (arith, o.few, fewer);
+        open_few = omega (arith, o.open_few, fewer);
+        leads = turn-leads gives t.room.now t.len lay f (sym (bind_end (seen t.room.now t.len)));
+      }
+
+      pub on_unknown : h.kind ≡ kind.Unknown → On t us lay
+      on_unknown e = passes (λ x. by_kind kind.Unknown e (page [] lay x) ∙ unknown_is limit full h.place _ _ _ [] lay x)
 
       -- Meta
-      meta : (text : Result (List ℕ)) → ((x : List ℕ) → Turned (page [] lay x) ≡ (closed limit lay.style x >>= λ _. refused 11 at))
-          → (text ≡ (seen room len >>= λ x. closed (length room) lay.style x >>= λ _. refused 11 at)) → text ≡ whole
-      meta text t w =
-          walking.turn-refuses (turn limit full) (finish limit) document whole at room len [] lay o.leads r l (closed limit lay.style) text t
-          (w ∙ ap (λ (c : ℕ). seen room len >>= λ x. closed c lay.style x >>= λ _. refused 11 at) o.same)
-
       pub on_meta : (text : Result (List ℕ)) → is_meta h.kind ≡ true
-          → (text ≡ (seen room len >>= λ x. closed (length room) lay.style x >>= λ _. refused 11 at)) → text ≡ whole
-      on_meta text t w = go h.kind refl t
+          → text ≡ (seen t.room.now t.len >>= λ x. closed (length t.room.now) lay.style x >>= λ _. refused 11 h.place) → text ≡ whole
+      on_meta text m w = go h.kind refl m
         where
+          meets : ((x : List ℕ) → Turned (page [] lay x) ≡ (closed limit lay.style x >>= λ _. refused 11 h.place)) → text ≡ whole
+          meets f =
+              walking.turn-refuses (turn limit full) (finish limit) whole ts t.room.now t.len [] lay o.leads first (closed limit lay.style)
+              text f (w ∙ ap (λ (n : ℕ). seen t.room.now t.len >>= λ x. closed n lay.style x >>= λ _. refused 11 h.place) o.same.1)
+
           go : (k : Kind) → h.kind ≡ k → is_meta k ≡ true → text ≡ whole
-          go (kind.Text s) e t = cc
-          go (kind.Start b) e t =
-              meta text (λ x. by_kind (kind.Start b) e (page [] lay x) ∙ start_meta limit full at _ _ _ [] lay x b (eqb-true (index b) 10 t)) w
-          go (kind.End b) e t =
-              meta text (λ x. by_kind (kind.End b) e (page [] lay x) ∙ end_meta limit full at _ _ _ [] lay x b (eqb-true (index b) 10 t)) w
-          go kind.Unknown e t = cc
+          go (kind.Text s) e m = cc
+          go (kind.Start b) e m =
+              meets (λ x. by_kind (kind.Start b) e (page [] lay x) ∙ start_meta limit full h.place _ _ _ [] lay x b (eqb-true (index b) 10 m))
+          go (kind.End b) e m =
+              meets (λ x. by_kind (kind.End b) e (page [] lay x) ∙ end_meta limit full h.place _ _ _ [] lay x b (eqb-true (index b) 10 m))
+          go kind.Unknown e m = cc
 
-      -- whether the record after this one is the end of a term
-      abbrev empty : Bool
-      empty = term_ends (tokens_from document h.next)
-
-      module _ {b : Block} (new : List ℕ) (k : ℕ) (lay' : Markdown) where
+      module _ {b : Block} (u : Text) (lay' : Markdown) where
         -- another block starts
-        pub on-started : (met : Markdown) → h.kind ≡ kind.Start b → is_meta h.kind ≡ false → length new ≡ length room → met ≡ met_term b empty lay
-            → (seen new k ≡ (seen room len >>= started_text (length room) met b))
-            → (Few met → lay' ≡ (start_of (with_style style.Text met) b).after) → On new h.next k lay'
-        on-started met e m s t w f =
-            let few : Few lay = record { skipped = omega (arith, o.few, o.short); opened = omega (arith, o.open_few, o.short) } in
-            let u : with_style style.Text met ≡ met_term b empty (with_style style.Text lay) =
-            ap (with_style style.Text) t ∙ sym (met_styled b empty lay style.Text) in
-            let v : met.style ≡ lay.style = ap (λ (l : Markdown). l.style) t ∙ met_style b empty lay in
-            let z : lay' ≡ (start_of (with_style style.Text met) b).after = f (rw t (met_few b empty lay few)) in
-            let x = start_few b (with_style style.Text met) in
-            let x₁ = ap (λ (l : Markdown). l.skip) t ∙ met_skip b empty lay in
-            let x₂ = ap (λ (l : Markdown). l.mono) t ∙ met_mono b empty lay in
-            let y₁ = ap (λ (l : Markdown). l.skip) z in
-            let y₂ = ap (λ (l : Markdown). l.mono) z in
+        pub on-started : (met : Markdown) → h.kind ≡ kind.Start b → is_meta h.kind ≡ false → met ≡ met_term b (term_ends us) lay
+            → text_of u ≡ wrote (λ size. started_text size met b) (text_of t)
+            → (Few met → lay' ≡ (start_of (with_style style.Text met) b).after) → On u us lay'
+        on-started met e m v w f =
+            let few : Few lay = record { skipped = omega (arith, o.few); opened = omega (arith, o.open_few) } in
+            let same : with_style style.Text met ≡ met_term b (term_ends us) (with_style style.Text lay) =
+            ap (with_style style.Text) v ∙ sym (met_styled b (term_ends us) lay style.Text) in
+            let st : met.style ≡ lay.style = ap (λ (l : Markdown). l.style) v ∙ met_style b (term_ends us) lay in
+            let z : lay' ≡ (start_of (with_style style.Text met) b).after = f (rw v (met_few b (term_ends us) lay few)) in
+            let most = start_few b (with_style style.Text met) in
+            let skip = ap (λ (l : Markdown). l.skip) v ∙ met_skip b (term_ends us) lay in
+            let mono = ap (λ (l : Markdown). l.mono) v ∙ met_mono b (term_ends us) lay in
             record {
-              opened = opened_next;
-              same = s ∙ o.same;
-              few = omega (arith, o.few, further);
-              open_few = omega (arith, o.open_few, further);
-              short = o.short;
-              leads = rw (z, u)
-                  (turn-leads (λ x. closed limit lay.style x >>= start_rule limit (met_term b empty (with_style style.Text lay)) b) new k _
-                  (λ x. by_kind (kind.Start b) e (page [] lay x) ∙ start_is limit full at _ _ _ [] lay x b (eqb-false (index b) 10 (ap is_meta (sym e) ∙ m)))
-                  (w ∙ ap (λ (c : ℕ). seen room len >>= started_text c met b) o.same
-                  ∙ ap (λ (st : Style). seen room len >>= λ x. closed limit st x >>= start_rule limit (with_style style.Text met) b) v
-                  ∙ ap (λ (l : Markdown). seen room len >>= λ x. closed limit lay.style x >>= start_rule limit l b) u));
+              short = short_left.1;
+              same = still t u (λ size. started_text size met b) o.same w;
+              few = omega (arith, o.few, fewer, most.0, skip, ap (λ (l : Markdown). l.skip) z);
+              open_few = omega (arith, o.open_few, fewer, most.1, mono, ap (λ (l : Markdown). l.mono) z);
+              leads = rw (z, same)
+                  (turn-leads (λ x. closed limit lay.style x >>= start_rule limit (met_term b (term_ends us) (with_style style.Text lay)) b) u.room.now u.len _
+                  (λ x.
+                  by_kind (kind.Start b) e (page [] lay x) ∙ start_is limit full h.place _ _ _ [] lay x b (eqb-false (index b) 10 (ap is_meta (sym e) ∙ m)))
+                  (at_limit t u (λ size. started_text size met b) o.same w
+                  ∙ ap (λ (s : Style). seen t.room.now t.len >>= λ x. closed limit s x >>= start_rule limit (with_style style.Text met) b) st
+                  ∙ ap (λ (l : Markdown). seen t.room.now t.len >>= λ x. closed limit lay.style x >>= start_rule limit l b) same));
             }
 
         -- it ends
-        pub on-ended : h.kind ≡ kind.End b → is_meta h.kind ≡ false → length new ≡ length room
-            → (seen new k ≡ (seen room len >>= ended_text (length room) lay b)) → lay' ≡ (end_of (with_style style.Text lay) b).after
-            → On new h.next k lay'
-        on-ended e m s w f =
-            let x = end_few b (with_style style.Text lay) in
-            let y₁ = ap (λ (l : Markdown). l.skip) f in
-            let y₂ = ap (λ (l : Markdown). l.mono) f in
+        pub on-ended : h.kind ≡ kind.End b → is_meta h.kind ≡ false → text_of u ≡ wrote (λ size. ended_text size lay b) (text_of t)
+            → lay' ≡ (end_of (with_style style.Text lay) b).after → On u us lay'
+        on-ended e m w f =
+            let most = end_few b (with_style style.Text lay) in
             record {
-              opened = opened_next;
-              same = s ∙ o.same;
-              few = omega (arith, o.few, further);
-              open_few = omega (arith, o.open_few, further);
-              short = o.short;
+              short = short_left.1;
+              same = still t u (λ size. ended_text size lay b) o.same w;
+              few = omega (arith, o.few, fewer, most.0, ap (λ (l : Markdown). l.skip) f);
+              open_few = omega (arith, o.open_few, fewer, most.1, ap (λ (l : Markdown). l.mono) f);
               leads = rw f
-                  (turn-leads (ended_text limit lay b) new k _
-                  (λ x. by_kind (kind.End b) e (page [] lay x) ∙ end_is limit full at _ _ _ [] lay x b (eqb-false (index b) 10 (ap is_meta (sym e) ∙ m)))
-                  (w ∙ ap (λ (c : ℕ). seen room len >>= ended_text c lay b) o.same));
+                  (turn-leads (ended_text limit lay b) u.room.now u.len _
+                  (λ x. by_kind (kind.End b) e (page [] lay x) ∙ end_is limit full h.place _ _ _ [] lay x b (eqb-false (index b) 10 (ap is_meta (sym e) ∙ m)))
+                  (at_limit t u (λ size. ended_text size lay b) o.same w));
             }
 
       -- text
       module _ {st : Style} (e : h.kind ≡ kind.Text st) where
-        pub on_hidden : hides lay.skip ≡ true → On room h.next len lay
-        on_hidden z = passes (λ x. by_kind (kind.Text st) e (page [] lay x) ∙ hidden_is limit full at _ _ _ [] lay x st z)
+        pub on_hidden : hides lay.skip ≡ true → On t us lay
+        on_hidden z = passes (λ x. by_kind (kind.Text st) e (page [] lay x) ∙ hidden_is limit full h.place _ _ _ [] lay x st z)
 
         -- the style has changed, and the chunks of the body are left
-        pub on-body : (y new : List ℕ) (n : ℕ) (lay' : Markdown) → y ≡ part document h.start h.stop → hides lay.skip ≡ false
-            → (seen new n ≡ (seen room len >>= extended (length room) (closing lay.style ++ opening st))) → lay' ≡ with_style st lay
-            → InBody new h.next n lay' y start
+        pub on-body : (u : Text) → hides lay.skip ≡ false → text_of u ≡ with_bytes (closing lay.style ++ opening st) (text_of t)
+            → InBody u us (with_style st lay) h.body start
         unfolding change split
-        on-body y new n lay' b z w g =
-            let y₁ = ap (λ (l : Markdown). l.skip) g in
-            let y₂ = ap (λ (l : Markdown). l.mono) g in
-            record {
-              few = omega (arith, o.few, further);
-              open_few = omega (arith, o.open_few, further);
-              leads = rw g
-                  (walking.turn-begins (turn limit full) (finish limit) document whole at room len [] lay o.leads r l
-                  (change limit st) (chunks_then full (anywhere (chunk limit full)) (after h.next) (split y)) (shown new n [] (with_style st lay))
-                  (λ x.
-                  ap (λ (q : Result State). q >>= rest h.next)
-                  (by_kind (kind.Text st) e (page [] lay x) ∙ text-is limit full at _ _ _ [] lay x st z
-                  ∙ ap (λ (a : List ℕ). change limit st (page [] lay x) >>= body full (anywhere (chunk limit full)) (split a) >>= body_ends limit) (sym b))
-                  ∙ sym (bind_assoc (change limit st (page [] lay x) >>= body full (anywhere (chunk limit full)) (split y)) (body_ends limit) (rest h.next))
-                  ∙ sym (bind_assoc (change limit st (page [] lay x)) (body full (anywhere (chunk limit full)) (split y)) (after h.next)))
-                  (shown-write (with_lay (with_style st)) [] [] lay (with_style st lay) (λ x. refl) limit room new len n (closing lay.style ++ opening st)
-                  (w ∙ ap (λ (c : ℕ). seen room len >>= extended c (closing lay.style ++ opening st)) o.same)
-                  ∙ sym (shown_then room len [] lay (change limit st) (λ s. write limit (closing lay.style ++ opening st) (with_lay (with_style st) s))
-                  (λ x. refl))));
-            }
+        on-body u z w = record {
+          short = short_left;
+          same = still t u (λ n. extended n (closing lay.style ++ opening st)) o.same w;
+          few = omega (arith, o.few, fewer);
+          open_few = omega (arith, o.open_few, fewer);
+          leads = walking.turn-begins (turn limit full) (finish limit) whole ts t.room.now t.len [] lay o.leads first
+              (change limit st) (chunks_then full (anywhere (chunk limit full)) (after us) (split h.body)) (shows u (with_style st lay))
+              (λ x.
+              ap (λ (q : Result State). q >>= rest us)
+              (by_kind (kind.Text st) e (page [] lay x) ∙ text-is limit full h.place _ _ _ [] lay x st z)
+              ∙ sym (bind_assoc (change limit st (page [] lay x) >>= body full (anywhere (chunk limit full)) (split h.body)) (body_ends limit) (rest us))
+              ∙ sym (bind_assoc (change limit st (page [] lay x)) (body full (anywhere (chunk limit full)) (split h.body)) (after us)))
+              (shown-write (with_lay (with_style st)) [] [] lay (with_style st lay) (λ x. refl) limit t.room.now u.room.now t.len u.len
+              (closing lay.style ++ opening st) (at_limit t u (λ n. extended n (closing lay.style ++ opening st)) o.same w)
+              ∙ sym (shown_then t.room.now t.len [] lay (change limit st) (λ s. write limit (closing lay.style ++ opening st) (with_lay (with_style st) s))
+              (λ x. refl)));
+        }
 
-        -- the chunks are done, or one ended the walk of the body; the code lines end
-        module _ {y old : List ℕ} {k : ℕ} {l₁ : Markdown} {c : Cursor} (s : length old ≡ limit) (i : InBody old h.next k l₁ y c)
-            (new : List ℕ) (n : ℕ) (u : length new ≡ length old)
-            (w : seen new n ≡ (seen old k >>= extended (length old) (code_ends l₁))) where
-          ends : (l₂ : Markdown) → l₂.fenced ≡ l₁.fenced → Leads whole (after h.next) (shown old k [] l₂)
-              → Leads whole (rest h.next) (shown new n [] (with_fenced false l₂))
-          unfolding body_ends
-          ends l₂ f g =
-              leads-on whole (after h.next) (shown old k [] l₂) g (body_ends limit) (rest h.next) (shown new n [] (with_fenced false l₂)) (λ s. refl)
-              (shown-write (with_lay (with_fenced false)) [] [] l₂ (with_fenced false l₂) (λ x. refl) limit old new k n (code_ends l₂)
-              (w ∙ ap (λ (m : ℕ). seen old k >>= extended m (code_ends l₁)) s
-              ∙ ap (λ (y : List ℕ). seen old k >>= extended limit y) (ap (λ (b : Bool). code_ends (with_fenced b l₂)) (sym f)))
-              ∙ sym (shown_then old k [] l₂ (body_ends limit) (λ s. write limit (code_ends l₂) (with_lay (with_fenced false) s)) (λ x. refl)))
+-- with the name of another loan, or that of the text itself
+module _ {name : GName} {limit : ℕ} {full : Bool} {document : List ℕ} {t : Text} {ts : List Token} {lay : Markdown} where
+  pub on_named : {other : GName} → On other limit full document t ts lay → other ≡ name → On name limit full document t ts lay
+  on_named o e = record { short = o.short; same = (o.same.0 ∙ e, o.same.1); few = o.few; open_few = o.open_few; leads = o.leads }
 
-          pub on-done : placed_from y c ≡ [] → On new h.next n (with_fenced false l₁)
-          on-done f = record {
-            opened = opened_next;
-            same = u ∙ s;
-            few = i.few;
-            open_few = i.open_few;
-            short = o.short;
-            leads = ends l₁ refl (chunks-done full (chunk limit full) (after h.next) whole y c (shown old k [] l₁) i.leads f);
-          }
-
-          pub on_stopped : {p : Piece} {d : Cursor} → Took y c p d → last full (chunk_of y p) ≡ true
-              → (j : ℕ) → j ≡ skip_paragraph l₁.skip → On new h.next n (with_fenced false (with_skip j l₁))
-          on_stopped {p} q f j g = record {
-            opened = opened_next;
-            same = u ∙ s;
-            few = omega (arith, further, g);
-            open_few = i.open_few;
-            short = o.short;
-            leads = ends (with_skip j l₁) refl
-                (chunks-stop full (chunk limit full) (after h.next) whole y c (shown old k [] l₁) i.leads q (shown old k [] (with_skip j l₁))
-                (shown_changed (with_lay (with_skip 1)) [] [] l₁ (with_skip j l₁) (λ x. ap (λ (n : ℕ). page [] (with_skip n l₁) x) (sym g)) old k
-                ∙ sym (bind_same (shown old k [] l₁) _ _ (λ s. chunk-last limit s full (chunk_of y p) f))) f);
-          }
-
-pub body_few : (document y : List ℕ) (from to : ℕ) → y ≡ part document from to → length document ≤ 32_768 → to ≤ length document → length y ≤ 32_768
-body_few document y from to e h k = omega (arith, ap length e, length-take (to - from) (drop from document))
-
--- the same for a room that has kept its length
-pub body_at : {limit m : ℕ} {full : Bool} {document room : List ℕ} {at len : ℕ} {lay : Markdown} {y : List ℕ} {c : Cursor} → m ≡ limit
-    → InBody limit full document room at len lay y c → InBody m full document room at len lay y c
-body_at e i = rw e i
+  pub body_own : {y : List ℕ} {c : Cursor} → InBody name limit full document t ts lay y c → InBody (t.room.ghost_name) limit full document t ts lay y c
+  body_own i = record { short = i.short; same = (refl, i.same.1); few = i.few; open_few = i.open_few; leads = i.leads }

@@ -5,37 +5,26 @@
 ghost use Rattle.std.specs.Prelude.{◌≡◌, [], length};
 ghost use Rattle.base.specs.Result.{gives, ◌>>=◌ as bind, measured};
 ghost use Rattle.refusal.specs.Answers.{answered};
-ghost use Rattle.room.specs.Room.{seen};
 ghost use Rattle.records.specs.Records.{tokens};
 ghost use Rattle.document.specs.Document.{check};
 ghost use Rattle.renderer.specs.Walk.{walk as records};
 ghost use Rattle.renderer.specs.Rendered.{standing, filled, Inside};
 ghost use Rattle.html_rules.specs.Markdown.{initial, turn, finish as finished, markdown};
-ghost use Rattle.markdown_marks.specs.InnerParts.{closed};
 
 use html_rules::Markdown;
-use records::{Kind, Style};
+use records::{Kind, Records, Style};
 use refusal::Refusal;
+use room::Text;
 use skip::Skip;
 use splitter::{Code, Cursor};
 
-// After the last record: the style is closed.
-fn finish(room: &mut [u8], len: usize, st: Style) -> Result<usize, Refusal>
-    ensures text { standing room.new result ≡ bind (seen room.old len) (closed (length room.old) st) }
-    ensures inside { Inside (length room.old) result }
-{
-    let n = markdown_marks::change_to_markdown_style(room, len, st, Style::Text);
-    renderer::answer(room, n)
-}
-
-// The walk over an accepted document.
+// The walk over an accepted document. One function: parted into this walk and that over a body it took 1.13 to 1.2 times as long.
 fn walk(document: &[u8], full: bool, room: &mut [u8]) -> Result<usize, Refusal>
     requires { check document.now ≡ gives [] }
     ensures text { standing room.new result ≡ bind (records (turn (length room.old) full) (tokens 0 0 document.now) initial) (finished (length room.old)) }
     ensures inside { Inside (length room.old) result }
 {
-    let mut at: usize = 0;
-    let mut len: usize = 0;
+    let mut t = Text::new(room);
     let mut lay = Markdown {
         style: Style::Text,
         skip: Skip::new(),
@@ -45,49 +34,42 @@ fn walk(document: &[u8], full: bool, room: &mut [u8]) -> Result<usize, Refusal>
         fenced: false,
         titled: false,
     };
-    'records: while at < document.len() {
-        if room.len() < len {
+    // `while let`, since a term looks at the record after it: a `for` lends the iterator to the loop alone
+    let mut records = Records::of(document);
+    'records: while let Some(r) = records.next() {
+        if t.is_full() {
             return Err(Refusal::NoRoom);
         }
-        let h = records::whole_at(document, at);
-        let kind = h.kind;
-        if html_marks::is_meta(kind) {
-            return markdown_marks::meet_meta(room, len, lay.style, at);
+        if html_marks::is_meta(r.kind) {
+            return Err(markdown_marks::meet_meta(&mut t, lay.style, r.place));
         }
-        at = h.next;
-        match kind {
+        match r.kind {
             Kind::Unknown => {}
             Kind::Start(b) => {
-                markdown_marks::met_term(&mut lay, document, at, b);
-                len = markdown_marks::put_start(room, len, &lay, b);
-                markdown_marks::after_start(&mut lay, b);
+                markdown_marks::met_term(&mut lay, records, b);
+                markdown_marks::put_start(&mut t, &mut lay, b);
             }
-            Kind::End(b) => {
-                len = markdown_marks::put_end(room, len, &lay, b);
-                markdown_marks::after_end(&mut lay, b);
-            }
+            Kind::End(b) => markdown_marks::put_end(&mut t, &mut lay, b),
             Kind::Text(st) => {
                 if lay.skip.enabled() {
                     continue 'records;
                 }
-                len = markdown_marks::change_to_markdown_style(room, len, lay.style, st);
+                markdown_marks::change_to_markdown_style(&mut t, lay.style, st);
                 lay.style = st;
-                let body = base::get(document, h.start, h.stop);
+                let body = r.body;
                 let mut cursor = Cursor {
                     at: 0,
                     code: Code::No,
                 };
+                // words and then a chunk at a time, for which the splitter has no iterator: by chunks alone it took 1.8 to 4 times as long
                 'chunks: loop {
-                    let run = markdown_chunks::put_plain(
-                        room,
-                        len,
+                    cursor.at = markdown_chunks::put_plain(
+                        &mut t,
                         body,
                         cursor.at,
                         cursor.code,
                         &lay,
                     );
-                    len = run.len;
-                    cursor.at = run.at;
                     if body.len() <= cursor.at {
                         break 'chunks;
                     }
@@ -95,21 +77,23 @@ fn walk(document: &[u8], full: bool, room: &mut [u8]) -> Result<usize, Refusal>
                         break 'chunks;
                     };
                     if renderer::ends_body(piece, full) {
-                        len = markdown_chunks::end_code(room, len, &lay);
+                        markdown_chunks::end_code(&mut t, &lay);
                         lay.skip.enable();
                         lay.fenced = false;
                         continue 'records;
                     }
-                    len = markdown_chunks::put_chunk(room, len, body, piece, &lay);
+                    markdown_chunks::put_chunk(&mut t, body, piece, &lay);
                     lay.fenced = markdown_chunks::fence_after(piece, lay.fenced);
                     cursor = after;
                 }
-                len = markdown_chunks::end_code(room, len, &lay);
+                markdown_chunks::end_code(&mut t, &lay);
                 lay.fenced = false;
             }
         }
     }
-    finish(room, len, lay.style)
+    markdown_marks::change_to_markdown_style(&mut t, lay.style, Style::Text);
+    let n = t.finish();
+    renderer::answer(room, n)
 }
 
 // Refusals 1 to 8, and then the walk.

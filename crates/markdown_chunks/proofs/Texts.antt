@@ -1,67 +1,54 @@
 -- The texts of Markdown's chunks, and whether code lines are being written after one. Assumes nothing.
 use Prim.Native.Nat.{ℕ, ◌≤◌, ◌<◌}
-use mathlib.Core.Path.{◌≡◌, sym, ap, ◌∙◌}
+use mathlib.Core.Path.{◌≡◌, refl, sym, ◌∙◌}
+use mathlib.Core.Bool.{Bool, true, false}
 use mathlib.Core.List.{List, [], ◌∷◌}
+use lib.Dec.{eqb}
 use borrow.Author.Tests.{ne_eqb, lt-ltb, le-ltb}
 use Rattle.base.specs.Choice.{when◌then◌else◌}
-use Rattle.base.specs.Result.{Result, ◌>>=◌}
+use Rattle.base.specs.Result.{◌>>=◌}
 use Rattle.base.proofs.Choice.{if_true, if_false}
-use Rattle.base.proofs.Results.{bind_same}
 use Rattle.utf8.specs.Utf8.{bytes, encode}
-use Rattle.room.specs.Room.{extended, seen}
-use Rattle.splitter.specs.Answers.{chunk_of, piece_text}
+use Rattle.room.specs.Room.{extended}
+use Rattle.room.specs.Lent.{Lent, wrote, with_bytes}
+use Rattle.room.proofs.Lents.{wrote_same, wrote_after, with_both}
+use Rattle.splitter.specs.Answers.{chunk_of}
 use Rattle.splitter.specs.declared.Piece.{Piece}
 use Rattle.splitter.specs.declared.Piece.TheVariants.{Raw, Space, Paragraph, LineBreak}
 use Rattle.html_rules.specs.Marks.{separated}
 use Rattle.html_rules.specs.Markdown.{code_begins, code_stops, line_text, word_text, paragraph_text, bracketed}
 use Rattle.html_rules.specs.declared.Markdown.{Markdown}
-use Rattle.html_rules.proofs.Writes.{wrote_then, wrote_twice}
 use Rattle.markdown_chunks.specs.InnerParts.{raw_rule, chunk_rule, fence_after}
-use Prim.Native.Nat.{ℕ, ◌≤◌, ◌<◌}
-use mathlib.Core.Path.{◌≡◌, refl, sym, ap, ◌∙◌}
-use mathlib.Core.Bool.{Bool, true, false}
-use mathlib.Core.List.{List, []}
-use lib.Dec.{eqb}
-use borrow.Author.Tests.{ne_eqb, lt-ltb}
 
--- a rule, said otherwise
-pub by_rule : (old new : List ℕ) (len r : ℕ) (f g : List ℕ → Result (List ℕ)) → f ≡ g → seen new r ≡ (seen old len >>= f) → seen new r ≡ (seen old len >>= g)
-by_rule old new len r f g e w = w ∙ ap (λ (h : List ℕ → Result (List ℕ)). seen old len >>= h) e
-
-module _ (limit : ℕ) (old mid new : List ℕ) (len n r m : ℕ) (same : m ≡ limit) where
+module _ (old mid new : Lent) where
   -- A line
-  pub line_wrote : (mid₂ : List ℕ) (n₂ o : ℕ) (x : List ℕ) → o ≡ limit → seen mid n ≡ (seen old len >>= extended limit (0x20 ∷ 0x20 ∷ []))
-      → seen mid₂ n₂ ≡ (seen mid n >>= extended m x) → seen new r ≡ (seen mid₂ n₂ >>= extended o (0x0A ∷ []))
-      → seen new r ≡ (seen old len >>= extended limit (line_text x))
+  pub line_wrote : (mid₂ : Lent) (x : List ℕ) → mid ≡ with_bytes (0x20 ∷ 0x20 ∷ []) old → mid₂ ≡ with_bytes x mid → new ≡ with_bytes (0x0A ∷ []) mid₂
+      → new ≡ with_bytes (line_text x) old
   unfolding bytes encode when◌then◌else◌
-  line_wrote mid₂ n₂ o x q u v w =
-      wrote_twice limit old mid₂ new len n₂ r o q (0x20 ∷ 0x20 ∷ x) (0x0A ∷ []) (wrote_twice limit old mid mid₂ len n n₂ m same (0x20 ∷ 0x20 ∷ []) x u v) w
+  line_wrote mid₂ x u v w = with_both old mid₂ new (0x20 ∷ 0x20 ∷ x) (0x0A ∷ []) (with_both old mid mid₂ (0x20 ∷ 0x20 ∷ []) x u v) w
 
   -- A text with its width
   module _ (l : Markdown) (x : List ℕ) (w : ℕ) where
-    pub raw-ticked : w ≡ 1_000_001 → seen mid n ≡ (seen old len >>= separated limit (0x0A ∷ [])) → seen new r ≡ (seen mid n >>= extended m (line_text x))
-        → seen new r ≡ (seen old len >>= raw_rule limit l x w)
+    pub raw-ticked : w ≡ 1_000_001 → mid ≡ wrote (λ size. separated size (0x0A ∷ [])) old → new ≡ with_bytes (line_text x) mid
+        → new ≡ wrote (λ size. raw_rule size l x w) old
     unfolding raw_rule bytes encode when◌then◌else◌
     raw-ticked e u v =
-        wrote_then old mid len n (separated limit (0x0A ∷ [])) (extended limit (line_text x)) (seen new r) u
-        (v ∙ ap (λ (c : ℕ). seen mid n >>= extended c (line_text x)) same)
-        ∙ bind_same (seen old len) _ (raw_rule limit l x w) (λ y. rw e)
+        wrote_after old mid new (λ size. separated size (0x0A ∷ [])) (λ size. extended size (line_text x)) u v
+        ∙ wrote_same old (λ size o. separated size (0x0A ∷ []) o >>= extended size (line_text x)) (λ size. raw_rule size l x w) (λ o f. rw e)
 
-    pub raw-code : w ≡ 1_000_000 → seen mid n ≡ (seen old len >>= extended limit (code_begins l)) → seen new r ≡ (seen mid n >>= extended m (line_text x))
-        → seen new r ≡ (seen old len >>= raw_rule limit l x w)
+    pub raw-code : w ≡ 1_000_000 → mid ≡ with_bytes (code_begins l) old → new ≡ with_bytes (line_text x) mid → new ≡ wrote (λ size. raw_rule size l x w) old
     unfolding raw_rule when◌then◌else◌
     raw-code e u v =
-        wrote_then old mid len n (extended limit (code_begins l)) (extended limit (line_text x)) (seen new r) u
-        (v ∙ ap (λ (c : ℕ). seen mid n >>= extended c (line_text x)) same)
-        ∙ bind_same (seen old len) _ (raw_rule limit l x w) (λ y. rw e)
+        wrote_after old mid new (λ size. extended size (code_begins l)) (λ size. extended size (line_text x)) u v
+        ∙ wrote_same old (λ size o. extended size (code_begins l) o >>= extended size (line_text x)) (λ size. raw_rule size l x w) (λ o f. rw e)
 
-    pub raw_word : (w ≡ 1_000_001 → ⊥) → (w ≡ 1_000_000 → ⊥) → seen mid n ≡ (seen old len >>= extended limit (code_stops l))
-        → seen new r ≡ (seen mid n >>= extended m (word_text l x)) → seen new r ≡ (seen old len >>= raw_rule limit l x w)
+    pub raw_word : (w ≡ 1_000_001 → ⊥) → (w ≡ 1_000_000 → ⊥) → mid ≡ with_bytes (code_stops l) old → new ≡ with_bytes (word_text l x) mid
+        → new ≡ wrote (λ size. raw_rule size l x w) old
     unfolding raw_rule when◌then◌else◌
     raw_word e f u v =
-        wrote_then old mid len n (extended limit (code_stops l)) (extended limit (word_text l x)) (seen new r) u
-        (v ∙ ap (λ (c : ℕ). seen mid n >>= extended c (word_text l x)) same)
-        ∙ bind_same (seen old len) _ (raw_rule limit l x w) (λ y. rw (ne_eqb w 1_000_001 e, ne_eqb w 1_000_000 f))
+        wrote_after old mid new (λ size. extended size (code_stops l)) (λ size. extended size (word_text l x)) u v
+        ∙ wrote_same old (λ size o. extended size (code_stops l) o >>= extended size (word_text l x)) (λ size. raw_rule size l x w)
+        (λ o g. rw (ne_eqb w 1_000_001 e, ne_eqb w 1_000_000 f))
 
 -- A word
 module _ (l : Markdown) (x : List ℕ) where
@@ -71,21 +58,14 @@ module _ (l : Markdown) (x : List ℕ) where
   pub word-plain : l.mono ≤ 0 → x ≡ word_text l x
   word-plain h = sym (if_false _ _ (le-ltb 0 l.mono h))
 
--- A chunk
-module _ (limit : ℕ) (l : Markdown) (body : List ℕ) (p : Piece) where
-  pub piece-raw : {from to w : ℕ} → p ≡ Raw from to w → (y : List ℕ) → y ≡ piece_text body (Raw from to w) → raw_rule limit l y w ≡ chunk_rule limit l
-      (chunk_of body p)
-  piece-raw e y f = rw (f, e)
+-- A chunk that is no word
+module _ (l : Markdown) (body : List ℕ) (p : Piece) (old new : Lent) where
+  pub piece-paragraph : {at : ℕ} → p ≡ Paragraph at → new ≡ with_bytes (paragraph_text l) old → new ≡ wrote (λ size. chunk_rule size l (chunk_of body p)) old
+  piece-paragraph e w = rw e w
 
-  pub piece_space : {at : ℕ} → p ≡ Space at → raw_rule limit l (0x20 ∷ []) 1 ≡ chunk_rule limit l (chunk_of body p)
-  piece_space e = rw e
-
-  pub piece-paragraph : {at : ℕ} → p ≡ Paragraph at → (y : List ℕ) → y ≡ paragraph_text l → extended limit y ≡ chunk_rule limit l (chunk_of body p)
-  piece-paragraph e y f = rw (f, e)
-
-  pub piece_break : {at : ℕ} → p ≡ LineBreak at → extended limit (0x0A ∷ []) ≡ chunk_rule limit l (chunk_of body p)
+  pub piece_break : {at : ℕ} → p ≡ LineBreak at → new ≡ with_bytes (0x0A ∷ []) old → new ≡ wrote (λ size. chunk_rule size l (chunk_of body p)) old
   unfolding bytes encode when◌then◌else◌
-  piece_break e = rw e
+  piece_break e w = rw e w
 
 -- Code lines
 module _ (p : Piece) (f : Bool) where

@@ -5,8 +5,10 @@ use Rattle.splitter.specs.Split.{Placed}
 use Rattle.splitter.specs.Answers.{placed_from, cursor}
 use Rattle.splitter.specs.declared.Code.{Code}
 use Rattle.splitter.specs.declared.Code.TheVariants as code
-use Rattle.renderer.specs.Walk.{shown, anywhere, body}
+use Rattle.room.specs.Lent.{Lent}
+use Rattle.renderer.specs.Walk.{anywhere, body}
 use Rattle.words.specs.InnerAdvance as words
+use Rattle.words.specs.InnerAdvance.{page_of}
 use Rattle.html_rules.specs.Markdown.{State, chunk}
 use Rattle.html_rules.specs.declared.Markdown.{Markdown}
 use Rattle.document.specs.Document.{max_bytes}
@@ -26,8 +28,8 @@ pub record Plain (x : List ℕ) (l : Markdown) : Type 0 where
   pub few : length x ≤ max_bytes
 
 -- words went on from one place to another
-abbrev pub MarkdownAdvance : List ℕ → List ℕ → ℕ → ℕ → List ℕ → ℕ → ℕ → Type 0
-MarkdownAdvance x old len at new len' at' = words.Advance (λ full. full) rule_of (λ _ l. Plain x l) (λ l. l) x old len at new len' at'
+abbrev pub MarkdownAdvance : List ℕ → Lent → ℕ → Lent → ℕ → Type 0
+MarkdownAdvance x old at new at' = words.Advance (λ full. full) rule_of (λ _ l. Plain x l) (λ l. l) x old at new at'
 
 -- what a test says: outside Mono, code lines and ticks
 pub record Ready (l : Markdown) (c : Code) : Type 0 where
@@ -40,8 +42,10 @@ Ahead l c true = Ready l c
 Ahead l c false = Unit {0}
 
 -- the chunks from the new place on give what those from the old one did, in a body as short as an accepted document's
-pub record Moves (lay : Markdown) (x : List ℕ) (c : Code) (old : List ℕ) (len at : ℕ) (new : List ℕ) (len' at' : ℕ) : Type 0 where
+pub record Moves (lay : Markdown) (x : List ℕ) (c : Code) (old : Lent) (at : ℕ) (new : Lent) (at' : ℕ) : Type 0 where
+  pub name : new.name ≡ old.name
+  pub size : new.size ≡ old.size
   pub order : at ≤ at'
   pub within : at ≤ length x + 1 → at' ≤ length x + 1
   pub same : length x ≤ max_bytes → (full : Bool) (kept : List ℕ)
-      → (shown new len' kept lay >>= marked_from full (length old) x at' c) ≡ (shown old len kept lay >>= marked_from full (length old) x at c)
+      → (page_of new kept lay >>= marked_from full old.size x at' c) ≡ (page_of old kept lay >>= marked_from full old.size x at c)

@@ -1,30 +1,18 @@
 -- The numbers and flags of Markdown after a block. Assumes nothing.
-use Rattle.markdown_marks.proofs.Names.{ℕ, min, ◌+◌, ◌≤◌, ◌<◌, ◌≡◌, refl, sym, ap, ◌∙◌, List, length, arith, lt-ltb, when◌then◌else◌, gives, refused}
-use Rattle.markdown_marks.proofs.Names.{Block, with_style, with_skip, with_bare, with_mono, term_ends, started, ended, Markdown, start_of, end_of}
+use Rattle.markdown_marks.proofs.Names.{ℕ, ◌+◌, ◌≤◌, ◌≡◌, refl, ap, ◌∙◌, arith, when◌then◌else◌, gives, refused}
+use Rattle.markdown_marks.proofs.Names.{Block, with_style, with_skip, with_bare, started, ended, Markdown, start_of, end_of}
 use mathlib.Core.Bool.{Bool, true, false, ◌||◌}
 use mathlib.Core.Logic.{◌⊎◌, ⊎_elim}
 use lib.Dec.{eqb}
-use Rattle.base.proofs.Choice.{if_true}
-use Rattle.records.specs.Records.{index, tokens_from, is_end}
-use Rattle.records.specs.Answers.{Read}
+use Rattle.records.specs.Records.{index}
 use Rattle.records.specs.declared.Style.{Style}
 use Rattle.records.specs.declared.Block.TheVariants as block
-use Rattle.records.specs.declared.Head.{Head}
 use Rattle.records.proofs.Tables.{index-apart}
-use Rattle.records.proofs.Tokens.{tokens-end}
+use Rattle.document.specs.Document.{max_bytes}
 use Rattle.skip.specs.Counter.{skip_start}
 use Rattle.skip.specs.Answers.{new_if_fits}
 use Rattle.skip.proofs.Counter.{new_fits, skip-start_most, skip-end_most}
 use Rattle.markdown_marks.specs.InnerParts.{met_term, Few}
-
-module _ (document : List ℕ) (at : ℕ) where
-  pub no-term : length document ≤ at → false ≡ term_ends (tokens_from document at)
-  unfolding term_ends
-  no-term h = sym (ap term_ends (tokens-end document at h))
-
-  pub next-term : (h : Head) (r : Bool) → Read document at h → at < length document → r ≡ is_end 4 h.kind → r ≡ term_ends (tokens_from document at)
-  unfolding term_ends
-  next-term h r d l e = e ∙ sym (ap term_ends (d.listed ∙ if_true _ _ (lt-ltb at (length document) l)))
 
 -- an ItemTerm or a Section4 meets a term, the others do not
 module _ (b : Block) (empty : Bool) (l : Markdown) where
@@ -36,51 +24,17 @@ module _ (b : Block) (empty : Bool) (l : Markdown) where
   unfolding met_term when◌then◌else◌
   no_item n m = rw (index-apart b block.Section4 n, index-apart b block.ItemTerm m)
 
--- the other blocks change nothing
-pub start-same : (b : Block) (l : Markdown) → (b ≡ block.Header → ⊥) → (b ≡ block.DefinitionList → ⊥) → (b ≡ block.InlineBlock → ⊥) → (b ≡ block.Mono → ⊥) → l ≡ (start_of l b).after
+-- the skip counter of an accepted document grows past no bound
+pub inline-start : (b : Block) (l : Markdown) → l.skip ≤ max_bytes → (k : ℕ) → b ≡ block.InlineBlock
+    → k ≡ new_if_fits l.skip (skip_start block.InlineBlock l.skip) → with_skip k l ≡ (start_of l b).after
 unfolding start_of started
-start-same block.Header l n _ _ _ = absurd (n refl)
-start-same block.Section2 l _ _ _ _ = refl
-start-same block.Section3 l _ _ _ _ = refl
-start-same block.Section4 l _ _ _ _ = refl
-start-same block.ItemTerm l _ _ _ _ = refl
-start-same block.ItemBody l _ _ _ _ = refl
-start-same block.DefinitionList l _ n _ _ = absurd (n refl)
-start-same block.Block l _ _ _ _ = refl
-start-same block.InlineBlock l _ _ n _ = absurd (n refl)
-start-same block.TermRef l _ _ _ _ = refl
-start-same block.Meta l _ _ _ _ = refl
-start-same block.Mono l _ _ _ n = absurd (n refl)
-
-pub end-same : (b : Block) (l : Markdown) → (b ≡ block.DefinitionList → ⊥) → (b ≡ block.InlineBlock → ⊥) → (b ≡ block.Mono → ⊥) → l ≡ (end_of l b).after
-unfolding end_of ended
-end-same block.Header l _ _ _ = refl
-end-same block.Section2 l _ _ _ = refl
-end-same block.Section3 l _ _ _ = refl
-end-same block.Section4 l _ _ _ = refl
-end-same block.ItemTerm l _ _ _ = refl
-end-same block.ItemBody l _ _ _ = refl
-end-same block.DefinitionList l n _ _ = absurd (n refl)
-end-same block.Block l _ _ _ = refl
-end-same block.InlineBlock l _ n _ = absurd (n refl)
-end-same block.TermRef l _ _ _ = refl
-end-same block.Meta l _ _ _ = refl
-end-same block.Mono l _ _ n = absurd (n refl)
-
-module _ (b : Block) (l : Markdown) (few : Few l) (k : ℕ) where
-  pub inline-start : b ≡ block.InlineBlock → k ≡ new_if_fits l.skip (skip_start block.InlineBlock l.skip) → with_skip k l ≡ (start_of l b).after
-  unfolding start_of started
-  inline-start e f =
-      rw e (ap (λ (n : ℕ). with_skip n l)
-      (f ∙ new_fits l.skip (skip_start block.InlineBlock l.skip) (omega (arith, few.skipped, skip-start_most block.InlineBlock l.skip))))
-
-  pub mono-start : b ≡ block.Mono → k ≡ min (l.mono + 1) 0xFFFF_FFFF_FFFF_FFFF → with_mono k l ≡ (start_of l b).after
-  unfolding start_of started
-  mono-start e f = let g : k ≡ l.mono + 1 = omega (arith, f, few.opened) in rw e (ap (λ (n : ℕ). with_mono n l) g)
+inline-start b l few k e f =
+    rw e (ap (λ (n : ℕ). with_skip n l)
+    (f ∙ new_fits l.skip (skip_start block.InlineBlock l.skip) (omega (arith, few, skip-start_most block.InlineBlock l.skip))))
 
 -- of a block's start and end the rules refuse Meta's
-pub start_told : (p : ℕ) (b : Block) (empty : Bool) (l : Markdown) → started p b empty l
-    ≡ (when eqb (index b) 10 then refused 11 p else gives (start_of (met_term b empty l) b))
+pub start_told : (p : ℕ) (b : Block) (empty : Bool) (l : Markdown)
+    → started p b empty l ≡ (when eqb (index b) 10 then refused 11 p else gives (start_of (met_term b empty l) b))
 unfolding start_of started met_term when◌then◌else◌
 start_told p block.Header empty l = refl
 start_told p block.Section2 empty l = refl

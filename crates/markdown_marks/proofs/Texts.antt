@@ -1,105 +1,81 @@
--- The texts of Markdown's blocks. Assumes nothing.
-use Rattle.markdown_marks.proofs.Names.{ℕ, ◌≡◌, ap, ◌∙◌, refl, List, [], ◌∷◌, length, when◌then◌else◌, bytes, encode, ◌>>=◌, Block, AtStart, started, ended, with_style, Markdown, wrote_then, start_of, end_of}
-use Rattle.room.specs.Room.{extended, seen}
+-- The texts of Markdown's styles and blocks. Assumes nothing.
+use Rattle.markdown_marks.proofs.Names.{ℕ, ◌≡◌, ap, ◌∙◌, refl, sym, List, [], ◌∷◌, length, when◌then◌else◌, bytes, encode, ◌>>=◌, AtStart, started, arith}
+use Rattle.markdown_marks.proofs.Names.{with_style, Markdown, Block, start_of, end_of, text_of, with_bytes, wrote}
+use mathlib.Core.Bool.{Bool, true, false}
+use mathlib.Core.Logic.{◌⊎◌, ⊎_elim}
+use borrow.Author.Tests.{le-leb}
+use Rattle.base.specs.Bytes.{ends_with, starts_with}
+use Rattle.base.specs.Result.{Result}
+use Rattle.base.proofs.Results.{bind_assoc}
+use Rattle.room.specs.Room.{extended}
+use Rattle.room.specs.Lent.{Lent}
+use Rattle.room.specs.declared.Text.{Text}
+use Rattle.room.proofs.Lents.{with_none, with_same, wrote_after}
+use Rattle.records.specs.declared.Style.{Style}
 use Rattle.records.specs.declared.Style.TheVariants as style
 use Rattle.records.specs.declared.Block.TheVariants as block
 use Rattle.html_rules.specs.Marks.{separated}
 use Rattle.html_rules.specs.Markdown.{bullet}
-use mathlib.Core.Bool.{Bool}
-use mathlib.Core.Logic.{◌⊎◌, ⊎_elim}
-use Rattle.markdown_marks.specs.InnerParts.{closed, start_rule, started_text, ended_text}
+use Rattle.html_marks.proofs.Marks.{separated_ends}
+use Rattle.markdown_marks.specs.InnerParts.{marks, closed, start_rule, started_text, ended_text}
 
-module _ (old mid : List ℕ) (len n : ℕ) (b : Block) (l : Markdown) (same : length mid ≡ length old)
-    (closes : seen mid n ≡ (seen old len >>= closed (length old) l.style)) where
-  -- a block's three texts after the style that was open
-  pub started_wrote : (lead line text mid₁ mid₂ new : List ℕ) (i j r : ℕ) → length mid₁ ≡ length old → length mid₂ ≡ length old
-      → lead ≡ (start_of (with_style style.Text l) b).lead → line ≡ (start_of (with_style style.Text l) b).line
-      → text ≡ (start_of (with_style style.Text l) b).text
-      → seen mid₁ i ≡ (seen mid n >>= extended (length mid) lead)
-      → seen mid₂ j ≡ (seen mid₁ i >>= separated (length mid₁) line)
-      → seen new r ≡ (seen mid₂ j >>= extended (length mid₂) text)
-      → seen new r ≡ (seen old len >>= started_text (length old) l b)
+-- no bytes more, and no line of its own
+pub no_bytes : (t : Text) → text_of t ≡ with_bytes [] (text_of t)
+no_bytes t = sym (with_none t.room.ghost_name t.room.now t.len)
+
+pub no_line : (v : Lent) → v ≡ wrote (λ size. separated size []) v
+unfolding ends_with starts_with
+no_line v = separated_ends [] v (λ o e. nothing o)
+  where
+    nothing : (o : List ℕ) → true ≡ ends_with [] o
+    nothing o = rw (le-leb 0 (length o) (omega arith)) refl
+
+-- Text has no marks
+pub marks_none : (opens : Bool) → [] ≡ marks opens style.Text
+unfolding bytes encode when◌then◌else◌
+marks_none true = refl
+marks_none false = refl
+
+-- the texts of a term's start
+pub term_texts : (b : Block) (l : Markdown) → (b ≡ block.Section4) ⊎ (b ≡ block.ItemTerm) → (empty : Bool) → l.bare ≡ empty
+    → ([] ≡ (start_of l b).lead) × (0x0A ∷ [] ≡ (start_of l b).line) × (bullet empty ≡ (start_of l b).text)
+unfolding start_of started bytes encode when◌then◌else◌
+term_texts b l = ⊎_elim (λ e x f. rw (e, f) (refl, refl, refl)) (λ e x f. rw (e, f) (refl, refl, refl))
+
+-- What goes out at a block's start and at its end, after the open style is closed
+module _ (old new : Lent) (t : Text) (b : Block) (l : Markdown) (closes : text_of t ≡ wrote (λ size. closed size l.style) old) where
+  abbrev pub starts : AtStart
+  starts = start_of (with_style style.Text l) b
+
+  pub started_wrote : (lead line text : List ℕ) (i j : Lent) → (lead ≡ starts.lead) × (line ≡ starts.line) × (text ≡ starts.text)
+      → i ≡ with_bytes lead (text_of t) → j ≡ wrote (λ size. separated size line) i → new ≡ with_bytes text j
+      → new ≡ wrote (λ size. started_text size l b) old
   unfolding start_rule
-  started_wrote lead line text mid₁ mid₂ new i j r s₁ s₂ e f g u v w =
-      let k = length old in
-      let s : AtStart = start_of (with_style style.Text l) b in
-      wrote_then old mid len n (closed k l.style) (start_rule k (with_style style.Text l) b) (seen new r) closes
-      (wrote_then mid mid₂ n j (λ x. extended k s.lead x >>= separated k s.line) (extended k s.text) (seen new r)
-      (wrote_then mid mid₁ n i (extended k s.lead) (separated k s.line) (seen mid₂ j)
-      (u ∙ ap (λ (m : ℕ). seen mid n >>= extended m lead) same ∙ ap (λ (x : List ℕ). seen mid n >>= extended k x) e)
-      (v ∙ ap (λ (m : ℕ). seen mid₁ i >>= separated m line) s₁ ∙ ap (λ (x : List ℕ). seen mid₁ i >>= separated k x) f))
-      (w ∙ ap (λ (m : ℕ). seen mid₂ j >>= extended m text) s₂ ∙ ap (λ (x : List ℕ). seen mid₂ j >>= extended k x) g))
+  started_wrote lead line text i j e u v w =
+      wrote_after old (text_of t) new (λ size. closed size l.style) (λ size. start_rule size (with_style style.Text l) b) closes
+      (wrote_after (text_of t) j new (λ size x. extended size starts.lead x >>= separated size starts.line) (λ size. extended size starts.text)
+      (wrote_after (text_of t) i j (λ size. extended size starts.lead) (λ size. separated size starts.line) (with_same _ _ _ _ e.0 u)
+      (v ∙ ap (λ (y : List ℕ). wrote (λ size. separated size y) i) e.1)) (with_same _ _ _ _ e.2 w))
 
-  -- and the text of its end
-  pub ended_wrote : (text new : List ℕ) (r : ℕ) → text ≡ (end_of (with_style style.Text l) b).text → seen new r ≡ (seen mid n >>= extended (length mid) text)
-      → seen new r ≡ (seen old len >>= ended_text (length old) l b)
-  ended_wrote text new r e w =
-      wrote_then old mid len n (closed (length old) l.style) (extended (length old) (end_of (with_style style.Text l) b).text) (seen new r) closes
-      (w ∙ ap (λ (m : ℕ). seen mid n >>= extended m text) same ∙ ap (λ (x : List ℕ). seen mid n >>= extended (length old) x) e)
+  pub started_line : (line text : List ℕ) (j : Lent) → ([] ≡ starts.lead) × (line ≡ starts.line) × (text ≡ starts.text)
+      → j ≡ wrote (λ size. separated size line) (text_of t) → new ≡ with_bytes text j → new ≡ wrote (λ size. started_text size l b) old
+  started_line line text j e v w = started_wrote [] line text (text_of t) j e (no_bytes t) v w
 
--- before a term
-pub text-term : (b : Block) (l : Markdown) → (b ≡ block.Section4) ⊎ (b ≡ block.ItemTerm) → (empty : Bool) → l.bare ≡ empty → bullet empty ≡ (start_of l b).text
-unfolding start_of started
-text-term b l = ⊎_elim (λ e x f. rw (e, f)) (λ e x f. rw (e, f))
+  pub started_only : (text : List ℕ) → ([] ≡ starts.lead) × ([] ≡ starts.line) × (text ≡ starts.text) → new ≡ with_bytes text (text_of t)
+      → new ≡ wrote (λ size. started_text size l b) old
+  started_only text e w = started_line [] text (text_of t) e (no_line (text_of t)) w
 
--- The blocks that have none
-pub lead-none : (b : Block) (l : Markdown) → (b ≡ block.ItemBody → ⊥) → [] ≡ (start_of l b).lead
-unfolding start_of started bytes encode when◌then◌else◌
-lead-none block.Header l _ = refl
-lead-none block.Section2 l _ = refl
-lead-none block.Section3 l _ = refl
-lead-none block.Section4 l _ = refl
-lead-none block.ItemTerm l _ = refl
-lead-none block.ItemBody l n = absurd (n refl)
-lead-none block.DefinitionList l _ = refl
-lead-none block.Block l _ = refl
-lead-none block.InlineBlock l _ = refl
-lead-none block.TermRef l _ = refl
-lead-none block.Meta l _ = refl
-lead-none block.Mono l _ = refl
+  pub started_none : new ≡ text_of t → ([] ≡ starts.lead) × ([] ≡ starts.line) × ([] ≡ starts.text)
+      → new ≡ wrote (λ size. started_text size l b) old
+  started_none w e = started_only [] e (w ∙ no_bytes t)
 
-pub line-none : (b : Block) (l : Markdown) → (b ≡ block.Header → ⊥) → (b ≡ block.Section4 → ⊥) → (b ≡ block.ItemTerm → ⊥) → (b ≡ block.ItemBody → ⊥) → [] ≡ (start_of l b).line
-unfolding start_of started bytes encode when◌then◌else◌
-line-none block.Header l n _ _ _ = absurd (n refl)
-line-none block.Section2 l _ _ _ _ = refl
-line-none block.Section3 l _ _ _ _ = refl
-line-none block.Section4 l _ n _ _ = absurd (n refl)
-line-none block.ItemTerm l _ _ n _ = absurd (n refl)
-line-none block.ItemBody l _ _ _ n = absurd (n refl)
-line-none block.DefinitionList l _ _ _ _ = refl
-line-none block.Block l _ _ _ _ = refl
-line-none block.InlineBlock l _ _ _ _ = refl
-line-none block.TermRef l _ _ _ _ = refl
-line-none block.Meta l _ _ _ _ = refl
-line-none block.Mono l _ _ _ _ = refl
+  pub ended_wrote : (text : List ℕ) → text ≡ (end_of (with_style style.Text l) b).text → new ≡ with_bytes text (text_of t)
+      → new ≡ wrote (λ size. ended_text size l b) old
+  ended_wrote text e w =
+      wrote_after old (text_of t) new (λ size. closed size l.style) (λ size. extended size (end_of (with_style style.Text l) b).text) closes
+      (with_same _ _ _ _ e w)
 
-pub text-none : (b : Block) (l : Markdown) → (b ≡ block.Header → ⊥) → (b ≡ block.Section3 → ⊥) → (b ≡ block.Section4 → ⊥) → (b ≡ block.ItemTerm → ⊥) → (b ≡ block.ItemBody → ⊥) → (b ≡ block.Block → ⊥) → [] ≡ (start_of l b).text
-unfolding start_of started bytes encode when◌then◌else◌
-text-none block.Header l n _ _ _ _ _ = absurd (n refl)
-text-none block.Section2 l _ _ _ _ _ _ = refl
-text-none block.Section3 l _ n _ _ _ _ = absurd (n refl)
-text-none block.Section4 l _ _ n _ _ _ = absurd (n refl)
-text-none block.ItemTerm l _ _ _ n _ _ = absurd (n refl)
-text-none block.ItemBody l _ _ _ _ n _ = absurd (n refl)
-text-none block.DefinitionList l _ _ _ _ _ _ = refl
-text-none block.Block l _ _ _ _ _ n = absurd (n refl)
-text-none block.InlineBlock l _ _ _ _ _ _ = refl
-text-none block.TermRef l _ _ _ _ _ _ = refl
-text-none block.Meta l _ _ _ _ _ _ = refl
-text-none block.Mono l _ _ _ _ _ _ = refl
-
--- and those that end a line
-pub end-line : (b : Block) (l : Markdown) → (b ≡ block.ItemTerm → ⊥) → (b ≡ block.ItemBody → ⊥) → (b ≡ block.InlineBlock → ⊥) → (b ≡ block.TermRef → ⊥) → (b ≡ block.Meta → ⊥) → (b ≡ block.Mono → ⊥) → 0x0A ∷ [] ≡ (end_of l b).text
-unfolding end_of ended bytes encode when◌then◌else◌
-end-line block.Header l _ _ _ _ _ _ = refl
-end-line block.Section2 l _ _ _ _ _ _ = refl
-end-line block.Section3 l _ _ _ _ _ _ = refl
-end-line block.Section4 l _ _ _ _ _ _ = refl
-end-line block.ItemTerm l n _ _ _ _ _ = absurd (n refl)
-end-line block.ItemBody l _ n _ _ _ _ = absurd (n refl)
-end-line block.DefinitionList l _ _ _ _ _ _ = refl
-end-line block.Block l _ _ _ _ _ _ = refl
-end-line block.InlineBlock l _ _ n _ _ _ = absurd (n refl)
-end-line block.TermRef l _ _ _ n _ _ = absurd (n refl)
-end-line block.Meta l _ _ _ _ n _ = absurd (n refl)
-end-line block.Mono l _ _ _ _ _ n = absurd (n refl)
+-- a rule after the style is closed
+pub closed_then : (old new : Lent) (st : Style) (rule : List ℕ → Result (List ℕ)) → new ≡ wrote (λ size. closed size st) old
+    → (new.shown >>= rule) ≡ (old.shown >>= λ x. closed old.size st x >>= rule)
+closed_then old new st rule e = ap (λ (v : Lent). v.shown >>= rule) e ∙ sym (bind_assoc old.shown (closed old.size st) rule)

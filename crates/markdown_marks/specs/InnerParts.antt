@@ -1,5 +1,5 @@
 -- What the functions of Markdown's marks promise each other; no rule of 01 stands here.
-use Rattle.std.specs.Prelude.{ℕ, ◌≤◌, Bool, ◌||◌, List, [], ◌++◌, eqb}
+use Rattle.std.specs.Prelude.{ℕ, ◌≤◌, Bool, true, false, ◌||◌, List, [], ◌++◌, eqb}
 use Rattle.base.specs.Choice.{when◌then◌else◌}
 use Rattle.base.specs.Result.{Result, gives, refused, ◌>>=◌}
 use Rattle.room.specs.Room.{extended}
@@ -34,6 +34,11 @@ end_of l b = given_end l (ended 0 b l)
 -- the text after a block's start
 unfoldable pub start_rule : ℕ → Markdown → Block → List ℕ → Result (List ℕ)
 start_rule limit l b x = extended limit (start_of l b).lead x >>= separated limit (start_of l b).line >>= extended limit (start_of l b).text
+
+-- the marks that open a style, or those that close it
+abbrev pub marks : Bool → Style → List ℕ
+marks true st = opening st
+marks false st = closing st
 
 -- the text that a style leaves when it is closed
 abbrev pub closed : ℕ → Style → List ℕ → Result (List ℕ)

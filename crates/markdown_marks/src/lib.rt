@@ -2,130 +2,112 @@
 
 #![tactic(auto)]
 
-ghost use Rattle.std.specs.Prelude.{◌≡◌, ◌++◌, length};
+ghost use Rattle.std.specs.Prelude.{◌≡◌, ◌++◌};
 ghost use Rattle.base.specs.Result.{refused, ◌>>=◌ as bind};
-ghost use Rattle.room.specs.Room.{seen, extended};
-ghost use Rattle.records.specs.Records.{tokens_from, is_end};
-ghost use Rattle.records.specs.declared.Style.{Style};
+ghost use Rattle.room.specs.Lent.{text_of, with_bytes, wrote};
+ghost use Rattle.records.specs.Records.{is_end};
+ghost use Rattle.records.specs.Listed.{left};
 ghost use Rattle.records.specs.declared.Style.TheVariants as style;
-ghost use Rattle.renderer.specs.Rendered.{standing, Inside};
 ghost use Rattle.html_rules.specs.Markdown.{with_style, opening, closing, term_ends};
-ghost use Rattle.html_rules.specs.declared.Markdown.{Markdown as State};
-ghost use Rattle.markdown_marks.specs.InnerParts.{met_term, start_of, end_of, closed, started_text, ended_text, Few};
+ghost use Rattle.html_marks.specs.InnerParts.{told};
+ghost use Rattle.markdown_marks.specs.InnerParts.{marks, met_term, start_of, end_of, closed, started_text, ended_text, Few};
 
 use html_rules::Markdown;
-use records::{Block, Kind, Style};
+use records::{Block, Kind, Records, Style};
 use refusal::Refusal;
+use room::Text;
 
-// The marks that open a style.
-fn opening(st: Style) -> &'static [u8]
-    ensures { result.now ≡ opening st }
+// The marks that open a style, or those that close it. Each arm writes a text of its own, whose length the compiler knows: a function that hands
+// out the text takes a tenth more instructions.
+#[tactic(auto, using(crate::proofs::Texts::no_bytes, crate::proofs::Texts::marks_none), unfolding(utf8::specs::Utf8::bytes, utf8::specs::Utf8::encode, crate::proofs::Names::choose))]
+fn put_marks(t: &mut Text, st: Style, opens: bool)
+    ensures { text_of t.new ≡ with_bytes (marks opens st) (text_of t.old) }
 {
-    match st {
-        Style::Text => b"",
-        Style::Emphasis => b"**",
-        Style::Literal => b"**`",
-        Style::Metavar => b"_`",
-        Style::Invalid => b"**",
-    }
-}
-
-// The marks that close a style.
-fn closing(st: Style) -> &'static [u8]
-    ensures { result.now ≡ closing st }
-{
-    match st {
-        Style::Text => b"",
-        Style::Emphasis => b"**",
-        Style::Literal => b"`**",
-        Style::Metavar => b"`_",
-        Style::Invalid => b"**",
+    match (st, opens) {
+        (Style::Text, _) => {}
+        (Style::Emphasis | Style::Invalid, _) => t.put_all(b"**"),
+        (Style::Literal, true) => t.put_all(b"**`"),
+        (Style::Literal, false) => t.put_all(b"`**"),
+        (Style::Metavar, true) => t.put_all(b"_`"),
+        (Style::Metavar, false) => t.put_all(b"`_"),
     }
 }
 
 // The open style is closed, and another opened.
-pub fn change_to_markdown_style(room: &mut [u8], len: usize, old: Style, new: Style) -> usize
-    ensures { seen room.new result ≡ bind (seen room.old len) (extended (length room.old) (closing old ++ opening new)) }
+pub fn change_to_markdown_style(t: &mut Text, old: Style, new: Style)
+    ensures { text_of t.new ≡ with_bytes (closing old ++ opening new) (text_of t.old) }
 {
-    html_marks::put_both(room, len, closing(old), opening(new))
+    put_marks(t, old, false);
+    put_marks(t, new, true);
 }
 
-// The text that goes out at a block's start at once, whatever style is open.
-fn lead(b: Block, l: &Markdown) -> &'static [u8]
-    ensures { (st : Style) → result.now ≡ (start_of (with_style st l.now) b).lead }
+// A block's start that is not Meta's: the style is closed, its texts follow, and the numbers and flags change.
+#[tactic(auto, unfolding(crate::specs::InnerParts::start_of, html_rules::specs::Markdown::started))]
+pub fn put_start(t: &mut Text, l: &mut Markdown, b: Block)
+    ensures text { text_of t.new ≡ wrote (λ size. started_text size l.old b) (text_of t.old) }
+    ensures after { Few l.old → l.new ≡ (start_of (with_style style.Text l.old) b).after }
 {
+    change_to_markdown_style(t, l.style, Style::Text);
+    l.style = Style::Text;
     match b {
-        Block::ItemBody => {
-            if !l.listed {
-                return b"";
-            }
-            if l.bare { b" " } else { b" &mdash; " }
+        Block::Header => {
+            html_marks::separate(t, b"\n\n");
+            t.put_all(if l.titled { b"## " } else { b"# " });
+            l.titled = true;
         }
-        _ => b"",
+        Block::ItemBody => {
+            if l.listed {
+                t.put_all(if l.bare { b" " } else { b" &mdash; " });
+            }
+            html_marks::separate(t, b"\n");
+            t.put_all(b"  ");
+        }
+        Block::Section4 | Block::ItemTerm => {
+            html_marks::separate(t, b"\n");
+            t.put_all(if l.bare { b"  " } else { b"- " });
+        }
+        Block::Section3 => t.put_all(b"### "),
+        Block::Block => t.put_all(b"\n"),
+        Block::DefinitionList => l.listed = true,
+        Block::InlineBlock => l.skip.push(),
+        Block::Mono => l.mono = l.mono.saturating_add(1),
+        Block::Section2 | Block::TermRef | Block::Meta => {}
     }
 }
 
-// The mark of its own line.
-fn line(b: Block) -> &'static [u8]
-    ensures { (l : State) → result.now ≡ (start_of l b).line }
+// A block's end that is not Meta's: the style is closed, its text follows, and the numbers and flags change.
+#[tactic(auto, unfolding(crate::specs::InnerParts::end_of, html_rules::specs::Markdown::ended))]
+pub fn put_end(t: &mut Text, l: &mut Markdown, b: Block)
+    ensures text { text_of t.new ≡ wrote (λ size. ended_text size l.old b) (text_of t.old) }
+    ensures after { l.new ≡ (end_of (with_style style.Text l.old) b).after }
 {
+    change_to_markdown_style(t, l.style, Style::Text);
+    l.style = Style::Text;
     match b {
-        Block::Header => b"\n\n",
-        Block::Section4 | Block::ItemTerm | Block::ItemBody => b"\n",
-        _ => b"",
+        Block::Header | Block::Section2 | Block::Section3 | Block::Section4 | Block::Block => {
+            t.put(b'\n');
+        }
+        Block::ItemBody => {
+            if l.listed {
+                t.put(b'\n');
+            }
+        }
+        Block::DefinitionList => {
+            l.listed = false;
+            t.put(b'\n');
+        }
+        Block::InlineBlock => l.skip.pop(),
+        Block::Mono => l.mono = l.mono.saturating_sub(1),
+        Block::ItemTerm | Block::TermRef | Block::Meta => {}
     }
 }
 
-// And the text after that.
-fn text(b: Block, l: &Markdown) -> &'static [u8]
-    ensures { (st : Style) → result.now ≡ (start_of (with_style st l.now) b).text }
+// Meta: the style is closed, and then 11 is met. HTML has the same with its own tags: one function for both would be told what closes the style.
+pub fn meet_meta(t: &mut Text, st: Style, at: usize) -> Refusal
+    ensures { told result ≡ bind (text_of t.old).shown (λ x. bind (closed (text_of t.old).size st x) (λ _. refused 11 at)) }
 {
-    match b {
-        Block::Header => { if l.titled { b"## " } else { b"# " } }
-        Block::Section3 => b"### ",
-        Block::Section4 | Block::ItemTerm => { if l.bare { b"  " } else { b"- " } }
-        Block::ItemBody => b"  ",
-        Block::Block => b"\n",
-        _ => b"",
-    }
-}
-
-// A block's start that is not Meta's: the style is closed, and its texts follow.
-pub fn put_start(room: &mut [u8], len: usize, l: &Markdown, b: Block) -> usize
-    ensures { seen room.new result ≡ bind (seen room.old len) (started_text (length room.old) l.now b) }
-{
-    let n = change_to_markdown_style(room, len, l.style, Style::Text);
-    let i = room::put_all(room, n, lead(b, l));
-    let j = html_marks::separate(room, i, line(b));
-    room::put_all(room, j, text(b, l))
-}
-
-// The text of a block's end, whatever style is open.
-fn end(b: Block, l: &Markdown) -> &'static [u8]
-    ensures { (st : Style) → result.now ≡ (end_of (with_style st l.now) b).text }
-{
-    match b {
-        Block::ItemBody => { if l.listed { b"\n" } else { b"" } }
-        Block::ItemTerm | Block::InlineBlock | Block::TermRef | Block::Meta | Block::Mono => b"",
-        _ => b"\n",
-    }
-}
-
-// A block's end that is not Meta's: the style is closed, and its text follows.
-pub fn put_end(room: &mut [u8], len: usize, l: &Markdown, b: Block) -> usize
-    ensures { seen room.new result ≡ bind (seen room.old len) (ended_text (length room.old) l.now b) }
-{
-    let n = change_to_markdown_style(room, len, l.style, Style::Text);
-    room::put_all(room, n, end(b, l))
-}
-
-// Meta: the style is closed, and then 11 is met.
-pub fn meet_meta(room: &mut [u8], len: usize, st: Style, at: usize) -> Result<usize, Refusal>
-    ensures text { standing room.new result ≡ bind (seen room.old len) (λ x. bind (closed (length room.old) st x) (λ _. refused 11 at)) }
-    ensures inside { Inside (length room.old) result }
-{
-    let n = change_to_markdown_style(room, len, st, Style::Text);
-    renderer::no_form(room, n, at)
+    change_to_markdown_style(t, st, Style::Text);
+    html_marks::no_form(t, at)
 }
 
 // Whether a record is the end of a term.
@@ -135,49 +117,25 @@ fn is_term_end(kind: Kind) -> bool
     matches!(kind, Kind::End(Block::ItemTerm))
 }
 
-// Whether the record at a place is the end of a term.
-fn term_ends(document: &[u8], at: usize) -> bool
-    ensures { result ≡ term_ends (tokens_from document.now at) }
+// Whether the first of some records is the end of a term.
+#[tactic(auto, unfolding(html_rules::specs::Markdown::term_ends))]
+fn term_ends(records: Records) -> bool
+    ensures { result ≡ term_ends (left records.entry) }
 {
-    if document.len() <= at {
-        return false;
-    }
-    is_term_end(records::record_at(document, at).kind)
-}
-
-// At the start of an ItemTerm or a Section4: whether its term is empty.
-pub fn met_term(l: &mut Markdown, document: &[u8], next: usize, b: Block)
-    ensures { l.new ≡ met_term b (term_ends (tokens_from document.now next)) l.old }
-{
-    match b {
-        Block::Section4 | Block::ItemTerm => l.bare = term_ends(document, next),
-        _ => {}
+    let mut rest = records;
+    match rest.next() {
+        Some(r) => is_term_end(r.kind),
+        None => false,
     }
 }
 
-// After a block's start: the style is closed, and the numbers and flags change.
-pub fn after_start(l: &mut Markdown, b: Block)
-    ensures { Few l.old → l.new ≡ (start_of (with_style style.Text l.old) b).after }
+// At the start of an ItemTerm or a Section4, by the records after it: whether its term is empty.
+#[tactic(auto, using(crate::proofs::Flags::item, crate::proofs::Flags::no_item))]
+pub fn met_term(l: &mut Markdown, records: Records, b: Block)
+    ensures { l.new ≡ met_term b (term_ends (left records.entry)) l.old }
 {
-    l.style = Style::Text;
     match b {
-        Block::Header => l.titled = true,
-        Block::DefinitionList => l.listed = true,
-        Block::InlineBlock => l.skip.push(),
-        Block::Mono => l.mono = l.mono.saturating_add(1),
-        _ => {}
-    }
-}
-
-// And after its end.
-pub fn after_end(l: &mut Markdown, b: Block)
-    ensures { l.new ≡ (end_of (with_style style.Text l.old) b).after }
-{
-    l.style = Style::Text;
-    match b {
-        Block::DefinitionList => l.listed = false,
-        Block::InlineBlock => l.skip.pop(),
-        Block::Mono => l.mono = l.mono.saturating_sub(1),
+        Block::Section4 | Block::ItemTerm => l.bare = term_ends(records),
         _ => {}
     }
 }

@@ -1,5 +1,5 @@
 -- The refusals after 1 to 8, and the room that holds the answer. Assumes nothing.
-use Rattle.merge.proofs.Names.{ℕ, ◌≤◌, ◌<◌, ◌≡◌, refl, sym, ap, subst, ◌∙◌, List, [], length, length-take-le, arith, le-leb, lt-leb, ◌>>=◌}
+use Rattle.merge.proofs.Names.{ℕ, ◌≤◌, ◌<◌, ◌≡◌, sym, ap, subst, ◌∙◌, List, [], length, length-take-le, arith, le-leb, lt-leb, ◌>>=◌}
 use Rattle.merge.proofs.Names.{check-gives, extended, seen, Written, Accepted, Sound}
 use mathlib.Core.Bool.{Bool, true, false, ◌&&◌}
 use mathlib.Core.Logic.{⊎_elim}
@@ -11,17 +11,12 @@ use Rattle.document.specs.Document.{check}
 use Rattle.std.specs.Prelude.{Result as Returned, Ok, Err}
 use Rattle.refusal.specs.Numbers.{refusal_number, refusal_place}
 use Rattle.refusal.specs.declared.Refusal.{Refusal}
-use Rattle.renderer.specs.Rendered.{standing, Inside, filled}
-use Rattle.renderer.proofs.Answers.{answer_cleared}
 use Rattle.buffer.specs.Builder.{fit}
 use Rattle.room.proofs.Laws.{extended_in, extended-out}
-use Rattle.merge_rules.specs.Merge.{list_of, IsList, merged, in_order, merging, Merges, first-no-list, second_no-list, both_lists, TheMerge}
+use Rattle.merge_rules.specs.Merge.{list_of, merged, in_order, merging, Merges, both_lists, TheMerge}
 use Rattle.merge_rules.proofs.Laws.{two_lists, the_merge}
-use Rattle.merge_sides.specs.InnerSteps.{SideIs}
-use Rattle.merge_sides.specs.declared.Side.{Side}
-use Rattle.merge_sides.proofs.Listing.{tells_yes, tells_no}
+use Rattle.merge_sides.specs.InnerSteps.{Ascends}
 use Rattle.merge_items.proofs.Texts.{seen-text}
-use Rattle.merge.specs.Answers.{Answer}
 
 -- what the code found, by the case of its answer
 module _ {s t : List ℕ} {v : Returned (Unit {0}) Refusal} (e : Sound s t v) where
@@ -31,50 +26,36 @@ module _ {s t : List ℕ} {v : Returned (Unit {0}) Refusal} (e : Sound s t v) wh
   pub sound-refused : {a : Refusal} → v ≡ Err a → (room : List ℕ) → TheMerge room s t (refused (refusal_number a) (refusal_place a))
   sound-refused f room = the_merge (subst (λ (v : Returned (Unit {0}) Refusal). Sound s t v) f e room)
 
--- Two sides that 1 to 8 accept: 22 and 23
+-- Two lists that 1 to 8 accept: 23
 
-module _ {s t : List ℕ} {a b : Side} (cs : check s ≡ gives []) (ct : check t ≡ gives []) (x : SideIs s a) (y : SideIs t b) where
-  pub first-not : a.list ≡ false → (room : List ℕ) → Merges room s t (refused 22 0)
-  first-not e room = first-no-list cs ct (tells_no a.list x.list e)
+module _ {s t : List ℕ} (cs : check s ≡ gives []) (ct : check t ≡ gives []) {p q : Bool} (x : Ascends s p) (y : Ascends t q) where
+  pub first_down : p ≡ false → (room : List ℕ) → Merges room s t (refused 23 0)
+  unfolding merging in_order ◌>>=◌ when◌then◌else◌
+  first_down u room =
+      subst (λ (r : Result (List ℕ)). Merges room s t r) (rw (sym (x.ordered x.list.0 x.list.1) ∙ u)) (both_lists cs ct x.list.1 y.list.1)
 
-  module _ (e : a.list ≡ true) where
-    pub second_not : b.list ≡ false → (room : List ℕ) → Merges room s t (refused 22 0)
-    second_not f room = second_no-list cs ct (tells_yes a.list x.list e) (tells_no b.list y.list f)
+  module _ (u : p ≡ true) where
+    pub second_down : q ≡ false → (room : List ℕ) → Merges room s t (refused 23 0)
+    unfolding merging in_order ◌>>=◌ when◌then◌else◌
+    second_down v room =
+        subst (λ (r : Result (List ℕ)). Merges room s t r)
+        (rw (sym (x.ordered x.list.0 x.list.1) ∙ u, sym (y.ordered y.list.0 y.list.1) ∙ v)) (both_lists cs ct x.list.1 y.list.1)
 
-    module _ (f : b.list ≡ true) where
-      l : IsList s
-      l = tells_yes a.list x.list e
-
-      k : IsList t
-      k = tells_yes b.list y.list f
-
-      pub first_down : a.ordered ≡ false → (room : List ℕ) → Merges room s t (refused 23 0)
-      unfolding merging in_order ◌>>=◌ when◌then◌else◌
-      first_down u room =
-          subst (λ (r : Result (List ℕ)). Merges room s t r) (rw (sym (x.ordered l.0 l.1) ∙ u)) (both_lists cs ct l.1 k.1)
-
-      module _ (u : a.ordered ≡ true) where
-        pub second_down : b.ordered ≡ false → (room : List ℕ) → Merges room s t (refused 23 0)
-        unfolding merging in_order ◌>>=◌ when◌then◌else◌
-        second_down v room =
-            subst (λ (r : Result (List ℕ)). Merges room s t r) (rw (sym (x.ordered l.0 l.1) ∙ u, sym (y.ordered k.0 k.1) ∙ v))
-            (both_lists cs ct l.1 k.1)
-
-        pub accepted : b.ordered ≡ true → Accepted s t
-        accepted v = record {
-          sides = record {
-            is = l.0;
-            js = k.0;
-            first = l.1;
-            second = k.1;
-            short = (check-gives s [] cs).0;
-            also-short = (check-gives t [] ct).0;
-          };
-          first = cs;
-          second = ct;
-          first_up = sym (x.ordered l.0 l.1) ∙ u;
-          second_up = sym (y.ordered k.0 k.1) ∙ v;
-        }
+    pub accepted : q ≡ true → Accepted s t
+    accepted v = record {
+      sides = record {
+        is = x.list.0;
+        js = y.list.0;
+        first = x.list.1;
+        second = y.list.1;
+        short = (check-gives s [] cs).0;
+        also-short = (check-gives t [] ct).0;
+      };
+      first = cs;
+      second = ct;
+      first_up = sym (x.ordered x.list.0 x.list.1) ∙ u;
+      second_up = sym (y.ordered y.list.0 y.list.1) ∙ v;
+    }
 
 both_up : {s t : List ℕ} (a : Accepted s t) (room : List ℕ) → TheMerge room s t (fit room (list_of (merged a.sides.is a.sides.js)))
 both_up a room = the_merge (two_lists {room = room} a.first a.second a.sides.first a.sides.second a.first_up a.second_up)
@@ -122,14 +103,3 @@ module _ {room s t : List ℕ} (a : Accepted s t) (new : List ℕ) (len : ℕ) (
 
   pub fits_there : (r : Result (List ℕ)) → len ≤ 32768 → r ≡ seen new len → TheMerge room s t r
   fits_there r h e = subst (λ (r : Result (List ℕ)). TheMerge room s t r) (sym (e ∙ short-seen room _ new len here h)) (both_up a room)
-
--- the answer lies in a room of the same length
-pub stays_inside : (a : Returned ℕ Refusal) (m n : ℕ) → m ≡ n → Inside m a → Inside n a
-stays_inside a m n l i = subst (λ (n : ℕ). Inside n a) l i
-
--- the room, cleared after the answer
-pub whole-answer : (room mid new s t : List ℕ) (a : Returned ℕ Refusal) → length mid ≡ length room → TheMerge room s t (standing mid a) → Inside (length room) a
-    → new ≡ filled (length mid) (standing mid a) → Answer room s t a new
-whole-answer room mid new s t a l m i w =
-    let e = answer_cleared mid new (length room) a (standing mid a) l refl i w in
-    record { result = standing mid a; merges = m; answer = e.0; leaves = e.1 }

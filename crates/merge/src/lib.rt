@@ -10,11 +10,13 @@ ghost use Rattle.merge.specs.InnerSteps.{Sides, Written, Sound};
 ghost use Rattle.document.specs.Document.{max_bytes};
 
 use document::MAX_BYTES;
+use merge_sides::Side;
 use refusal::Refusal;
 use std::cmp::Ordering;
 
 // The merged list of two lists, into a room: a length past the room says that it is longer than that. Each key has the term of its side's next
-// item; a step compares both and goes on in the side whose item it wrote, or in both sides where the terms are the same.
+// item; a step compares both and goes on in the side whose item it wrote, or in both sides where the terms are the same. (By places: no step is
+// one item of one side, over which an iterator would go.)
 fn merge_lists(
     first: &[u8],
     second: &[u8],
@@ -30,42 +32,30 @@ fn merge_lists(
     let mut len = room::put_all(room, 0, &first[..6]);
     let mut i: usize = 6;
     let mut j: usize = 6;
-    let e = merge_items::read_item(first, i, key);
-    let mut next = e.next;
-    let mut n = e.len;
-    let f = merge_items::read_item(second, j, other);
-    let mut then = f.next;
-    let mut m = f.len;
+    let mut e = merge_items::read_item(first, i, key);
+    let mut f = merge_items::read_item(second, j, other);
     while i < last {
         if close <= j {
             return room::put_all(room, len, &first[i..]);
         }
-        let order = merge_items::compare(&key[..n], &other[..m]);
+        let order = merge_items::compare(&key[..e.len], &other[..f.len]);
         match order {
             Ordering::Less => {
-                len = room::put_all(room, len, &first[i..next]);
-                i = next;
-                let e = merge_items::read_item(first, i, key);
-                next = e.next;
-                n = e.len;
+                len = room::put_all(room, len, &first[i..e.next]);
+                i = e.next;
+                e = merge_items::read_item(first, i, key);
             }
             Ordering::Equal => {
-                len = room::put_all(room, len, &first[i..next]); // the first side's item
-                i = next;
-                j = then;
-                let e = merge_items::read_item(first, i, key);
-                next = e.next;
-                n = e.len;
-                let f = merge_items::read_item(second, j, other);
-                then = f.next;
-                m = f.len;
+                len = room::put_all(room, len, &first[i..e.next]); // the first side's item
+                i = e.next;
+                j = f.next;
+                e = merge_items::read_item(first, i, key);
+                f = merge_items::read_item(second, j, other);
             }
             Ordering::Greater => {
-                len = room::put_all(room, len, &second[j..then]);
-                j = then;
-                let f = merge_items::read_item(second, j, other);
-                then = f.next;
-                m = f.len;
+                len = room::put_all(room, len, &second[j..f.next]);
+                j = f.next;
+                f = merge_items::read_item(second, j, other);
             }
         }
     }
@@ -78,21 +68,15 @@ fn refused_sides(first: &[u8], second: &[u8]) -> Result<(), Refusal>
 {
     document::check(first)?;
     document::check(second)?;
-    let a = merge_sides::side_of(first);
-    let b = merge_sides::side_of(second);
-    if !a.list {
-        return Err(Refusal::NotAList); // of the first side
+    match (merge_sides::side_of(first), merge_sides::side_of(second)) {
+        (Side::NotAList, _) => Err(Refusal::NotAList),
+        (Side::NotAscending, Side::NotAList) => Err(Refusal::NotAList), // 22 of the second side before 23 of the first
+        (Side::NotAscending, Side::NotAscending) => Err(Refusal::NotAscending),
+        (Side::NotAscending, Side::Ascending) => Err(Refusal::NotAscending),
+        (Side::Ascending, Side::NotAList) => Err(Refusal::NotAList),
+        (Side::Ascending, Side::NotAscending) => Err(Refusal::NotAscending),
+        (Side::Ascending, Side::Ascending) => Ok(()),
     }
-    if !b.list {
-        return Err(Refusal::NotAList); // of the second side
-    }
-    if !a.ordered {
-        return Err(Refusal::NotAscending); // of the first side
-    }
-    if !b.ordered {
-        return Err(Refusal::NotAscending); // of the second side
-    }
-    Ok(())
 }
 
 // The merged list in a room, or why there is none.
@@ -101,6 +85,7 @@ fn merged(first: &[u8], second: &[u8], room: &mut [u8]) -> Result<usize, Refusal
     ensures inside { Inside (length room.old) result }
 {
     refused_sides(first, second)?;
+    // two arrays as large as a document, since there is no heap
     let mut key: [u8; MAX_BYTES] = [0; MAX_BYTES];
     let mut other: [u8; MAX_BYTES] = [0; MAX_BYTES];
     let len = merge_lists(first, second, room, &mut key, &mut other);

@@ -1,6 +1,7 @@
 -- One record on the way to a block's end. Assumes nothing.
-use Rattle.merge_items.proofs.Names.{ℕ, ◌+◌, ◌-◌, ◌≤◌, ◌<◌, ◌≡◌, sym, ap, ◌∙◌, ⊎_elim, List, length, arith, if_true, if_false, le_or_lt, Token}
-use Rattle.merge_items.proofs.Names.{tokens_from, Read, Block, Head, tokens-end, read_next, deeper, on, end_of, none-some, some_same}
+use Rattle.merge_items.proofs.Names.{ℕ, ◌+◌, ◌-◌, ◌≤◌, ◌<◌, ◌≡◌, sym, ap, ◌∙◌, ⊎_elim, List, [], ◌∷◌, length, arith, if_true, if_false, le_or_lt, Token}
+use Rattle.buffer.proofs.Taking.{Taken, taken}
+use Rattle.merge_items.proofs.Names.{tokens_from, Block, deeper, on, end_of, none-some, some_same}
 use mathlib.Core.Logic.{◌⊎◌, inl, inr}
 use Rattle.std.specs.Prelude.{Option, Some, None}
 use Rattle.std.specs.Option.{SomeIff}
@@ -47,19 +48,48 @@ deep-low (kind.End b) d n e =
     (λ (h : d < 1). absurd (none-some (sym (if_false _ _ (lt-leb 1 d h)) ∙ e))) (le_or_lt 1 d)
 deep-low kind.Unknown d n e = omega (arith, some_same e)
 
-module _ {s : List ℕ} {at : ℕ} {h : Head} (r : Read s at h) (l : at < length s) (d : ℕ) where
-  end-next : end_of (tokens_from s at) d ≡ on (deeper h.kind d) at (end_of (tokens_from s h.next))
+module _ {t : Token} {left others : List Token} (e : left ≡ t ∷ others) (d : ℕ) where
+  end-next : end_of left d ≡ on (deeper t.kind d) t.place (end_of others)
   unfolding end_of
-  end-next = ap (λ (ts : List Token). end_of ts d) (read_next r l)
+  end-next = ap (λ (ts : List Token). end_of ts d) e
 
-  pub end_on : {n : ℕ} → deeper h.kind d ≡ Some n → end_of (tokens_from s at) d ≡ end_of (tokens_from s h.next) n
+  end_on : {n : ℕ} → deeper t.kind d ≡ Some n → end_of left d ≡ end_of others n
   unfolding on
-  end_on e = end-next ∙ ap (λ (o : Option ℕ). on o at (end_of (tokens_from s h.next))) e
+  end_on f = end-next ∙ ap (λ (o : Option ℕ). on o t.place (end_of others)) f
 
-  pub end-here : deeper h.kind d ≡ None → end_of (tokens_from s at) d ≡ at
+  end-here : deeper t.kind d ≡ None → end_of left d ≡ t.place
   unfolding on
-  end-here e = end-next ∙ ap (λ (o : Option ℕ). on o at (end_of (tokens_from s h.next))) e
+  end-here f = end-next ∙ ap (λ (o : Option ℕ). on o t.place (end_of others)) f
 
-pub end-past : (s : List ℕ) (at d : ℕ) → length s ≤ at → end_of (tokens_from s at) d ≡ 0
-unfolding end_of
-end-past s at d h = ap (λ (ts : List Token). end_of ts d) (tokens-end s at h)
+-- the records that are left end the block where all from a place on do; no more blocks are open than there are bytes before them
+pub record Open (s : List ℕ) (from depth : ℕ) (left : List Token) : Type 0 where
+  pub at : ℕ
+  pub listed : tokens_from s at ≡ left
+  pub deep : depth ≤ at
+  pub same : end_of left depth ≡ end_of (tokens_from s from) 0
+
+pub open_0 : (s : List ℕ) (from : ℕ) {left : List Token} → left ≡ tokens_from s from → Open s from 0 left
+open_0 s from e = record { at = from; listed = sym e; deep = omega arith; same = ap (λ (ts : List Token). end_of ts 0) e }
+
+module _ {s : List ℕ} {from depth : ℕ} {left : List Token} (o : Open s from depth left) where
+  pub open_end : left ≡ [] → 0 ≡ end_of (tokens_from s from) 0
+  unfolding end_of
+  open_end e = ap (λ (ts : List Token). end_of ts depth) (sym e) ∙ o.same
+
+  module _ {t : Token} {others : List Token} (e : left ≡ t ∷ others) where
+    here : Taken s o.at t others
+    here = taken (o.listed ∙ e)
+
+    pub open_inside : (depth < length s) × (t.place ≤ length s)
+    open_inside = let p = ap (λ (t : Token). t.place) here.is in (omega (arith, o.deep, here.inside), omega (arith, p, here.inside))
+
+    pub open_here : deeper t.kind depth ≡ None → t.place ≡ end_of (tokens_from s from) 0
+    open_here f = sym (end-here e depth f) ∙ o.same
+
+    pub open_next : {n : ℕ} → deeper t.kind depth ≡ Some n → Open s from n others
+    open_next {n} f = record {
+      at = here.head.next;
+      listed = here.on;
+      deep = omega (arith, deep-low t.kind depth n f, o.deep, here.read.low here.inside, here.read.order);
+      same = sym (end_on e depth f) ∙ o.same;
+    }

@@ -1,10 +1,9 @@
 -- Texts in a lent room: the text of records joined there, and two texts compared. Assumes nothing.
 use Rattle.merge_items.proofs.Names.{ℕ, ◌≤◌, ◌<◌, ◌≡◌, refl, sym, ap, ◌∙◌, ⊎_elim, List, [], ◌∷◌, ◌++◌, append-nil, length, take, arith}
-use Rattle.merge_items.proofs.Names.{lt-ltb, le-ltb, Result, gives, ◌>>=◌, if_true, if_false, le_or_lt, token_at, tokens_from, Read, Head, tokens-end}
-use Rattle.merge_items.proofs.Names.{tokens_at, read_next, extended, seen, extended_twice, extended_in, seen_in, seen-out, compared, text_to}
+use Rattle.merge_items.proofs.Names.{lt-ltb, le-ltb, Result, gives, ◌>>=◌, if_true, if_false, le_or_lt, Token}
+use Rattle.merge_items.proofs.Names.{extended, seen, extended_twice, extended_in, seen_in, seen-out, compared, text_to}
 use lib.Seq.{length-take-le}
 use borrow.Author.Tests.{leb-true}
-use Rattle.base.specs.Bytes.{part}
 use Rattle.base.proofs.Results.{bind_assoc, bind_same, if_gives, gives_same}
 use Rattle.std.specs.Cmp.Lexicographic.{slice_cmp}
 use Rattle.std.specs.declared.cmp.Ordering.{Ordering}
@@ -12,24 +11,6 @@ use Rattle.std.specs.declared.cmp.Ordering.TheVariants.{Less, Equal, Greater}
 use Rattle.std.specs.Ordering.{MatchOrdering, nat_cmp, ordering_then}
 use Rattle.std.specs.Cmp.{ranks}
 use Rattle.merge_rules.proofs.Before.{by_less, by-more, by-rest}
-
--- The text up to a place
-
-module _ (s : List ℕ) (at stop : ℕ) where
-  pub text-on : {h : Head} → Read s at h → at < length s → at < stop
-      → text_to stop (tokens_from s at) ≡ part s h.start h.stop ++ text_to stop (tokens_from s h.next)
-  unfolding text_to
-  text-on r l k = ap (text_to stop) (read_next r l) ∙ if_true _ _ (lt-ltb at stop k)
-
-  pub text_over : stop ≤ at → text_to stop (tokens_from s at) ≡ []
-  unfolding text_to token_at
-  text_over k = ⊎_elim past here (le_or_lt (length s) at)
-    where
-      past : length s ≤ at → text_to stop (tokens_from s at) ≡ []
-      past h = ap (text_to stop) (tokens-end s at h)
-
-      here : at < length s → text_to stop (tokens_from s at) ≡ []
-      here h = ap (text_to stop) (tokens_at s at h) ∙ if_false _ _ (le-ltb at stop k)
 
 -- Writing
 
@@ -63,19 +44,30 @@ pub from_nothing : (room : List ℕ) (limit : ℕ) (x : List ℕ) → (seen room
 unfolding ◌>>=◌
 from_nothing room limit x = ap (λ (r : Result (List ℕ)). r >>= extended limit x) (seen_nothing room)
 
--- the text of records joined, one record and then those after it
-module _ (s : List ℕ) (at stop limit : ℕ) (key : List ℕ) (len : ℕ) (whole : Result (List ℕ)) (size : length key ≡ limit)
-    (joins : (seen key len >>= extended limit (text_to stop (tokens_from s at))) ≡ whole) where
-  pub joined-on : {h : Head} → Read s at h → at < length s → at < stop → (new : List ℕ) (n : ℕ)
-      → seen new n ≡ (seen key len >>= extended (length key) (part s h.start h.stop))
-      → (seen new n >>= extended limit (text_to stop (tokens_from s h.next))) ≡ whole
-  joined-on {h} r l k new n w =
-      wrote_more limit key new len n (part s h.start h.stop) (text_to stop (tokens_from s h.next)) whole
-      (w ∙ ap (λ (m : ℕ). seen key len >>= extended m (part s h.start h.stop)) size)
-      (ap (λ (x : List ℕ). seen key len >>= extended limit x) (sym (text-on s at stop r l k)) ∙ joins)
+-- the text of records up to a place joined, one record and then those after it
+module _ (stop limit : ℕ) (key : List ℕ) (len : ℕ) (left : List Token) (whole : Result (List ℕ)) (size : length key ≡ limit)
+    (joins : (seen key len >>= extended limit (text_to stop left)) ≡ whole) where
+  nothing-more : text_to stop left ≡ [] → seen key len ≡ whole
+  nothing-more e = sym (ap (λ (x : List ℕ). seen key len >>= extended limit x) e ∙ wrote_nothing key limit len size) ∙ joins
 
-  pub joined_end : stop ≤ at → seen key len ≡ whole
-  joined_end k = sym (ap (λ (x : List ℕ). seen key len >>= extended limit x) (text_over s at stop k) ∙ wrote_nothing key limit len size) ∙ joins
+  pub joined_end : left ≡ [] → seen key len ≡ whole
+  unfolding text_to
+  joined_end e = nothing-more (ap (text_to stop) e)
+
+  module _ {t : Token} {others : List Token} (e : left ≡ t ∷ others) where
+    pub joined_stop : stop ≤ t.place → seen key len ≡ whole
+    unfolding text_to
+    joined_stop k = nothing-more (ap (text_to stop) e ∙ if_false _ _ (le-ltb t.place stop k))
+
+    text-next : t.place < stop → text_to stop left ≡ t.body ++ text_to stop others
+    unfolding text_to
+    text-next k = ap (text_to stop) e ∙ if_true _ _ (lt-ltb t.place stop k)
+
+    pub joined-on : t.place < stop → (new : List ℕ) (n : ℕ) → seen new n ≡ (seen key len >>= extended (length key) t.body)
+        → (seen new n >>= extended limit (text_to stop others)) ≡ whole
+    joined-on k new n w =
+        wrote_more limit key new len n t.body (text_to stop others) whole (w ∙ ap (λ (m : ℕ). seen key len >>= extended m t.body) size)
+        (ap (λ (x : List ℕ). seen key len >>= extended limit x) (sym (text-next k)) ∙ joins)
 
 -- a text that is seen
 pub seen-text : (room : List ℕ) (len : ℕ) (x : List ℕ) → seen room len ≡ gives x → (len ≤ length room) × (take len room ≡ x)

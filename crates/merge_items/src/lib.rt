@@ -11,7 +11,7 @@ ghost use Rattle.merge_items.specs.InnerSteps.{text_to, Found, Keyed};
 ghost use Rattle.document.specs.Document.{max_bytes};
 
 use document::MAX_BYTES;
-use records::Kind;
+use records::{Kind, Records};
 use std::cmp::Ordering;
 
 // Of an item: where what its term holds stands, where the term's end record stands, and where the item ends. Zeros stand for no item: who asks
@@ -47,15 +47,12 @@ fn end_of(document: &[u8], from: usize) -> usize
     requires { length document.now ≤ max_bytes }
     ensures { (result ≡ end_of (tokens_from document.now from) 0) × (result ≤ length document.now) }
 {
-    let mut at = from;
     let mut depth: usize = 0;
-    while at < document.len() {
-        let h = records::record_at(document, at);
-        let Some(d) = open_after(h.kind, depth) else {
-            return at;
+    for r in Records::from_place(document, from) {
+        let Some(d) = open_after(r.kind, depth) else {
+            return r.place;
         };
         depth = d;
-        at = h.next;
     }
     0
 }
@@ -90,17 +87,14 @@ pub fn item_at(document: &[u8], at: usize) -> Place
 
 // The text of the records from a place on up to another, joined in a lent key.
 fn key_of(document: &[u8], from: usize, stop: usize, key: &mut [u8]) -> usize
-    requires { stop ≤ length document.now }
     ensures { seen key.new result ≡ extended (length key.old) (text_to stop (tokens_from document.now from)) [] }
 {
-    let mut at = from;
     let mut len: usize = 0;
-    while at < stop {
-        let h = records::record_at(document, at);
-        let start = h.start;
-        let to = h.stop;
-        len = room::put_all(key, len, &document[start..to]);
-        at = h.next; // the records after it
+    for r in Records::from_place(document, from) {
+        if stop <= r.place {
+            return len;
+        }
+        len = room::put_all(key, len, r.body);
     }
     len
 }
@@ -115,7 +109,7 @@ pub fn read_item(document: &[u8], at: usize, key: &mut [u8]) -> Entry
     Entry { next: p.next, len }
 }
 
-// One text beside another, by their bytes.
+// One text beside another, by their bytes. (Std's order of two slices; the function says what it is by the rules, for both callers.)
 pub fn compare(a: &[u8], b: &[u8]) -> Ordering
     ensures { result ≡ compared a.now b.now }
 {

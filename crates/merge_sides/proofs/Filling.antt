@@ -1,21 +1,18 @@
 -- What a term and a body hold, as the code tests it: the house shape of the bytes by themselves, and for a term that no other records stand
 -- there. Assumes nothing.
-use Rattle.merge_sides.proofs.Names.{ℕ, ◌≤◌, ◌<◌, ◌≡◌, refl, sym, ap, ◌∙◌, Bool, true, false, ◌&&◌, false≢true, List, [], ◌∷◌, ◌++◌, length}
-use Rattle.merge_sides.proofs.Names.{gives, refused, and_left, and_right, and_both, tokens_from, kinds, Answers, plain, all_plain, Tells}
+use Rattle.merge_sides.proofs.Names.{ℕ, ◌≤◌, ◌≡◌, refl, sym, ap, ◌∙◌, Bool, true, false, ◌&&◌, false≢true, List, [], ◌∷◌, ◌++◌, length}
+use Rattle.merge_sides.proofs.Names.{gives, refused, and_left, and_right, and_both, kinds, Answers, plain, all_plain, Tells}
 use Rattle.std.specs.Prelude.{Option, Some, None, not}
 use Rattle.std.specs.Option.{is_some}
+use Rattle.std.specs.List.{list_all}
 use Rattle.base.proofs.Results.{refused-gives}
 use Rattle.records.specs.Records.{Token, tokens}
 use Rattle.document.specs.Document.{check}
-use Rattle.records.specs.Answers.{Read}
 use Rattle.records.specs.declared.Block.{Block}
 use Rattle.records.specs.declared.Block.TheVariants as block
 use Rattle.records.specs.declared.Kind.{Kind}
 use Rattle.records.specs.declared.Kind.TheVariants as kind
-use Rattle.records.specs.declared.Head.{Head}
 use Rattle.document.proofs.Walks.{check-gives}
-use Rattle.records.proofs.Reading.{read_next}
-use Rattle.records.proofs.Tokens.{tokens-end}
 use Rattle.shape.specs.Shape.{Holds, inline, other}
 use Rattle.shape.specs.Shape as content
 use Rattle.shape.proofs.Laws.{shaped_placed}
@@ -101,17 +98,8 @@ pub term_of : (s : List ℕ) (r : Bool) → true ≡ all_plain (kinds (tokens 0 
 term_of s true e f = record { whole = f.whole; shape = plain-inlines f.shape (sym e) }
 term_of s false e f = λ g. f (record { whole = g.whole; shape = inlines-parts g.shape })
 
-module _ {s : List ℕ} {at : ℕ} {h : Head} (r : Read s at h) (l : at < length s) where
-  plain-next : all_plain (kinds (tokens_from s at)) ≡ (plain h.kind && all_plain (kinds (tokens_from s h.next)))
-  unfolding all_plain kinds
-  plain-next = ap (λ (ts : List Token). all_plain (kinds ts)) (read_next r l)
-
-  pub plain-on : plain h.kind ≡ true → all_plain (kinds (tokens_from s h.next)) ≡ all_plain (kinds (tokens_from s at))
-  plain-on e = sym (plain-next ∙ rw e)
-
-  pub plain_out : plain h.kind ≡ false → false ≡ all_plain (kinds (tokens_from s at))
-  plain_out e = sym (plain-next ∙ rw e)
-
-pub plain_end : (s : List ℕ) (at : ℕ) → length s ≤ at → true ≡ all_plain (kinds (tokens_from s at))
+-- the records one by one
+pub plain-all : (ts : List Token) → list_all (λ t. plain t.kind) ts ≡ all_plain (kinds ts)
 unfolding all_plain kinds
-plain_end s at h = sym (ap (λ (ts : List Token). all_plain (kinds ts)) (tokens-end s at h))
+plain-all [] = refl
+plain-all (t ∷ ts) = ap (λ (b : Bool). plain t.kind && b) (plain-all ts)

@@ -1,8 +1,12 @@
 -- The test whether a document is a list: an item by the bytes around its term and its body, and the list by its items. Assumes nothing.
-use Rattle.merge_sides.proofs.Names.{ℕ, ◌+◌, ◌-◌, ◌≤◌, ◌<◌, ◌≡◌, refl, sym, ap, subst, ◌∙◌, Bool, true, false, false≢true, List, [], ◌∷◌, ◌++◌}
+use Rattle.merge_sides.proofs.Names.{ℕ, ◌+◌, ◌-◌, ◌≤◌, ◌<◌, ◌≡◌, refl, sym, ap, subst, ◌∙◌, Bool, true, false, ◌&&◌, false≢true, List, [], ◌∷◌, ◌++◌}
 use Rattle.merge_sides.proofs.Names.{append_assoc, length, take, drop, length-drop, drop_of_length-le, take-append-drop, drop-drop, drop_at, take_at}
-use Rattle.merge_sides.proofs.Names.{length-take-le, arith, eq-eqb, part, and_both, start, end, around_alone, around_then, Stands, Tells, Climbs}
-use Rattle.merge_sides.proofs.Names.{SideIs, length-records}
+use Rattle.merge_sides.proofs.Names.{length-take-le, arith, eq-eqb, part, and_both, start, end, around_alone, around_then, Stands, Tells}
+use Rattle.merge_sides.proofs.Names.{length-records}
+use Rattle.merge_sides.specs.InnerSteps.{framed, term_start, term_body, end_of_body}
+use Rattle.base.proofs.Choice.{and_left, and_right}
+use borrow.Author.Tests.{le-leb, leb-true}
+use lib.Dec.{leb}
 use Rattle.base.specs.Bytes.{starts_with}
 use Rattle.base.proofs.Prefix.{starts-split}
 use Rattle.records.specs.Stored.{little_bytes, stored, around}
@@ -23,16 +27,7 @@ pub tells_no : {P : Type 0} (r : Bool) → Tells P r → r ≡ false → P → �
 tells_no true t e = absurd (false≢true (sym e))
 tells_no false t e = t
 
--- The bytes that are tested: the start of a term; its end and the start of a body; that one's end; the start and the end of a list
-
-abbrev pub term_start : List ℕ
-term_start = 0 ∷ 0 ∷ 0 ∷ 0 ∷ 4 ∷ 1 ∷ []
-
-abbrev pub term_body : List ℕ
-term_body = 0 ∷ 0 ∷ 0 ∷ 0 ∷ 4 ∷ 2 ∷ 0 ∷ 0 ∷ 0 ∷ 0 ∷ 5 ∷ 1 ∷ []
-
-abbrev pub end_of_body : List ℕ
-end_of_body = 0 ∷ 0 ∷ 0 ∷ 0 ∷ 5 ∷ 2 ∷ []
+-- The bytes of a list's start and of its end
 
 abbrev pub list_start : List ℕ
 list_start = 0 ∷ 0 ∷ 0 ∷ 0 ∷ 6 ∷ 1 ∷ []
@@ -108,14 +103,17 @@ module _ {s : List ℕ} {at stop next : ℕ} (st : Stands s at stop next) where
   pub next_low : stop + 18 ≤ next
   next_low = omega (arith, st.term-end, st.item_end, length-records st.item)
 
-  pub starts-term : starts_with term_start (drop at s) ≡ true
+  starts-term : starts_with term_start (drop at s) ≡ true
   starts-term = starts_at term_start _ whole
 
-  pub starts-body : starts_with term_body (drop stop s) ≡ true
+  starts-body : starts_with term_body (drop stop s) ≡ true
   starts-body = starts_at term_body _ at_stop
 
-  pub ends_body : starts_with end_of_body (drop (next - 6) s) ≡ true
+  ends_body : starts_with end_of_body (drop (next - 6) s) ≡ true
   ends_body = starts_at end_of_body (drop next s) (ap (λ (k : ℕ). drop k s) body_end ∙ passed s (stop + 12) (length B) B _ in_body refl)
+
+  pub frame : framed s at stop next ≡ true
+  frame = and_both (le-leb _ _ stop-low) (and_both (le-leb _ _ next_low) (and_both starts-term (and_both starts-body ends_body)))
 
   pub term-filled : Filled inlines (part s (at + 6) stop)
   term-filled =
@@ -130,9 +128,40 @@ module _ {s : List ℕ} {at stop next : ℕ} (st : Stands s at stop next) where
       (sym (ap (λ (k : ℕ). take k (drop (stop + 12) s)) n ∙ ap (take (length B)) in_body ∙ take_at B _ (length B) refl)) st.proper.body
 
 -- and what it tests suffices
-module _ (s : List ℕ) (at stop next : ℕ) (h : at + 6 ≤ stop) (k : stop + 18 ≤ next) (l : next ≤ length s)
-    (a : starts_with term_start (drop at s) ≡ true) (b : starts_with term_body (drop stop s) ≡ true) (d : starts_with end_of_body (drop (next - 6) s) ≡ true)
-    (f : Filled inlines (part s (at + 6) stop)) where
+
+module _ (s : List ℕ) (at stop next : ℕ) (e : framed s at stop next ≡ true) where
+  e₂ : (leb (stop + 18) next && (starts_with term_start (drop at s)
+      && (starts_with term_body (drop stop s) && starts_with end_of_body (drop (next - 6) s)))) ≡ true
+  e₂ = and_right (leb (at + 6) stop) _ e
+
+  e₃ : (starts_with term_start (drop at s) && (starts_with term_body (drop stop s) && starts_with end_of_body (drop (next - 6) s))) ≡ true
+  e₃ = and_right (leb (stop + 18) next) _ e₂
+
+  e₄ : (starts_with term_body (drop stop s) && starts_with end_of_body (drop (next - 6) s)) ≡ true
+  e₄ = and_right (starts_with term_start (drop at s)) _ e₃
+
+  pub frame_low : at + 6 ≤ stop
+  frame_low = leb-true (at + 6) stop (and_left (leb (at + 6) stop) _ e)
+
+  pub frame_high : stop + 18 ≤ next
+  frame_high = leb-true (stop + 18) next (and_left (leb (stop + 18) next) _ e₂)
+
+  a : starts_with term_start (drop at s) ≡ true
+  a = and_left (starts_with term_start (drop at s)) _ e₃
+
+  b : starts_with term_body (drop stop s) ≡ true
+  b = and_left (starts_with term_body (drop stop s)) _ e₄
+
+  d : starts_with end_of_body (drop (next - 6) s) ≡ true
+  d = and_right (starts_with term_body (drop stop s)) _ e₄
+
+module _ (s : List ℕ) (at stop next : ℕ) (e : framed s at stop next ≡ true) (l : next ≤ length s) (f : Filled inlines (part s (at + 6) stop)) where
+  h : at + 6 ≤ stop
+  h = frame_low s at stop next e
+
+  k : stop + 18 ≤ next
+  k = frame_high s at stop next e
+
   abbrev here : Item
   here = record { term = part s (at + 6) stop; body = part s (stop + 12) (next - 6) }
 
@@ -141,12 +170,12 @@ module _ (s : List ℕ) (at stop next : ℕ) (h : at + 6 ≤ stop) (k : stop + 1
 
   bytes : drop at s ≡ records here ++ drop next s
   bytes =
-      let n : next - 6 + 6 ≡ next = omega arith in
-      has_at s term_start at 6 refl a
+      let n : next - 6 + 6 ≡ next = omega (arith, k) in
+      has_at s term_start at 6 refl (a s at stop next e)
       ∙ ap (λ (x : List ℕ). term_start ++ x) (cut s (at + 6) stop h
-      ∙ ap (λ (x : List ℕ). here.term ++ x) (has_at s term_body stop 12 refl b
-      ∙ ap (λ (x : List ℕ). term_body ++ x) (cut s (stop + 12) (next - 6) (omega arith)
-      ∙ ap (λ (x : List ℕ). here.body ++ x) (has_at s end_of_body (next - 6) 6 refl d ∙ ap (λ (m : ℕ). end_of_body ++ drop m s) n))))
+      ∙ ap (λ (x : List ℕ). here.term ++ x) (has_at s term_body stop 12 refl (b s at stop next e)
+      ∙ ap (λ (x : List ℕ). term_body ++ x) (cut s (stop + 12) (next - 6) (omega (arith, k))
+      ∙ ap (λ (x : List ℕ). here.body ++ x) (has_at s end_of_body (next - 6) 6 refl (d s at stop next e) ∙ ap (λ (m : ℕ). end_of_body ++ drop m s) n))))
       ∙ sym (flat here (drop next s))
 
   pub stands_there : Filled parts (part s (stop + 12) (next - 6)) → Stands s at stop next
@@ -154,13 +183,26 @@ module _ (s : List ℕ) (at stop next : ℕ) (h : at + 6 ≤ stop) (k : stop + 1
     item = here;
     proper = record { term = f; body = g };
     bytes = bytes;
-    term-end = omega (arith, length_part (at + 6) stop h (omega arith));
-    item_end = omega (arith, length-records here, length_part (at + 6) stop h (omega arith), length_part (stop + 12) (next - 6) (omega arith) (omega arith));
+    term-end = omega (arith, h, length_part (at + 6) stop h (omega (arith, k)));
+    item_end = omega (
+      arith,
+      h,
+      k,
+      length-records here,
+      length_part (at + 6) stop h (omega (arith, k)),
+      length_part (stop + 12) (next - 6) (omega (arith, k)) (omega arith),
+    );
   }
 
   pub stands-by-body : (r : Bool) → Tells (Filled parts (part s (stop + 12) (next - 6))) r → Tells (Stands s at stop next) r
   stands-by-body true g = stands_there g
   stands-by-body false g = λ st. g (body-filled st)
+
+-- where the term is not such, no item stands there
+pub stands-by-term : (s : List ℕ) (at stop next : ℕ) (r : Bool) → r ≡ false → Tells (Filled inlines (part s (at + 6) stop)) r
+    → Tells (Stands s at stop next) r
+stands-by-term s at stop next true e t = absurd (false≢true (sym e))
+stands-by-term s at stop next false e t = λ st. t (term-filled st)
 
 -- The list: it is one exactly if from a place on items and the end record follow
 
@@ -251,10 +293,3 @@ module _ {s : List ℕ} {at : ℕ} (g : Listing s at) where
     pub listing_end : (r : Bool) → r ≡ starts_with list_end (drop (length s - 6) s) → Tells (IsList s) r
     listing_end true e = end-yes (sym e)
     listing_end false e = end-not (sym e)
-
--- what a document is as a side
-pub side_no : (s : List ℕ) → (IsList s → ⊥) → SideIs s (record { list = false; ordered = false })
-side_no s n = record { list = n; ordered = λ is l. absurd (n (is, l)) }
-
-pub side_list : (s : List ℕ) (b : Bool) → IsList s → Climbs s b → SideIs s (record { list = true; ordered = b })
-side_list s b l c = record { list = l; ordered = c.says }

@@ -5,7 +5,7 @@ pub use Rattle.base.specs.Bytes.{part}
 pub use Rattle.base.specs.Result.{◌>>=◌, gives, refused}
 pub use Rattle.merge_items.proofs.Items.{Holding, holding, length-records}
 pub use Rattle.merge_rules.proofs.Whole.{around_alone, around_then}
-pub use Rattle.merge_sides.specs.InnerSteps.{Climbs, SideIs, Stands, Tells, plain}
+pub use Rattle.merge_sides.specs.InnerSteps.{Ascends, Climbs, Stands, Tells, plain}
 unfoldable pub use Rattle.merge_sides.specs.InnerSteps.{all_plain}
 pub use Rattle.records.specs.Records.{tokens_from}
 unfoldable pub use Rattle.records.specs.Stored.{end, start}

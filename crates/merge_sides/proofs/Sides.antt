@@ -8,6 +8,8 @@ use Rattle.room.specs.Room.{extended, seen}
 use Rattle.room.proofs.Laws.{extended_in}
 use Rattle.merge_rules.specs.Merge.{compared, is_less, Item, key, records, all_records, list_of, Proper, Each, Lists, ascending}
 use Rattle.std.specs.declared.cmp.Ordering.{Ordering}
+use Rattle.std.specs.declared.cmp.Ordering.TheVariants.{Less, Equal, Greater}
+use Rattle.std.specs.Ordering.{is_lt}
 use Rattle.merge_rules.proofs.Merged.{head_of, tail_of}
 use Rattle.merge_rules.proofs.Ends.{one_list}
 use Rattle.merge_items.specs.declared.Entry.{Entry}
@@ -152,9 +154,6 @@ module _ {s text : List ℕ} {at next len : ℕ} (c : Climbing s text at next le
     pub climbing_second : Taken s next f.next (climbing_taken h).others
     climbing_second = taken_keyed g (climbing_taken h).after k
 
-    pub first-inside : len ≤ length text
-    first-inside = keyed_inside c.keyed (climbing_taken h)
-
     pub second_inside : f.len ≤ length other
     second_inside = keyed_inside g climbing_second
 
@@ -180,3 +179,9 @@ module _ {s text : List ℕ} {at next len : ℕ} (c : Climbing s text at next le
         keyed = keyed_copied s next other text new f n g l w;
         same = sym (step ∙ rw y);
       }
+
+-- std's test of an order, and the rules'
+pub less-lt : (o : Ordering) → is_less o ≡ is_lt o
+less-lt Less = refl
+less-lt Equal = refl
+less-lt Greater = refl

@@ -4,59 +4,45 @@
 
 ghost use Rattle.std.specs.Prelude.{◌≡◌, ◌≤◌, length};
 ghost use Rattle.records.specs.Records.{tokens_from};
-ghost use Rattle.shape.specs.Shape.{parts, inlines, inline, kinds};
-ghost use Rattle.merge_rules.specs.Merge.{is_less, Filled, IsList};
-ghost use Rattle.merge_sides.specs.InnerSteps.{Stands, Asked, Climbs, Tells, SideIs, plain, all_plain};
+ghost use Rattle.shape.specs.Shape.{parts, inlines, kinds};
+ghost use Rattle.merge_rules.specs.Merge.{Filled, IsList};
+ghost use Rattle.merge_sides.specs.InnerSteps.{framed, Stands, Asked, Climbs, Tells, SideIs, plain, all_plain};
 ghost use Rattle.document.specs.Document.{max_bytes};
 
 use document::MAX_BYTES;
-use records::{Block, Kind};
-use std::cmp::Ordering;
+use merge_items::Entry;
+use records::{Kind, Records};
 
-// A document as a side: whether it is a list of items, whatever their order, and whether their terms ascend.
-#[derive(Clone, Copy)]
-pub struct Side {
-    pub list: bool,
-    pub ordered: bool,
+// A document as a side: no list of items, a list whose terms do not ascend, or one whose terms do.
+#[derive(Clone, Copy, Debug, PartialEq, Eq)]
+pub enum Side {
+    NotAList,
+    NotAscending,
+    Ascending,
 }
 
-fn is_less(o: Ordering) -> bool
-    ensures { result ≡ is_less o }
-{
-    matches!(o, Ordering::Less)
-}
-
-// Whether the terms of a list ascend. `key` has the term of the item at `at`, `other` that of the next one.
+// Whether the terms of a list ascend. (A loop by places, as in the merge: where the next item begins is known when one was read.) `key` has the term of the item at `at`, `other` that of the next one.
 fn in_order(document: &[u8], key: &mut [u8], other: &mut [u8]) -> bool
     requires { Asked document.now × (length key.old ≡ max_bytes) × (length other.old ≡ max_bytes) }
     ensures { Climbs document.now result }
 {
     let last = document.len() - 6;
     let mut at: usize = 6;
-    let e = merge_items::read_item(document, at, key);
-    let mut next = e.next;
-    let mut len = e.len;
+    let mut e = merge_items::read_item(document, at, key);
     while at < last {
-        if last <= next {
+        if last <= e.next {
             return true;
         }
-        let f = merge_items::read_item(document, next, other);
-        let second = f.len;
-        let order = merge_items::compare(&key[..len], &other[..second]);
-        if !is_less(order) {
+        let f = merge_items::read_item(document, e.next, other);
+        let order = merge_items::compare(&key[..e.len], &other[..f.len]);
+        if !order.is_lt() {
             return false;
         }
-        len = room::put_all(key, 0, &other[..second]);
-        at = next;
-        next = f.next;
+        let len = room::put_all(key, 0, &other[..f.len]);
+        at = e.next;
+        e = Entry { next: f.next, len };
     }
     true
-}
-
-fn is_inline(b: Block) -> bool
-    ensures { result ≡ inline b }
-{
-    matches!(b, Block::TermRef | Block::Mono | Block::InlineBlock)
 }
 
 // Whether a record may stand in a term.
@@ -65,7 +51,7 @@ fn is_plain(kind: Kind) -> bool
 {
     match kind {
         Kind::Text(_) => true,
-        Kind::Start(b) | Kind::End(b) => is_inline(b),
+        Kind::Start(b) | Kind::End(b) => shape::is_inline(b),
         Kind::Unknown => false,
     }
 }
@@ -73,16 +59,7 @@ fn is_plain(kind: Kind) -> bool
 fn all_plain(content: &[u8]) -> bool
     ensures { result ≡ all_plain (kinds (tokens_from content.now 0)) }
 {
-    let mut at: usize = 0;
-    while at < content.len() {
-        let h = records::record_at(content, at);
-        let kind = h.kind;
-        if !is_plain(kind) {
-            return false;
-        }
-        at = h.next;
-    }
-    true
+    Records::of(content).all(|r| is_plain(r.kind))
 }
 
 // Whether some bytes are what a body holds.
@@ -107,33 +84,31 @@ fn fills_term(content: &[u8]) -> bool
     fills_body(content)
 }
 
+// Whether the records around what an item holds stand there: its term's start at `at`, its term's end and its body's start at `stop`, its body's end
+// before `next`.
+fn is_framed(document: &[u8], at: usize, stop: usize, next: usize) -> bool
+    requires { (at ≤ length document.now) × (stop ≤ length document.now) }
+    ensures { result ≡ framed document.now at stop next }
+{
+    at + 6 <= stop
+        && stop + 18 <= next
+        && base::starts_with(document, at, b"\0\0\0\0\x04\x01")
+        && base::starts_with(document, stop, b"\0\0\0\0\x04\x02\0\0\0\0\x05\x01")
+        && base::starts_with(document, next - 6, b"\0\0\0\0\x05\x02")
+}
+
 // Whether an item stands at a place, with its term's end record at `stop` and its own end at `next`.
 fn stands(document: &[u8], at: usize, stop: usize, next: usize) -> bool
     requires { (length document.now ≤ max_bytes) × (at ≤ length document.now) × (stop ≤ length document.now) × (next ≤ length document.now) }
     ensures { Tells (Stands document.now at stop next) result }
 {
-    if stop < at + 6 {
+    if !is_framed(document, at, stop, next) {
         return false;
     }
-    if next < stop + 18 {
-        return false;
-    }
-    if !base::starts_with(document, at, b"\0\0\0\0\x04\x01") {
-        return false;
-    }
-    if !base::starts_with(document, stop, b"\0\0\0\0\x04\x02\0\0\0\0\x05\x01") {
-        return false;
-    }
-    if !base::starts_with(document, next - 6, b"\0\0\0\0\x05\x02") {
-        return false;
-    }
-    if !fills_term(&document[at + 6..stop]) {
-        return false;
-    }
-    fills_body(&document[stop + 12..next - 6])
+    fills_term(&document[at + 6..stop]) && fills_body(&document[stop + 12..next - 6])
 }
 
-// Whether a document is one list of items, whatever their order.
+// Whether a document is one list of items, whatever their order. (By places: the next item is known when one was found whole.)
 fn is_list(document: &[u8]) -> bool
     requires { length document.now ≤ max_bytes }
     ensures { Tells (IsList document.now) result }
@@ -164,22 +139,16 @@ pub fn side_of(document: &[u8]) -> Side
     ensures { length document.now ≤ max_bytes → SideIs document.now result }
 {
     if MAX_BYTES < document.len() {
-        return Side {
-            list: false,
-            ordered: false,
-        };
+        return Side::NotAList;
     }
     if !is_list(document) {
-        return Side {
-            list: false,
-            ordered: false,
-        };
+        return Side::NotAList;
     }
+    // two arrays as large as a document, since there is no heap
     let mut key: [u8; MAX_BYTES] = [0; MAX_BYTES];
     let mut other: [u8; MAX_BYTES] = [0; MAX_BYTES];
-    let ordered = in_order(document, &mut key, &mut other);
-    Side {
-        list: true,
-        ordered,
+    if !in_order(document, &mut key, &mut other) {
+        return Side::NotAscending;
     }
+    Side::Ascending
 }

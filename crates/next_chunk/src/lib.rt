@@ -2,14 +2,13 @@
 
 #![tactic(auto)]
 
-ghost use Rattle.std.specs.Prelude.{◌≡◌, length};
-ghost use Rattle.splitter.specs.Answers.{PieceWithin};
+ghost use Rattle.std.specs.Prelude.{◌≡◌};
 ghost use Rattle.next_chunk.specs.NextChunk.{code_of, ticks_of, space_number, handed, next_chunk};
 
 use splitter::{Code, Cursor, Piece};
 
-// What a chunk is (0 none, 1 a part of the body, 2 a paragraph, 3 a line break, 4 a line end's space), the cursor after it, and where it
-// begins, its length and its width.
+// What a chunk is (0 none, 1 a part of the body, 2 a paragraph, 3 a line break, 4 a line end's space: numbers, since C gets them), the cursor after it,
+// and where it begins, its length and its width.
 #[derive(Clone, Copy)]
 pub struct Next {
     pub number: u32,
@@ -54,7 +53,6 @@ fn space_number(body: &[u8], at: usize) -> u32
 
 // A piece in numbers, with the cursor after it.
 fn hand(body: &[u8], piece: Piece, after: Cursor) -> Next
-    requires { PieceWithin (length body.now) piece }
     ensures { result ≡ handed body.now piece after }
 {
     let next = Next {
@@ -69,7 +67,7 @@ fn hand(body: &[u8], piece: Piece, after: Cursor) -> Next
         Piece::Raw(start, stop, width) => Next {
             number: 1,
             start,
-            length: stop - start,
+            length: stop.saturating_sub(start),
             width,
             ..next
         },

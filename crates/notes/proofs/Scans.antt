@@ -1,44 +1,43 @@
 -- Lines and texts, as loops over the bytes find them. Assumes nothing.
-use Rattle.notes.proofs.Names.{ℕ, ◌+◌, ◌≤◌, ◌<◌, ◌≡◌, sym, ap, ◌∙◌, Bool, true, false, not, ◌||◌, List, [], ◌∷◌, ◌++◌, append_assoc, append-nil}
-use Rattle.notes.proofs.Names.{length, drop, get_or, drop_of_length-le, drop-cons, arith, ne_eqb, part, starts_with, header_mark, item_mark, marked}
+use Rattle.notes.proofs.Names.{ℕ, ◌+◌, ◌≤◌, ◌<◌, ◌≡◌, refl, sym, ap, ◌∙◌, Bool, true, false, not, ◌||◌, ◌&&◌, List, [], ◌∷◌, ◌++◌, append_assoc, append-nil}
+use Rattle.notes.proofs.Names.{length, drop, get_or, drop_of_length-le, drop-cons, arith, ne_eqb, part}
 use Rattle.notes.proofs.Names.{blank_line, ordinary, text_left, Ends}
 use native.Mathlib.Numerals.{add-one}
+use lib.Dec.{eqb}
+use borrow.Author.Tests.{eqb-true}
+use mathlib.Core.Bool.{cond}
+use Rattle.std.specs.Prelude.{Option, Some, None, MatchOption}
+use Rattle.std.specs.List.{find}
+use Rattle.std.specs.Option.{option_map}
+use Rattle.std.specs.Borrow.{Bor}
 use Rattle.base.proofs.Parts.{part_none}
 use Rattle.notes_rules.proofs.Lines.{left-stop, left-feed, left-go}
 use Rattle.notes_text.proofs.Ticks.{part-more}
 
 -- Lines
 
-module _ (s : List ℕ) (i : ℕ) where
-  pub blank-end : length s ≤ i → blank_line (drop i s) ≡ true
-  unfolding blank_line
-  blank-end h = rw (drop_of_length-le s h)
+-- the first byte that is no space says whether it is blank; so is one without such a byte
+abbrev pub other : ℕ → Bool
+other b = not (eqb b 0x20)
 
-  module _ (h : i < length s) where
-    pub blank-feed : get_or s i 0 ≡ 0x0A → blank_line (drop i s) ≡ true
-    unfolding blank_line
-    blank-feed e = rw (drop-cons s i 0 h, e)
+no_more : (t : Bool) → (t || false) ≡ t
+no_more true = refl
+no_more false = refl
 
-    pub blank_space : get_or s i 0 ≡ 0x20 → blank_line (drop i s) ≡ blank_line (drop (i + 1) s)
-    unfolding blank_line
-    blank_space e = rw (drop-cons s i 0 h, e, add-one i)
+pub blank_found : (xs : List ℕ) (r : Bool) → MatchOption (find other xs) (r ≡ true) (λ b. r ≡ eqb b 0x0A) → r ≡ blank_line xs
+unfolding blank_line
+blank_found [] r h = h
+blank_found (b ∷ xs) r h = go (blank_found xs r) (eqb b 0x20) refl h
+  where
+    go : (MatchOption (find other xs) (r ≡ true) (λ b. r ≡ eqb b 0x0A) → r ≡ blank_line xs) → (t : Bool) → eqb b 0x20 ≡ t
+        → MatchOption (cond (not t) (Some b) (find other xs)) (r ≡ true) (λ b. r ≡ eqb b 0x0A) → r ≡ (eqb b 0x0A || t && blank_line xs)
+    go f true e h = let q : b ≡ 0x20 = eqb-true b 0x20 e in rw q (f h)
+    go f false e h = h ∙ sym (no_more (eqb b 0x0A))
 
-    pub blank-other : (get_or s i 0 ≡ 0x0A → ⊥) → (get_or s i 0 ≡ 0x20 → ⊥) → blank_line (drop i s) ≡ false
-    unfolding blank_line
-    blank-other e f = rw (drop-cons s i 0 h, ne_eqb (get_or s i 0) 0x0A e, ne_eqb (get_or s i 0) 0x20 f)
-
-module _ (t : List ℕ) where
-  pub ordinary_header : starts_with header_mark t ≡ true → ordinary t ≡ false
-  unfolding ordinary marked
-  ordinary_header e = rw e
-
-  pub ordinary_item : starts_with header_mark t ≡ false → starts_with item_mark t ≡ true → ordinary t ≡ false
-  unfolding ordinary marked
-  ordinary_item e f = rw (e, f)
-
-  pub ordinary-by : starts_with header_mark t ≡ false → starts_with item_mark t ≡ false → not (blank_line t) ≡ ordinary t
-  unfolding ordinary marked
-  ordinary-by e f = rw (e, f)
+pub by_found : (o : Option (Bor ℕ)) (xs : List ℕ) (r : Bool) → option_map (λ (x : Bor ℕ). x.now) o ≡ find other xs
+    → MatchOption o (r ≡ true) (λ x. r ≡ eqb x.now 0x0A) → r ≡ blank_line xs
+by_found None xs r e h = blank_found xs r (rw (← e) h)
+by_found (Some x) xs r e h = blank_found xs r (rw (← e) h)
 
 -- What is left of a text
 

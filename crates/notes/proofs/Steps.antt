@@ -1,6 +1,6 @@
 -- One part of the notes after another, from a place on. Assumes nothing.
-use Rattle.notes.proofs.Names.{ℕ, ◌+◌, ◌-◌, ◌≤◌, ◌<◌, ◌≡◌, refl, sym, ap, ap₂, ◌∙◌, ⊎_elim, Bool, true, false, ◌&&◌, List, [], ◌++◌, append_assoc}
-use Rattle.notes.proofs.Names.{append-nil, length, take, drop, length-drop, drop_of_length-le, drop-drop, length-take-le, arith, le-leb, lt-leb}
+use Rattle.notes.proofs.Names.{ℕ, ◌+◌, ◌-◌, ◌≤◌, ◌<◌, ◌≡◌, refl, sym, ap, ap₂, ◌∙◌, ⊎_elim, Bool, true, false, ◌&&◌, List, [], ◌++◌}
+use Rattle.notes.proofs.Names.{length, take, drop, length-drop, drop_of_length-le, drop-drop, length-take-le, arith, le-leb, lt-leb}
 use Rattle.notes.proofs.Names.{le-ltb, lt-ltb, part, starts_with, seen, extended, around, lines, header_mark, item_mark, joined, text_records, parts}
 use Rattle.notes.proofs.Names.{document, fit, taken_in, blank_line, text_left, Ends}
 use lib.Dec.{leb}
@@ -15,7 +15,9 @@ use Rattle.records.specs.Stored.{head, start, end}
 use Rattle.records.specs.declared.Block.{Block}
 use Rattle.records.specs.declared.Block.TheVariants as block
 use Rattle.record_writer.proofs.Heads.{head-start, head-end}
-use Rattle.notes_text.proofs.Writes.{puts_start, puts_more, puts_all}
+use Rattle.std.specs.Borrow.{GName}
+use Rattle.room.specs.Lent.{Lent, lent_empty, with_bytes}
+use Rattle.room.proofs.Lents.{with_both, with_same}
 use Rattle.notes_rules.proofs.Lines.{unmarked_is, ordinary-is, line, next, next_mark, header_part, item_part, blank_part, other-part}
 
 -- behind a text and its line feed
@@ -84,27 +86,43 @@ module _ (s : List ℕ) (at : ℕ) where
 -- A part written
 
 -- a block around some records, its start, they and its end
-pub part-written : (room : List ℕ) (n : ℕ) (b : Block) (x : List ℕ) {i j : ℕ} → i ≡ 0x0100 + index b → j ≡ 0x0200 + index b
-    → (room₁ room₂ room₃ : List ℕ) (n₁ n₂ n₃ : ℕ) → length room₁ ≡ length room → length room₂ ≡ length room₁ → length room₃ ≡ length room₂
-    → seen room₁ n₁ ≡ (seen room n >>= extended (length room) (head 0 i))
-    → seen room₂ n₂ ≡ (seen room₁ n₁ >>= extended (length room₁) x)
-    → seen room₃ n₃ ≡ (seen room₂ n₂ >>= extended (length room₂) (head 0 j))
-    → seen room₃ n₃ ≡ (seen room n >>= extended (length room) (around b x))
+pub part-written : (old one two three : Lent) (b : Block) (x : List ℕ) (h k : List ℕ) {i j : ℕ} → i ≡ 0x0100 + index b → j ≡ 0x0200 + index b
+    → h ≡ head 0 i → k ≡ head 0 j → one ≡ with_bytes h old → two ≡ with_bytes x one → three ≡ with_bytes k two → three ≡ with_bytes (around b x) old
 unfolding around
-part-written room n b x {i} {j} q r room₁ room₂ room₃ n₁ n₂ n₃ l₁ l₂ l₃ e₁ e₂ e₃ =
-    let s : start b ≡ head 0 i = sym (head-start b q) in
-    let t : end b ≡ head 0 j = sym (head-end b r) in
-    let p = puts_start room n (start b ++ x ++ end b) in
-    let p₁ = puts_more p room₁ n₁ (head 0 i) (x ++ end b) l₁ e₁ (append_assoc (start b) x (end b) ∙ ap (λ (y : List ℕ). y ++ (x ++ end b)) s) in
-    let p₂ = puts_more p₁ room₂ n₂ x (end b) l₂ e₂ refl in
-    let p₃ = puts_more p₂ room₃ n₃ (head 0 j) [] l₃ e₃ (t ∙ sym (append-nil (head 0 j))) in
-    puts_all p₃ refl
+part-written old one two three b x h k {i} {j} q r f g e₁ e₂ e₃ =
+    with_same three old ((h ++ x) ++ k) (start b ++ x ++ end b)
+    (ap₂ (λ (s t : List ℕ). s ++ x ++ t) (f ∙ head-start b q) (g ∙ head-end b r))
+    (with_both old two three (h ++ x) k (with_both old one two h x e₁ e₂) e₃)
+
+-- What is written of the notes: the document of what is left follows.
+
+pub record Leaves (s : List ℕ) (old new : Lent) (at : ℕ) : Type 0 where
+  pub inside : at ≤ length s + 1
+  pub text : with_bytes (document_at s at) new ≡ with_bytes (document s) old
+
+module _ (s : List ℕ) (old new : Lent) (at : ℕ) (l : Leaves s old new at) where
+  -- a part, of which x is what is written
+  pub leaves_part : (next : Lent) (x : List ℕ) (e : ℕ) → e ≤ length s → next ≡ with_bytes x new → document_at s at ≡ x ++ document_at s (e + 1)
+      → Leaves s old next (e + 1)
+  leaves_part next x e h w d = record {
+    inside = omega arith;
+    text = with_both new next (with_bytes (document_at s (e + 1)) next) x (document_at s (e + 1)) w refl
+        ∙ ap (λ (y : List ℕ). with_bytes y new) (sym d) ∙ l.text;
+  }
+
+  -- lines of which nothing is written
+  pub leaves_blank : (e : ℕ) → e ≤ length s → document_at s at ≡ document_at s (e + 1) → Leaves s old new (e + 1)
+  leaves_blank e h d = record { inside = omega arith; text = ap (λ (y : List ℕ). with_bytes y new) (sym d) ∙ l.text }
+
+  pub leaves_none : with_bytes [] new ≡ new → length s ≤ at → new ≡ with_bytes (document s) old
+  leaves_none z h = sym z ∙ ap (λ (y : List ℕ). with_bytes y new) (sym (document-end s at h)) ∙ l.text
 
 -- The whole
 
-pub seen_none : (room : List ℕ) (limit : ℕ) (x : List ℕ) → (seen room 0 >>= extended limit x) ≡ extended limit x []
+-- written into a room with nothing written
+pub written_first : (v : Lent) (n : GName) (limit : ℕ) (x : List ℕ) → v ≡ lent_empty n limit → (with_bytes x v).shown ≡ extended limit x []
 unfolding ◌>>=◌
-seen_none room limit x = rw (seen_in room 0 (omega arith))
+written_first v n limit x e = ap (λ (t : Lent). (with_bytes x t).shown) e
 
 -- the answer by the length that was reached
 module _ (notes room : List ℕ) where

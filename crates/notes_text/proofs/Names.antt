@@ -1,10 +1,12 @@
 -- Names of other crates and libraries that the proofs of this crate cite, by where they are from.
-pub use Prim.Native.Nat.{◌+◌, ◌-◌, ◌<◌, ◌≤◌, suc, zero, ℕ}
+pub use Prim.Native.Nat.{◌+◌, ◌*◌, ◌-◌, ◌<◌, ◌≤◌, suc, zero, ℕ}
 pub use Rattle.base.proofs.Choice.{if_false, if_true, le_or_lt}
 pub use Rattle.base.specs.Bytes.{part}
 pub use Rattle.notes_rules.proofs.Lines.{either, or_false}
 unfoldable pub use Rattle.notes_rules.specs.Notes.{styled, ticked}
-pub use Rattle.notes_text.specs.InnerParts.{Last, Runs, Tick, kind_number}
+pub use Rattle.notes_rules.specs.Notes.{style_of}
+pub use Rattle.notes_text.specs.InnerParts.{Runs, Tick, run_record}
+pub use Rattle.records.specs.Records.{number}
 unfoldable pub use Rattle.notes_text.specs.InnerParts.{behind, lead}
 unfoldable pub use Rattle.records.specs.Stored.{head, stored, text}
 pub use Rattle.room.specs.Room.{extended, seen}

@@ -1,8 +1,11 @@
 -- Bytes of one style, as they are found and written. Assumes nothing.
 use Rattle.notes_text.proofs.Names.{ℕ, suc, ◌+◌, ◌-◌, ◌≤◌, ◌<◌, ◌≡◌, refl, sym, ap, ap₂, ◌∙◌, subst, ⊎_elim, Bool, true, false, not, ◌&&◌, ◌||◌}
-use Rattle.notes_text.proofs.Names.{false≢true, beq, List, [], ◌∷◌, ◌++◌, append_assoc, eqb, length, take, drop, get_or, length-append}
+use Rattle.notes_text.proofs.Names.{false≢true, beq, List, [], ◌∷◌, ◌++◌, eqb, length, take, drop, get_or, length-append}
 use Rattle.notes_text.proofs.Names.{length-drop, drop_of_length-le, take-append-drop, drop-cons, drop-drop, length-take-le, add-one, arith, part}
-use Rattle.notes_text.proofs.Names.{if_true, if_false, stored, text, head, ticked, styled, Tick, lead, behind, Runs, kind_number, either, or_false}
+use Rattle.notes_text.proofs.Names.{if_true, if_false, stored, text, head, number, style_of, ticked, styled, Tick, lead, behind, Runs, run_record, either}
+use Rattle.notes_text.proofs.Names.{or_false}
+use Rattle.room.specs.Lent.{Lent, with_bytes}
+use Rattle.room.proofs.Lents.{with_both}
 use Rattle.notes_rules.specs.Notes.{Styled, styled_as, Stretch, stretch, grown, stretches, records}
 use Rattle.notes_text.specs.declared.Run.{Run}
 use Rattle.notes_rules.proofs.Texts.{styled-pair, styled_byte}
@@ -126,28 +129,32 @@ module _ (s : List ℕ) (i : ℕ) (w l : Bool) (h : length s ≤ i) where
   unfolding behind styled
   behind-end = rw (drop_of_length-le s h)
 
--- A run that is looked for
+-- A run that is written
 
-pub record Ran (s : List ℕ) (from : ℕ) (l : Bool) (size i : ℕ) (w : Bool) : Type 0 where
-  pub count : size + length (lead l (styled w (drop i s))) ≡ length (lead l (styled l (drop from s)))
+-- From `from` on up to i so many bytes of style l were written, after which those that lead at i follow.
+pub record Ran (s : List ℕ) (from : ℕ) (l : Bool) (old new : Lent) (i : ℕ) (w : Bool) : Type 0 where
+  pub text : with_bytes (lead l (styled w (drop i s))) new ≡ with_bytes (lead l (styled l (drop from s))) old
   pub rest : behind l (styled w (drop i s)) ≡ behind l (styled l (drop from s))
-  pub moved : from + size ≤ i
+  pub moved : from + length (lead l (styled l (drop from s))) ≤ i + length (lead l (styled w (drop i s)))
   pub inside : i ≤ length s
 
-pub ran_start : (s : List ℕ) (from : ℕ) (l : Bool) → from ≤ length s → Ran s from l 0 from l
-ran_start s from l h = record { count = omega arith; rest = refl; moved = omega arith; inside = h }
+pub ran_start : (s : List ℕ) (from : ℕ) (l : Bool) (t : Lent) → from ≤ length s → Ran s from l t t from l
+ran_start s from l t h = record { text = refl; rest = refl; moved = omega arith; inside = h }
 
-module _ (s : List ℕ) (from : ℕ) (l : Bool) (size i : ℕ) (w : Bool) (r : Ran s from l size i w) where
-  pub ran_pair : i < length s → Pair s i w ≡ true → Ran s from l size (i + 1) (not w)
-  ran_pair h e = record {
-    count = ap (λ (ms : List Styled). size + length (lead l ms)) (sym (pair-on s i w h e)) ∙ r.count;
-    rest = ap (behind l) (sym (pair-on s i w h e)) ∙ r.rest;
-    moved = omega (arith, r.moved);
-    inside = omega arith;
-  }
+module _ {s : List ℕ} {from : ℕ} {l : Bool} {old new : Lent} {i : ℕ} {w : Bool} (r : Ran s from l old new i w) where
+  pub ran_pair : i < length s → Pair s i w ≡ true → Ran s from l old new (i + 1) (not w)
+  ran_pair h e =
+      let p = pair-on s i w h e in
+      record {
+        text = ap (λ (ms : List Styled). with_bytes (lead l ms) new) (sym p) ∙ r.text;
+        rest = ap (behind l) (sym p) ∙ r.rest;
+        moved = omega (arith, r.moved, ap (λ (ms : List Styled). length (lead l ms)) p);
+        inside = omega arith;
+      }
 
-  pub ran_span : i < length s → Pair s i w ≡ false → w ≡ l → (e : ℕ) → Tick s (i + 1) e → Ran s from l (size + (e - i)) e w
-  ran_span h p q e t =
+  pub ran_span : i < length s → Pair s i w ≡ false → w ≡ l → (e : ℕ) → Tick s (i + 1) e → (next : Lent) → next ≡ with_bytes (part s i e) new
+      → Ran s from l old next e w
+  ran_span h p q e t next v =
       let m : length (part s i e) ≡ e - i = length-take-le (e - i) (drop i s) (omega (arith, length-drop i s, t.inside)) in
       let x = lead l (styled w (drop e s)) in
       let f : lead l (styled w (drop i s)) ≡ part s i e ++ x =
@@ -156,23 +163,26 @@ module _ (s : List ℕ) (from : ℕ) (l : Bool) (size i : ℕ) (w : Bool) (r : R
       subst (λ (k : Bool). behind k (styled w (drop i s)) ≡ behind k (styled w (drop e s))) q (behind-on s i w h p e t) in
       let n : length (lead l (styled w (drop i s))) ≡ (e - i) + length x = ap length f ∙ length-append (part s i e) x ∙ ap (λ (k : ℕ). k + length x) m in
       record {
-        count = omega (arith, r.count, n);
+        text = with_both new next (with_bytes x next) (part s i e) x v refl ∙ ap (λ (y : List ℕ). with_bytes y new) (sym f) ∙ r.text;
         rest = sym g ∙ r.rest;
-        moved = omega (arith, r.moved, t.order);
+        moved = omega (arith, r.moved, n, t.order);
         inside = t.inside;
       }
 
-  ran_done : lead l (styled w (drop i s)) ≡ [] → behind l (styled w (drop i s)) ≡ styled w (drop i s)
-      → Runs s from l (record { size = size; at = i; within = w })
-  ran_done e f =
-      let n : length (lead l (styled w (drop i s))) ≡ 0 = ap length e in
-      record { size = omega (arith, r.count, n); rest = sym f ∙ r.rest; moved = r.moved; inside = r.inside }
+  ran_done : with_bytes [] new ≡ new → lead l (styled w (drop i s)) ≡ [] → behind l (styled w (drop i s)) ≡ styled w (drop i s)
+      → (new ≡ with_bytes (lead l (styled l (drop from s))) old) × Runs s from l (record { at = i; within = w })
+  ran_done z e f = (
+    sym z ∙ ap (λ (y : List ℕ). with_bytes y new) (sym e) ∙ r.text,
+    record { rest = sym f ∙ r.rest; moved = omega (arith, r.moved, ap length e); inside = r.inside },
+  )
 
-  pub ran_other : i < length s → Pair s i w ≡ false → (w ≡ l → ⊥) → Runs s from l (record { size = size; at = i; within = w })
-  ran_other h p n = ran_done (lead-other s i w h p l n) (behind-other s i w h p l n)
+  pub ran_other : with_bytes [] new ≡ new → i < length s → Pair s i w ≡ false → (w ≡ l → ⊥)
+      → (new ≡ with_bytes (lead l (styled l (drop from s))) old) × Runs s from l (record { at = i; within = w })
+  ran_other z h p n = ran_done z (lead-other s i w h p l n) (behind-other s i w h p l n)
 
-  pub ran_end : length s ≤ i → Runs s from l (record { size = size; at = i; within = w })
-  ran_end h = ran_done (lead-end s i w l h) (behind-end s i w l h)
+  pub ran_end : with_bytes [] new ≡ new → length s ≤ i
+      → (new ≡ with_bytes (lead l (styled l (drop from s))) old) × Runs s from l (record { at = i; within = w })
+  ran_end z h = ran_done z (lead-end s i w l h) (behind-end s i w l h)
 
 -- The records of a text
 
@@ -213,22 +223,42 @@ records-end s i w h = rw (drop_of_length-le s h)
 
 module _ (s : List ℕ) (i : ℕ) (w : Bool) (h : i < length s) (p : Pair s i w ≡ false) (r : Run) (q : Runs s i w r) where
   -- a record, and those behind it
-  pub records_run : (k : ℕ) → k ≡ kind_number w → records_at s i w ≡ head r.size k ++ (lead w (styled w (drop i s)) ++ records_at s r.at r.within)
+  pub records_run : records_at s i w ≡ run_record w (lead w (styled w (drop i s))) ++ records_at s r.at r.within
   unfolding records text stored head
-  records_run k e =
+  records_run =
       let b = get_or s i 0 in
       let ms = styled w (drop (i + 1) s) in
       let x = lead w (styled w (drop i s)) in
+      let k = number (style_of w) in
       let o = byte_on s i w h p in
       let f : stretches (styled w (drop i s)) ≡ stretch w x ∷ stretches (behind w (styled w (drop i s))) =
       ap stretches o ∙ stretch-first (styled_as w b) ms ∙ sym (ap (λ (n : List Styled). stretch w (lead w n) ∷ stretches (behind w n)) o) in
-      ap records f
-      ∙ ap₂ (λ (n j : ℕ). head n j ++ x ++ records (stretches (behind w (styled w (drop i s))))) (sym q.size) (sym e)
-      ∙ append_assoc (head r.size k) x (records (stretches (behind w (styled w (drop i s)))))
-      ∙ ap (λ (n : List Styled). head r.size k ++ (x ++ records (stretches n))) (sym q.rest)
+      ap records f ∙ ap (λ (n : List Styled). (head (length x) k ++ x) ++ records (stretches n)) (sym q.rest)
 
   pub run_moves : (i < r.at) × (r.at ≤ length s)
   run_moves =
       let n : length (lead w (styled w (drop i s))) ≡ suc (length (lead w (styled w (drop (i + 1) s)))) =
       ap length (ap (lead w) (byte_on s i w h p) ∙ lead-same w (get_or s i 0) (styled w (drop (i + 1) s))) in
-      (omega (arith, q.size, q.moved, n), q.inside)
+      (omega (arith, q.moved, n), q.inside)
+
+-- The records of a text that is written: those of what is left follow.
+
+pub record Leaves (s : List ℕ) (old new : Lent) (i : ℕ) (w : Bool) : Type 0 where
+  pub inside : i ≤ length s
+  pub text : with_bytes (records_at s i w) new ≡ with_bytes (records_at s 0 false) old
+
+module _ {s : List ℕ} {old new : Lent} {i : ℕ} {w : Bool} (l : Leaves s old new i w) where
+  pub leaves_pair : i < length s → Pair s i w ≡ true → Leaves s old new (i + 1) (not w)
+  leaves_pair h e = record { inside = omega arith; text = ap (λ (y : List ℕ). with_bytes y new) (sym (records-pair s i w h e)) ∙ l.text }
+
+  pub leaves_run : i < length s → Pair s i w ≡ false → (r : Run) → Runs s i w r → (next : Lent)
+      → next ≡ with_bytes (run_record w (lead w (styled w (drop i s)))) new
+      → Leaves s old next r.at r.within
+  leaves_run h p r q next e = record {
+    inside = q.inside;
+    text = with_both new next (with_bytes (records_at s r.at r.within) next) _ _ e refl
+        ∙ ap (λ (y : List ℕ). with_bytes y new) (sym (records_run s i w h p r q)) ∙ l.text;
+  }
+
+  pub leaves_none : with_bytes [] new ≡ new → length s ≤ i → new ≡ with_bytes (records_at s 0 false) old
+  leaves_none z h = sym z ∙ ap (λ (y : List ℕ). with_bytes y new) (sym (records-end s i w h)) ∙ l.text

@@ -1,10 +1,14 @@
--- Backticks, as loops over the bytes find them. Assumes nothing.
-use Rattle.notes_text.proofs.Names.{ℕ, zero, suc, ◌+◌, ◌-◌, ◌≤◌, ◌<◌, ◌≡◌, refl, sym, ap, ap₂, ◌∙◌, ⊎_elim, Bool, true, false, ◌&&◌, ◌||◌, false≢true}
-use Rattle.notes_text.proofs.Names.{List, [], ◌∷◌, ◌++◌, eqb, length, take, drop, get_or, length-drop, drop_of_length-le, take-append-drop, drop-cons}
-use Rattle.notes_text.proofs.Names.{drop-drop, add-one, arith, ne_eqb, lt-ltb, le-ltb, part, le_or_lt, ticked, Last, Tick, either, or_false}
+-- Backticks, as they are looked for. Assumes nothing.
+use Rattle.notes_text.proofs.Names.{ℕ, zero, suc, ◌+◌, ◌*◌, ◌-◌, ◌≤◌, ◌<◌, ◌≡◌, refl, sym, ap, ap₂, ◌∙◌, ⊎_elim, Bool, true, false, ◌||◌, not}
+use Rattle.notes_text.proofs.Names.{List, [], ◌∷◌, ◌++◌, eqb, length, take, drop, get_or, length-drop, take-append-drop}
+use Rattle.notes_text.proofs.Names.{drop-drop, arith, lt-ltb, le-ltb, part, le_or_lt, ticked, Tick}
 use lib.Dec.{ltb}
-use lib.Seq.{take-suc, get_or-drop, take-add}
-use Rattle.base.proofs.Parts.{part_none}
+use lib.Seq.{take-suc, get_or-drop, take-add, take_all}
+use Prim.Native.Nat.compare
+use mathlib.Core.Bool.{cond}
+use Rattle.std.specs.List.{list_any, position_or_len}
+use Rattle.std.specs.Simd.{first_chunks}
+use Rattle.buffer.proofs.Positions.{position-short}
 
 -- one byte more of a part
 pub part-more : (s : List ℕ) (at i : ℕ) → at ≤ i → i < length s → part s at (i + 1) ≡ part s at i ++ get_or s i 0 ∷ []
@@ -15,84 +19,57 @@ part-more s at i g h =
     ∙ take-suc (drop at s) (i - at) 0 (omega (arith, length-drop at s))
     ∙ ap (λ (b : ℕ). part s at i ++ b ∷ []) (get_or-drop at s (i - at) 0 ∙ ap (λ (k : ℕ). get_or s k 0) m)
 
-ticked-drop : (n : ℕ) (t : List ℕ) → ticked t ≡ false → ticked (drop n t) ≡ false
-unfolding ticked
-ticked-drop zero t e = e
-ticked-drop (suc n) [] e = e
-ticked-drop (suc n) (b ∷ t) e = ticked-drop n t (or_false (eqb b 0x60) (ticked t) e).1
-
-ticked-later : (s : List ℕ) (e k : ℕ) → e ≤ k → ticked (drop e s) ≡ false → ticked (drop k s) ≡ false
-ticked-later s e k h f =
-    let n : e + (k - e) ≡ k = omega arith in
-    ap ticked (ap (λ (j : ℕ). drop j s) (sym n) ∙ sym (drop-drop (k - e) e s)) ∙ ticked-drop (k - e) (drop e s) f
-
-ticked-before : (s : List ℕ) (k p : ℕ) → k ≤ p → ticked (drop p s) ≡ true → ticked (drop k s) ≡ true
-ticked-before s k p h f =
-    ⊎_elim (λ (e : ticked (drop k s) ≡ true). e) (λ (e : ticked (drop k s) ≡ false). absurd (false≢true (sym (ticked-later s k p h e) ∙ f)))
-    (either (ticked (drop k s)))
-
-ticked-here : (s : List ℕ) (i : ℕ) → i < length s → get_or s i 0 ≡ 0x60 → ticked (drop i s) ≡ true
-unfolding ticked
-ticked-here s i h e = rw (drop-cons s i 0 h, e)
-
-ticked-not : (s : List ℕ) (i : ℕ) → i < length s → (get_or s i 0 ≡ 0x60 → ⊥) → ticked (drop i s) ≡ ticked (drop (i + 1) s)
-unfolding ticked
-ticked-not s i h e = rw (drop-cons s i 0 h, ne_eqb (get_or s i 0) 0x60 e, add-one i)
-
-pub tickless_end : (s : List ℕ) → ticked (drop (length s) s) ≡ false
-unfolding ticked
-tickless_end s = let h : length s ≤ length s = omega arith in rw (drop_of_length-le s h)
-
-module _ (s : List ℕ) (e : ℕ) (h : e ≤ length s) (f : ticked (drop e s) ≡ false) where
-  pub last_none : e ≤ 0 → Last s 0
-  last_none g = record { each = λ i. ticked-later s e (i + 1) (omega arith) f ∙ sym (le-ltb i 0 (omega arith)) }
-
-  module _ (g : 0 < e) where
-    pub last_found : get_or s (e - 1) 0 ≡ 0x60 → Last s (e - 1)
-    last_found q = record {
-      each = λ i. ⊎_elim
-          (λ (l : e - 1 ≤ i). ticked-later s e (i + 1) (omega arith) f ∙ sym (le-ltb i (e - 1) l))
-          (λ (l : i < e - 1). ticked-before s (i + 1) (e - 1) (omega arith) (ticked-here s (e - 1) (omega arith) q) ∙ sym (lt-ltb i (e - 1) l))
-          (le_or_lt (e - 1) i);
-    }
-
-    pub tickless_more : (get_or s (e - 1) 0 ≡ 0x60 → ⊥) → ticked (drop (e - 1) s) ≡ false
-    tickless_more q = let n : e - 1 + 1 ≡ e = omega arith in ticked-not s (e - 1) (omega arith) q ∙ ap (λ (k : ℕ). ticked (drop k s)) n ∙ f
-
-pub ticked-append : (x y : List ℕ) → ticked (x ++ y) ≡ (ticked x || ticked y)
+ticked-append : (x y : List ℕ) → ticked (x ++ y) ≡ (ticked x || ticked y)
 unfolding ticked
 ticked-append [] y = refl
-ticked-append (b ∷ x) y = ap (λ (t : Bool). eqb b 0x60 || t) (ticked-append x y) ∙ assoc (eqb b 0x60) (ticked x) (ticked y)
+ticked-append (b ∷ x) y = go (eqb b 0x60) (ticked-append x y)
   where
-    assoc : (p q r : Bool) → (p || (q || r)) ≡ ((p || q) || r)
-    assoc true q r = refl
-    assoc false q r = refl
+    go : (t : Bool) → ticked (x ++ y) ≡ (ticked x || ticked y) → (t || ticked (x ++ y)) ≡ ((t || ticked x) || ticked y)
+    go true e = refl
+    go false e = e
 
-pub tick-start : (s : List ℕ) (at : ℕ) → at ≤ length s → Tick s at at
+-- a test of a byte
+abbrev pub is_tick : ℕ → Bool
+is_tick b = eqb b 0x60
+
+pub any-ticked : (s : List ℕ) → list_any is_tick s ≡ ticked s
 unfolding ticked
-tick-start s at h = record { order = omega arith; inside = h; none = ap ticked (part_none s at at (omega arith)) }
+any-ticked [] = refl
+any-ticked (b ∷ s) = ap (λ (t : Bool). eqb b 0x60 || t) (any-ticked s)
 
-pub tick-more : (s : List ℕ) (at i : ℕ) → Tick s at i → i < length s → (get_or s i 0 ≡ 0x60 → ⊥) → Tick s at (i + 1)
+-- up to the first one there is none
+bytes_free : (xs : List ℕ) → ticked (take (position_or_len is_tick xs) xs) ≡ false
 unfolding ticked
-tick-more s at i t h e = record {
-  order = omega (arith, t.order);
-  inside = omega arith;
-  none = ap ticked (part-more s at i t.order h) ∙ ticked-append (part s at i) (get_or s i 0 ∷ [])
-      ∙ ap₂ (λ (x y : Bool). x || (y || false)) t.none (ne_eqb (get_or s i 0) 0x60 e);
-}
+bytes_free [] = refl
+bytes_free (b ∷ xs) = go (bytes_free xs) (eqb b 0x60) refl
+  where
+    go : ticked (take (position_or_len is_tick xs) xs) ≡ false → (t : Bool) → eqb b 0x60 ≡ t
+        → ticked (take (cond (not t) (1 + position_or_len is_tick xs) 0) (b ∷ xs)) ≡ false
+    go h true e = refl
+    go h false e = let f : 1 + position_or_len is_tick xs ≡ suc (position_or_len is_tick xs) = omega arith in rw (f, e) h
 
--- one of a pair
-module _ (s : List ℕ) (at : ℕ) (within : Bool) (last : ℕ) where
-  pub pair-no : (get_or s at 0 ≡ 0x60 → ⊥) → false ≡ (eqb (get_or s at 0) 0x60 && (within || ticked (drop (at + 1) s)))
-  pair-no e = sym (ap (λ (t : Bool). t && (within || ticked (drop (at + 1) s))) (ne_eqb (get_or s at 0) 0x60 e))
+-- there is a first one if there is one
+bytes-hit : (xs : List ℕ) → ltb (position_or_len is_tick xs) (length xs) ≡ ticked xs
+unfolding ticked
+bytes-hit [] = refl
+bytes-hit (b ∷ xs) = go (bytes-hit xs) (eqb b 0x60)
+  where
+    go : ltb (position_or_len is_tick xs) (length xs) ≡ ticked xs → (t : Bool)
+        → ltb (cond (not t) (1 + position_or_len is_tick xs) 0) (suc (length xs)) ≡ (t || ticked xs)
+    go h true = lt-ltb 0 (suc (length xs)) (omega arith)
+    go h false = let f : 1 + position_or_len is_tick xs ≡ suc (position_or_len is_tick xs) = omega arith in rw (f, compare.suc-suc) h
 
-  pub pair-closes : get_or s at 0 ≡ 0x60 → within ≡ true → true ≡ (eqb (get_or s at 0) 0x60 && (within || ticked (drop (at + 1) s)))
-  pair-closes e w = sym (ap₂ (λ (k : ℕ) (t : Bool). eqb k 0x60 && (t || ticked (drop (at + 1) s))) e w)
-
-  pub pair-opens : Last s last → get_or s at 0 ≡ 0x60 → within ≡ false → ltb at last ≡ (eqb (get_or s at 0) 0x60 && (within || ticked (drop (at + 1) s)))
-  pair-opens l e w = sym (ap₂ (λ (k : ℕ) (t : Bool). eqb k 0x60 && (t || ticked (drop (at + 1) s))) e w ∙ l.each at)
-
--- Blocks
+-- the blocks up to the first that has one have none
+pub blocks_free : (n k : ℕ) (xs : List ℕ) → ticked (take (position_or_len ticked (first_chunks n k xs) * n) xs) ≡ false
+unfolding ticked
+blocks_free n zero xs = let e : 0 * n ≡ 0 = omega arith in rw e refl
+blocks_free n (suc k) xs = go (position_or_len ticked (first_chunks n k (drop n xs))) (blocks_free n k (drop n xs)) (ticked (take n xs)) refl
+  where
+    go : (p : ℕ) → ticked (take (p * n) (drop n xs)) ≡ false → (t : Bool) → ticked (take n xs) ≡ t → ticked (take (cond (not t) (1 + p) 0 * n) xs) ≡ false
+    go p h true e = let f : 0 * n ≡ 0 = omega arith in rw f refl
+    go p h false e =
+        let f : (1 + p) * n ≡ n + p * n = omega arith in
+        rw (f, take-add n (p * n) xs, ticked-append (take n xs), e) h
 
 part_join : (s : List ℕ) (a m e : ℕ) → a ≤ m → m ≤ e → part s a e ≡ part s a m ++ part s m e
 part_join s a m e g h =
@@ -101,42 +78,47 @@ part_join s a m e g h =
     ap (λ (j : ℕ). take j (drop a s)) n ∙ take-add (m - a) (e - m) (drop a s)
     ∙ ap (λ (l : List ℕ). part s a m ++ take (e - m) l) (drop-drop (m - a) a s ∙ ap (λ (j : ℕ). drop j s) k)
 
-tickless_both : (x y : List ℕ) → ticked x ≡ false → ticked y ≡ false → ticked (x ++ y) ≡ false
-tickless_both x y e f = ticked-append x y ∙ ap₂ ◌||◌ e f
+-- the first one, past m whole blocks that have none, where the bytes behind them are looked at one by one
+module _ (s : List ℕ) (at m : ℕ) (h : at ≤ length s) (w : m ≤ length s - at) (f : ticked (take m (drop at s)) ≡ false) where
+  abbrev pub first : ℕ
+  first = position_or_len is_tick (drop (at + m) s)
 
--- what is known of the bytes of a block so far
-pub tickless_none : (s : List ℕ) (a : ℕ) → ticked (part s a (a + 0)) ≡ false
-unfolding ticked
-tickless_none s a = ap ticked (part_none s a (a + 0) (omega arith))
+  pub tick_found : Tick s at (at + m + first)
+  tick_found =
+      let d : drop m (drop at s) ≡ drop (at + m) s = drop-drop m at s in
+      let l = length-drop (at + m) s in
+      let short = position-short is_tick (drop (at + m) s) in
+      let i : part s at (at + m) ≡ take m (drop at s) = let n : at + m - at ≡ m = omega arith in ap (λ (k : ℕ). take k (drop at s)) n in
+      let j : part s (at + m) (at + m + first) ≡ take first (drop (at + m) s) =
+      let n : at + m + first - (at + m) ≡ first = omega arith in ap (λ (k : ℕ). take k (drop (at + m) s)) n in
+      let whole : drop at s ≡ take m (drop at s) ++ drop (at + m) s =
+      sym (take-append-drop m (drop at s)) ∙ ap (λ (y : List ℕ). take m (drop at s) ++ y) d in
+      record {
+        order = omega arith;
+        inside = omega arith;
+        none = ap ticked (part_join s at (at + m) (at + m + first) (omega arith) (omega arith))
+            ∙ ticked-append (part s at (at + m)) (part s (at + m) (at + m + first))
+            ∙ ap₂ ◌||◌ (ap ticked i ∙ f) (ap ticked j ∙ bytes_free (drop (at + m) s));
+        more = same_test (omega arith) (omega arith) ∙ bytes-hit (drop (at + m) s)
+            ∙ sym (ap ticked whole ∙ ticked-append (take m (drop at s)) (drop (at + m) s) ∙ ap (λ (t : Bool). t || ticked (drop (at + m) s)) f);
+      }
+    where
+      same_test : first ≤ length (drop (at + m) s) → length s ≡ at + m + length (drop (at + m) s)
+          → ltb (at + m + first) (length s) ≡ ltb first (length (drop (at + m) s))
+      same_test o e =
+          ⊎_elim (λ (g : length (drop (at + m) s) ≤ first). le-ltb (at + m + first) (length s) (omega arith) ∙ sym (le-ltb first (length (drop (at + m) s)) g))
+          (λ (g : first < length (drop (at + m) s)).
+          lt-ltb (at + m + first) (length s) (omega arith) ∙ sym (lt-ltb first (length (drop (at + m) s)) g)) (le_or_lt (length (drop (at + m) s)) first)
 
-pub tickless_next : (s : List ℕ) (a i : ℕ) → a + i < length s → ticked (part s a (a + i)) ≡ false → (get_or s (a + i) 0 ≡ 0x60 → ⊥)
-    → ticked (part s a (a + (i + 1))) ≡ false
-unfolding ticked
-tickless_next s a i h e f =
-    let n : a + (i + 1) ≡ a + i + 1 = omega arith in
-    ap (λ (k : ℕ). ticked (part s a k)) n ∙ ap ticked (part-more s a (a + i) (omega arith) h)
-    ∙ tickless_both (part s a (a + i)) (get_or s (a + i) 0 ∷ []) e (ap (λ (t : Bool). t || false) (ne_eqb (get_or s (a + i) 0) 0x60 f))
-
--- a block before a place
-pub tickless_block : (s : List ℕ) (e : ℕ) → 64 ≤ e → e ≤ length s → ticked (part s (e - 64) (e - 64 + 64)) ≡ false → ticked (drop e s) ≡ false
-    → ticked (drop (e - 64) s) ≡ false
-tickless_block s e h k f g =
-    let n : e - 64 + 64 ≡ e = omega arith in
-    let m : e - 64 + (e - (e - 64)) ≡ e = omega arith in
-    ap ticked (sym (take-append-drop (e - (e - 64)) (drop (e - 64) s))
-    ∙ ap (λ (l : List ℕ). part s (e - 64) e ++ l) (drop-drop (e - (e - 64)) (e - 64) s ∙ ap (λ (j : ℕ). drop j s) m))
-    ∙ tickless_both (part s (e - 64) e) (drop e s) (ap (λ (j : ℕ). ticked (part s (e - 64) j)) (sym n) ∙ f) g
-
--- a block behind a place
-pub tick-join : (s : List ℕ) (at i r : ℕ) → Tick s at i → Tick s i r → Tick s at r
-tick-join s at i r t u = record {
-  order = omega (arith, t.order, u.order);
-  inside = u.inside;
-  none = ap ticked (part_join s at i r t.order u.order) ∙ tickless_both (part s at i) (part s i r) t.none u.none;
-}
-
-pub tick-block : (s : List ℕ) (at i : ℕ) → Tick s at i → 64 ≤ length s - i → ticked (part s i (i + 64)) ≡ false → Tick s at (i + 64)
-tick-block s at i t h e = tick-join s at i (i + 64) t (record { order = omega arith; inside = omega (arith, t.inside); none = e })
-
-pub one_none : {A : Type 0} (n : ℕ) → n ≡ 1 → n ≡ 0 → A
-one_none n e f = let z : ⊥ = omega arith in absurd z
+-- the same, as the library's methods find them in parts of all
+pub tick_by : (s : List ℕ) (at k p q : ℕ) → at ≤ length s → at + p * 64 ≤ length s
+    → p ≡ position_or_len ticked (first_chunks 64 k (take (length s - at) (drop at s)))
+    → q ≡ position_or_len is_tick (take (length s - (at + p * 64)) (drop (at + p * 64) s)) → Tick s at (at + p * 64 + q)
+tick_by s at k p q h j e f =
+    let whole : take (length s - at) (drop at s) ≡ drop at s = take_all (length s - at) (drop at s) (omega (arith, length-drop at s)) in
+    let g : p ≡ position_or_len ticked (first_chunks 64 k (drop at s)) = rw whole at e in
+    let none : ticked (take (p * 64) (drop at s)) ≡ false = ap (λ (n : ℕ). ticked (take (n * 64) (drop at s))) g ∙ blocks_free 64 k (drop at s) in
+    let m : ℕ = at + p * 64 in
+    let behind : take (length s - m) (drop m s) ≡ drop m s = take_all (length s - m) (drop m s) (omega (arith, length-drop m s)) in
+    let r : q ≡ position_or_len is_tick (drop m s) = rw behind at f in
+    rw r (tick_found s at (p * 64) h (omega arith) none)

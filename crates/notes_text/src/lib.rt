@@ -2,193 +2,117 @@
 
 #![tactic(auto)]
 
-ghost use Rattle.std.specs.Prelude.{◌≡◌, true, false, ◌&&◌, ◌||◌, ◌+◌, ◌≤◌, ◌<◌, eqb, length, drop, get_or};
-ghost use Rattle.base.specs.Bytes.{part};
-ghost use Rattle.base.specs.Result.{◌>>=◌ as bind};
-ghost use Rattle.room.specs.Room.{seen, extended};
-ghost use Rattle.notes_rules.specs.Notes.{ticked, styled, text_records};
-ghost use Rattle.notes_text.specs.InnerParts.{Last, Tick, lead, Runs, kind_number};
+ghost use Rattle.std.specs.Prelude.{◌≡◌, ◌&&◌, ◌||◌, ◌++◌, ◌+◌, ◌≤◌, ◌<◌, eqb, length, drop, get_or};
+ghost use Rattle.room.specs.Lent.{text_of, with_bytes};
+ghost use Rattle.notes_rules.specs.Notes.{ticked, styled, style_of, text_records};
+ghost use Rattle.notes_text.specs.InnerParts.{Tick, lead, Runs, run_record};
 
+use record_writer::{head_of, set_head};
 use records::Style;
+use room::Text;
 
-// Bytes of one style: how many, where they end, and whether a pair of backticks is open there.
+// Where the bytes of one style end, and whether a pair of backticks is open there.
 #[derive(Clone, Copy)]
 struct Run {
-    size: usize,
     at: usize,
     within: bool,
 }
 
-// Whether none of the 64 bytes from `a` is a backtick, if it says so.
-fn tickless(s: &[u8], a: usize) -> bool
-    requires { a + 64 ≤ length s.now }
-    ensures { result ≡ true → ticked (part s.now a (a + 64)) ≡ false }
+// Whether a backtick stands in some bytes.
+fn ticked(s: &[u8]) -> bool
+    ensures { result ≡ ticked s.now }
 {
-    let mut found: u8 = 0;
-    for i in 0..64 {
-        if s[a + i] == b'`' {
-            found = 1;
-        }
-    }
-    found == 0
+    base::any(s, |b| b == b'`')
 }
 
-// Where the last backtick of a text stands, or 0, if none stands from `to` on.
-fn last_before(s: &[u8], to: usize) -> usize
-    requires { (to ≤ length s.now) × (ticked (drop to s.now) ≡ false) }
-    ensures { Last s.now result }
-{
-    let mut e = to;
-    while 0 < e {
-        if s[e - 1] == b'`' {
-            return e - 1;
-        }
-        e -= 1;
-    }
-    0
-}
-
-// Where the last backtick of a text stands, or 0.
-fn last_tick(s: &[u8]) -> usize
-    ensures { Last s.now result }
-{
-    let mut e = s.len();
-    while 64 <= e {
-        if !tickless(s, e - 64) {
-            return last_before(s, e);
-        }
-        e -= 64;
-    }
-    last_before(s, e)
-}
-
-// Where the first backtick from `at` on stands, or the end.
-fn near_tick(s: &[u8], at: usize) -> usize
-    requires { at ≤ length s.now }
-    ensures { Tick s.now at result }
-{
-    for i in at..s.len() {
-        if s[i] == b'`' {
-            return i;
-        }
-    }
-    s.len()
-}
-
-// The same, by blocks of 64 as long as they have none.
+// Where the first backtick from `at` on stands, or the end. Blocks of 64 without one are passed over whole, since 16 of their bytes are tested at a time.
 fn next_tick(s: &[u8], at: usize) -> usize
     requires { at ≤ length s.now }
     ensures { Tick s.now at result }
 {
-    let mut i: usize = at;
-    while 64 <= s.len() - i {
-        if !tickless(s, i) {
-            return near_tick(s, i);
-        }
-        i += 64;
-    }
-    near_tick(s, i)
+    let (blocks, _) = s[at..].as_chunks::<64>();
+    let passed = blocks
+        .iter()
+        .position(|b| ticked(b))
+        .unwrap_or(blocks.len());
+    let from = at + passed * 64;
+    let rest = &s[from..];
+    from + rest.iter().position(|b| *b == b'`').unwrap_or(rest.len())
 }
 
-// Whether one of a pair of backticks stands at `at`.
-fn paired(s: &[u8], at: usize, within: bool, last: usize) -> bool
-    requires { (at < length s.now) × Last s.now last }
+// That a place lies in the text is asked of each place by itself, below too: a type of a text and a place would be made anew, with that to be shown, at each
+// step.
+
+// Whether one of a pair of backticks stands at `at`: a pair is open, or another one follows.
+fn paired(s: &[u8], at: usize, within: bool) -> bool
+    requires { at < length s.now }
     ensures { result ≡ (eqb (get_or s.now at 0) 0x60 && (within || ticked (drop (at + 1) s.now))) }
 {
-    if s[at] != b'`' {
-        return false;
-    }
-    if within {
-        return true;
-    }
-    at < last
+    s[at] == b'`' && (within || next_tick(s, at + 1) < s.len())
 }
 
-// The bytes of one style from `from` on, and what follows them.
-fn run_at(s: &[u8], from: usize, literal: bool, last: usize) -> Run
-    requires { (from ≤ length s.now) × Last s.now last }
-    ensures { Runs s.now from literal result }
+// What stands between a pair is Literal, the rest Text.
+fn style_of(literal: bool) -> Style
+    ensures { result ≡ style_of literal }
 {
-    let mut size: usize = 0;
-    let mut i: usize = from;
+    if literal { Style::Literal } else { Style::Text }
+}
+
+// The bytes of one style from `from` on, and what follows them. The loop goes from backtick to backtick, so that it is no `for` over the bytes.
+fn put_run(t: &mut Text, s: &[u8], from: usize, literal: bool) -> Run
+    requires { from ≤ length s.now }
+    ensures text { text_of t.new ≡ with_bytes (lead literal (styled literal (drop from s.now))) (text_of t.old) }
+    ensures run { Runs s.now from literal result }
+{
+    let mut i = from;
     let mut within = literal;
     while i < s.len() {
-        if paired(s, i, within, last) {
+        if paired(s, i, within) {
             within = !within;
             i += 1;
         } else {
             if within != literal {
-                return Run {
-                    size,
-                    at: i,
-                    within,
-                };
+                return Run { at: i, within };
             }
             let e = next_tick(s, i + 1);
-            size += e - i;
+            t.put_all(&s[i..e]);
             i = e;
         }
     }
-    Run {
-        size,
-        at: i,
-        within,
-    }
+    Run { at: i, within }
 }
 
-// These bytes more.
-fn put_run(room: &mut [u8], len: usize, s: &[u8], from: usize, literal: bool, last: usize) -> usize
-    requires { (from ≤ length s.now) × Last s.now last }
-    ensures { seen room.new result ≡ bind (seen room.old len) (extended (length room.old) (lead literal (styled literal (drop from s.now)))) }
+// Their record. Its head is written before its size is known, and set when it is.
+fn put_record(t: &mut Text, s: &[u8], from: usize, literal: bool) -> Run
+    requires { from ≤ length s.now }
+    ensures text { text_of t.new ≡ with_bytes (run_record literal (lead literal (styled literal (drop from s.now)))) (text_of t.old) }
+    ensures run { Runs s.now from literal result }
 {
-    let mut n: usize = len;
-    let mut i: usize = from;
-    let mut within = literal;
-    while i < s.len() {
-        if paired(s, i, within, last) {
-            within = !within;
-            i += 1;
-        } else {
-            if within != literal {
-                return n;
-            }
-            let e = next_tick(s, i + 1);
-            n = room::put_all(room, n, &s[i..e]);
-            i = e;
-        }
+    let kind = style_of(literal).number();
+    let start = t.len;
+    t.put_all(&head_of(0, kind));
+    let run = put_run(t, s, from, literal);
+    if !t.is_full() {
+        let room = &mut *t.room;
+        set_head(room, start, t.len - start - 6, kind);
     }
-    n
+    run
 }
 
-// The kind of text that stands between a pair of backticks, or not.
-fn kind_of(literal: bool) -> usize
-    ensures { result ≡ kind_number literal }
+// The records of a part's text. The loop goes from run to run: where one ends is known when it is written.
+pub fn put_text(t: &mut Text, s: &[u8])
+    ensures { text_of t.new ≡ with_bytes (text_records s.now) (text_of t.old) }
 {
-    if literal {
-        return Style::Literal.number();
-    }
-    Style::Text.number()
-}
-
-// The records of a part's text.
-pub fn put_text(room: &mut [u8], len: usize, s: &[u8]) -> usize
-    ensures { seen room.new result ≡ bind (seen room.old len) (extended (length room.old) (text_records s.now)) }
-{
-    let last = last_tick(s);
-    let mut n: usize = len;
     let mut at: usize = 0;
     let mut within = false;
     while at < s.len() {
-        if paired(s, at, within, last) {
+        if paired(s, at, within) {
             within = !within;
             at += 1;
         } else {
-            let run = run_at(s, at, within, last);
-            n = record_writer::put_head(room, n, run.size, kind_of(within));
-            n = put_run(room, n, s, at, within, last);
+            let run = put_record(t, s, at, within);
             at = run.at;
             within = run.within;
         }
     }
-    n
 }

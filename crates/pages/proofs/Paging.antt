@@ -1,8 +1,12 @@
 -- Refusals 20 and 21, the page count, and where a page stands. Assumes nothing.
 use Rattle.pages.proofs.Names.{ℕ, zero, suc, ◌+◌, ◌-◌, ◌*◌, ◌≤◌, ◌<◌, ◌≡◌, refl, sym, ap, ap₂, ◌∙◌, subst, true, false, ◌⊎◌, ⊎_elim, List, [], length}
 use Rattle.pages.proofs.Names.{take, drop, length-drop, mul_comm, div-mul-le_self, lt-div-mul-add, arith, among, and_both, le_or_lt, gives_same, rows}
+use Rattle.std.specs.Int.{div_ceil}
+use Rattle.std.proofs.Common.{◌%◌}
+use Prim.Native.Nat.{min}
+use Rattle.std.proofs.lemmas.Nat.{div-mul-add}
 use Rattle.pages.proofs.Names.{joined, pages_in, allowed, rows_before, page_of, page_start, page_count, shown, bytes_of, ◌/◌, mul-suc, div-eq_of_lt}
-use Rattle.pages.proofs.Names.{add-div_right, le-div_iff_mul-le, div-lt_iff_lt-mul, mul-le-mul_left, le-leb, lt-leb, if_true, if_false, refused-gives}
+use Rattle.pages.proofs.Names.{le-div_iff_mul-le, div-lt_iff_lt-mul, mul-le-mul_left, le-leb, lt-leb, if_true, if_false, refused-gives}
 use Rattle.base.specs.Result.{Result, gives, refused, ◌>>=◌, measured}
 use Rattle.refusal.specs.declared.Refusal.{Refusal}
 use Rattle.pages.specs.Answers.{start_of, size_of}
@@ -68,11 +72,21 @@ pub count_none : (h : ℕ) (s : List ℕ) → 1 ≤ h → length (rows s) ≡ 0 
 unfolding pages_in
 count_none h s g e = div-eq_of_lt (omega arith)
 
-count_some : (h : ℕ) (s : List ℕ) → 1 ≤ h → (length (rows s) ≡ 0 → ⊥) → pages_in h s ≡ (length (rows s) - 1) / h + 1
-unfolding pages_in
-count_some h s g e =
-    let f : length (rows s) + (h - 1) ≡ length (rows s) - 1 + h = omega arith in
-    ap (λ (k : ℕ). k / h) f ∙ add-div_right (length (rows s) - 1) g
+-- rounded up
+rounded_up : (h n : ℕ) → 1 ≤ h → (n + (h - 1)) / h ≡ n / h + min 1 (n % h)
+rounded_up h n g =
+    let m = mul_comm h (n / h) in
+    ⊎_elim
+    (λ (z : n % h ≤ 0).
+    let e : n + (h - 1) ≡ n / h * h + (h - 1) = omega arith in
+    let f : min 1 (n % h) ≡ 0 = omega arith in
+    rw (e, f) (div-mul-add (n / h) h (h - 1) (omega arith) ∙ (omega arith)))
+    (λ (z : 0 < n % h).
+    let k : (n / h + 1) * h ≡ h * (n / h) + h = times h (n / h + 1) (omega arith) ∙ ap (λ (j : ℕ). h * j + h) (omega arith) in
+    let e : n + (h - 1) ≡ (n / h + 1) * h + (n % h - 1) = omega arith in
+    let f : min 1 (n % h) ≡ 1 = omega arith in
+    rw (e, f) (div-mul-add (n / h + 1) h (n % h - 1) (omega arith)))
+    (le_or_lt (n % h) 0)
 
 -- what `page_count` answers
 module _ (h : ℕ) (s : List ℕ) where
@@ -85,11 +99,9 @@ module _ (h : ℕ) (s : List ℕ) where
     unfolding page_count ◌>>=◌
     counted f = rw (allowed_in h a b) (ap gives (sym f))
 
-    pub count_zero : n ≡ 0 → gives 0 ≡ page_count h s
-    count_zero f = counted (count_none h s a (omega arith))
-
-    pub count_more : (n ≡ 0 → ⊥) → gives ((n - 1) / h + 1) ≡ page_count h s
-    count_more f = counted (count_some h s a (λ z. f (e ∙ z)) ∙ ap (λ (k : ℕ). (k - 1) / h + 1) (sym e))
+    pub count_rounded : gives (div_ceil n h) ≡ page_count h s
+    unfolding pages_in
+    count_rounded = counted (rounded_up h (length (rows s)) a ∙ ap (λ (k : ℕ). div_ceil k h) (sym e))
 
 -- Which page it is
 

@@ -1,4 +1,7 @@
 -- The rows of a text, byte by byte and by blocks. Assumes nothing.
+use Rattle.std.specs.Prelude.{Some, None}
+use Rattle.std.specs.List.{slice_get}
+use Rattle.std.proofs.lemmas.Option.{slice_get_within, get_or_from_slice_get, slice_get-get_or}
 use Rattle.pages.proofs.Names.{ℕ, zero, suc, ◌+◌, ◌-◌, ◌≤◌, ◌<◌, ◌≡◌, refl, sym, ap, ap₂, ◌∙◌, true, false, List, [], ◌∷◌, ◌++◌, append_assoc, length}
 use Rattle.pages.proofs.Names.{take, drop, get_or, length-drop, take-append-drop, drop_of_length-le, drop-drop, length-take-le, arith, ne_eqb}
 use Rattle.pages.proofs.Names.{when◌then◌else◌, leads, rows, joined, feed, feeds, bytes_of, Bool, eqb, length-append, sub-zero, eq-eqb}
@@ -243,3 +246,11 @@ module _ (s : List ℕ) (i k whole : ℕ) (e : whole ≡ i + bytes_of k (drop i 
 
   pub pass_block : (n : ℕ) → i + 128 ≤ length s → Fed s i (i + 128) n → n < k → whole ≡ i + 128 + bytes_of (k - n) (drop (i + 128) s)
   pass_block n h f l = omega (arith, fed_block s i 128 n k h f l)
+
+-- the last byte of a text, as the library gives it
+pub last_byte : (s : List ℕ) (x : ℕ) → slice_get s (length s - 1) ≡ Some x → (0 < length s) × (get_or s (length s - 1) 0 ≡ x)
+last_byte s x e = let h = slice_get_within s (length s - 1) x e in (omega arith, get_or_from_slice_get s (length s - 1) x 0 e)
+
+pub last-none : (s : List ℕ) → slice_get s (length s - 1) ≡ None → length s ≡ 0
+last-none [] e = refl
+last-none (b ∷ s) e = let f = slice_get-get_or (b ∷ s) (length (b ∷ s) - 1) 0 (omega arith) in cc

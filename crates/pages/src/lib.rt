@@ -35,12 +35,11 @@ fn line_feeds(s: &[u8]) -> usize
 fn row_count(s: &[u8]) -> usize
     ensures { result ≡ length (rows s.now) }
 {
-    if s.len() == 0 {
+    let Some(last) = s.last() else {
         return 0;
-    }
+    };
     let n = line_feeds(s);
-    let last = s.len() - 1;
-    if s[last] == b'\n' {
+    if *last == b'\n' {
         return n;
     }
     n + 1
@@ -63,7 +62,8 @@ fn step_rows(s: &[u8], from: usize, k: usize) -> usize
     s.len()
 }
 
-// The place after k rows from a place on: a block of 128 that does not hold the last of them is passed over.
+// The place after k rows from a place on: a block of 128 that does not hold the last of them is passed over. The loop is no `for` over blocks, since the
+// last block is left to `step_rows` even where it is whole.
 fn skip_rows(s: &[u8], from: usize, k: usize) -> usize
     requires { from ≤ length s.now }
     ensures { result ≡ from + bytes_of k (drop from s.now) }
@@ -124,9 +124,5 @@ pub fn page_count(text: &[u8], height: usize) -> Result<usize, Refusal>
     if height < 1 || 200 < height {
         return Err(Refusal::WrongHeight);
     }
-    let n = row_count(text);
-    if n == 0 {
-        return Ok(0);
-    }
-    Ok((n - 1) / height + 1)
+    Ok(row_count(text).div_ceil(height))
 }

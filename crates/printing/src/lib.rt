@@ -22,7 +22,7 @@ fn ascii_prints(b: u8) -> bool
     !matches!(b, 0x20 | 0x09..=0x0D)
 }
 
-// The characters from a on until e is reached.
+// The characters from a on until e is reached. The loop goes by characters, of one byte to four, so that it is no `for` over the bytes.
 fn chars(s: &[u8], a: usize, e: usize) -> Option<Run>
     requires { (a < e) × (e ≤ length s.now) }
     ensures { MatchOption result (utf8 (drop a s.now) ≡ false) (λ r. Went s.now a r.at r.prints) }
@@ -36,9 +36,7 @@ fn chars(s: &[u8], a: usize, e: usize) -> Option<Run>
             }
             i += 1;
         } else {
-            let Some((c, next)) = utf8::decode(s, i) else {
-                return None;
-            };
+            let (c, next) = utf8::decode(s, i)?;
             if !white::is_white(c) {
                 n += 1;
             }
@@ -64,7 +62,8 @@ fn some(s: &[u8], a: usize) -> Option<Run>
     chars(s, a, a + 64)
 }
 
-// How many characters of s print, 0 where s is not UTF-8.
+// How many characters of s print. The number is 0 where s is not UTF-8, and no None, since the rule `printing_count` says so. The loop goes by what `some`
+// counts at once, which is 64 bytes of ASCII or some characters.
 pub fn count(s: &[u8]) -> usize
     ensures { result ≡ printing_count s.now }
 {

@@ -2,12 +2,12 @@
 
 #![tactic(auto)]
 
-ghost use Rattle.std.specs.Prelude.{◌≡◌, ◌+◌, ◌%◌, length};
+ghost use Rattle.std.specs.Prelude.{◌≡◌, [], ◌+◌, length};
 ghost use Rattle.base.specs.Result.{◌>>=◌ as bind};
 ghost use Rattle.base.specs.Bytes.{overwritten};
 ghost use Rattle.room.specs.Room.{seen, extended};
 ghost use Rattle.records.specs.Records.{index};
-ghost use Rattle.records.specs.Stored.{head, start, end};
+ghost use Rattle.records.specs.Stored.{head, stored};
 
 use records::Block;
 
@@ -24,25 +24,13 @@ pub fn end_kind(b: Block) -> usize
     0x0200 + b.index()
 }
 
-// The lowest byte of a number.
-fn low(n: usize) -> u8
-    ensures { result ≡ n % 256 }
-{
-    (n % 256) as u8
-}
-
 // 'four-byte body length, two-byte kind .., little-endian'
 pub fn head_of(size: usize, kind: usize) -> [u8; 6]
     ensures { result ≡ head size kind }
 {
-    [
-        low(size),
-        low(size / 256),
-        low(size / 256 / 256),
-        low(size / 256 / 256 / 256),
-        low(kind),
-        low(kind / 256),
-    ]
+    let s = size.to_le_bytes();
+    let k = kind.to_le_bytes();
+    [s[0], s[1], s[2], s[3], k[0], k[1]]
 }
 
 // A record's first six bytes after the text so far: a body of `size` bytes follows.
@@ -61,15 +49,9 @@ pub fn set_head(room: &mut [u8], at: usize, size: usize, kind: usize)
     base::copy_from_slice(room, at, &bytes);
 }
 
-// A block's start, and its end, likewise.
-pub fn set_start(room: &mut [u8], at: usize, b: Block)
-    ensures { room.new ≡ overwritten room.old at (start b) }
+// A record without a body, likewise: a block's start or end.
+pub fn set_block(room: &mut [u8], at: usize, kind: usize)
+    ensures { room.new ≡ overwritten room.old at (stored kind []) }
 {
-    set_head(room, at, 0, start_kind(b));
-}
-
-pub fn set_end(room: &mut [u8], at: usize, b: Block)
-    ensures { room.new ≡ overwritten room.old at (end b) }
-{
-    set_head(room, at, 0, end_kind(b));
+    set_head(room, at, 0, kind);
 }

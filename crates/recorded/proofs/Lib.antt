@@ -1,3 +1,4 @@
 mod Names
 pub mod Lengths
 pub mod Running
+pub mod Telling

@@ -1,11 +1,13 @@
 -- A list of cases, as oracle/src/cases.rs says its form: numbers, a call, its document and its answer, and a room before a call. No rule
 -- of 01 stands here.
-use Rattle.std.specs.Prelude.{◌≡◌, ◌<◌, Result, MatchResult, ℕ, ◌+◌, ◌*◌, ◌%◌, Bool, ◌&&◌, List, ltb, eqb, length, take, drop, get_or, set}
+use Rattle.std.specs.Prelude.{◌≡◌, ◌<◌, Result, MatchResult, ℕ, ◌+◌, ◌*◌, ◌%◌, Bool, cond, ◌&&◌, List, ltb, eqb, length, take, drop, get_or, set}
 use Rattle.base.specs.Choice.{when◌then◌else◌}
 use Rattle.records.specs.Records.{little}
 use Rattle.compared.specs.InnerCompared.{filled_by, holds_by, is_rendered}
 use Rattle.std.specs.Prelude.{Result as Answer}
 use Rattle.refusal.specs.declared.Refusal.{Refusal}
+use Rattle.console_rules.specs.declared.Measure.TheVariants as measure
+use Rattle.console_rules.specs.declared.Settings.{Settings}
 use Rattle.recorded.specs.declared.Call.{Call}
 use Rattle.recorded.specs.declared.operation.Operation.{Operation}
 use Rattle.recorded.specs.declared.operation.Operation.TheVariants as operation
@@ -43,6 +45,10 @@ call_of case = record {
   css = eqb (get_or (flags_of case) 1 0) 1;
   room = number_in (drop 2 (flags_of case));
 }
+
+-- what the console is asked for: 'u8 css or characters'
+abbrev pub settings_of : Call → Settings
+settings_of c = record { width = c.setting; full = c.full; measure = cond c.css measure.Characters measure.Bytes }
 
 -- 'n document length D, D the document', and what follows
 unfoldable pub document_of : List ℕ → List ℕ

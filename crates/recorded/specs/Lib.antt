@@ -1,3 +1,4 @@
 pub mod InnerCases
 pub mod InnerTally
 pub mod Spoken
+pub mod Told

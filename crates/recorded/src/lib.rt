@@ -6,14 +6,16 @@
 ghost use Rattle.std.specs.Prelude.{◌≡◌, ◌<◌, ◌≤◌, false, [], length};
 ghost use Rattle.std.specs.Fn.{FnOnceReturnsAtMut};
 ghost use Rattle.recorded.specs.InnerCases.{number_in, number_size, past as past_number, sized_of, call_of, document_of, answer_of};
-ghost use Rattle.recorded.specs.InnerCases.{pattern, filled, keeps, is_made, counted};
+ghost use Rattle.recorded.specs.InnerCases.{pattern, filled, keeps, is_made, counted, settings_of};
 
 use compared::byte_or;
+use console_rules::{Measure, Settings};
 use refusal::Refusal;
 
 pub mod input;
 pub mod operation;
 pub mod output;
+pub mod run;
 pub mod tally;
 
 // How many calls there are: their numbers in a list are below this one.
@@ -69,6 +71,23 @@ pub struct Call {
     pub room: usize,
 }
 
+impl Call {
+    // What the console is asked for: the second flag of its calls says whether it counts characters.
+    pub fn settings(self) -> Settings
+        ensures { result ≡ settings_of self }
+    {
+        Settings {
+            width: self.setting,
+            full: self.full,
+            measure: if self.css {
+                Measure::Characters
+            } else {
+                Measure::Bytes
+            },
+        }
+    }
+}
+
 // The call of a case.
 #[tactic(auto, unfolding(crate::specs::InnerCases::call_of))]
 pub fn call_of(case: &[u8]) -> Call
@@ -116,6 +135,7 @@ pub fn answer_of<'a>(case: &'a [u8]) -> &'a [u8]
 fn pattern_at(i: usize) -> u8
     ensures { result ≡ pattern i }
 {
+    // `as`, since it is below 255, as the check proves; a TryFrom would ask for a byte where it is not
     (i % 255 * 31 % 255) as u8 + 1
 }
 

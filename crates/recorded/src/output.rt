@@ -41,6 +41,7 @@ fn print_counts<W: Write>(
     ensures { OnOk result (Appends (W.contents writer.old) (W.contents writer.new) (flat_map (count_text counts.now) names.now)) }
 {
     for name in names {
+        // `as`, the conversion that an enum has to its number
         print_count(writer, name.1, counts[name.0 as usize])?;
     }
     Ok(())

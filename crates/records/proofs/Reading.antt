@@ -127,7 +127,8 @@ module _ (s : List ℕ) (at : ℕ) where
   module _ (k : Kind) (h : at < length s) (ek : k ≡ kind_of (little (take 2 (drop (at + 4) s)))) where
     listed_here : (start next : ℕ) → start ≡ at + length (take 6 (drop at s)) → part s start next ≡ take (size (drop at s)) (drop (at + 6) s)
         → tokens_from s next ≡ tokens_from s (next_at s at)
-        → tokens_from s at ≡ when ltb at (length s) then token_of s at (record { kind = k; start = start; stop = next; next = next }) ∷ tokens_from s next else []
+        → tokens_from s at
+        ≡ when ltb at (length s) then token_of s at (record { kind = k; start = start; stop = next; next = next }) ∷ tokens_from s next else []
     unfolding token_at
     listed_here start next d b t =
         tokens_at s at h
@@ -205,6 +206,12 @@ module _ (s : List ℕ) (at : ℕ) where
   unfolding record_fits
   fits_short h = rw (lt-leb 6 (length (drop at s)) (omega (arith, length-drop at s)))
 
-  pub fits_by : (n : ℕ) → at + 6 ≤ length s → n ≡ little (take 4 (drop at s)) → leb n (length s - at - 6) ≡ record_fits (drop at s)
-  unfolding record_fits size
-  fits_by n h e = rw (length-drop at s, le-leb 6 (length s - at) (omega arith), ← e)
+  -- .. by how many bytes are left
+  module _ (left : ℕ) (d : left ≡ length s - at) where
+    pub few_left : left < 6 → leb 6 left ≡ record_fits (drop at s)
+    unfolding record_fits
+    few_left h = rw (lt-leb 6 left h, length-drop at s, ← d, lt-leb 6 left h)
+
+    pub fits_by : (n : ℕ) → 6 ≤ left → n ≡ little (take 4 (drop at s)) → leb n (left - 6) ≡ record_fits (drop at s)
+    unfolding record_fits size
+    fits_by n h e = rw (length-drop at s, ← d, le-leb 6 left h, ← e)

@@ -148,7 +148,8 @@ impl TryFrom<usize> for Block {
     }
 }
 
-// What a record's two-byte kind says.
+// What a record's two-byte kind says. The numbers are the stored form's: a block's start is 0x0100 and its index, its end 0x0200 and its index. Here
+// alone they are read.
 pub fn kind_of(k: usize) -> Kind
     ensures { result ≡ kind_of k }
 {
@@ -320,14 +321,8 @@ pub fn whole_at(document: &[u8], at: usize) -> Head
 pub fn fits_at(document: &[u8], at: usize) -> bool
     ensures { result ≡ record_fits (drop at document.now) }
 {
-    if document.len() <= at {
-        return false;
-    }
-    let left = document.len() - at;
-    if left < 6 {
-        return false;
-    }
-    whole_four(document, at) <= left - 6
+    let left = document.len().saturating_sub(at);
+    6 <= left && whole_four(document, at) <= left - 6
 }
 
 // A record of a document: where it stands, where its body starts, its kind and its body.

@@ -21,7 +21,8 @@ refusal_number refusal.NoRoom = 13
 refusal_number (refusal.BundleKind p) = 14
 refusal_number (refusal.BundleCutShort p) = 15
 refusal_number refusal.BundleTooLong = 16
--- 02, point 7: '17 .. when under four bytes stand or the text runs past the end', '18 when a record's text passes the end of the joined text, .. or when text is left over'
+-- 02, point 7: '17 .. when under four bytes stand or the text runs past the end', '18 when a record's text passes the end of the joined text, ..
+-- or when text is left over'
 refusal_number refusal.NoJoinedText = 17
 refusal_number (refusal.WrongShare p) = 18
 -- 02, point 11: '19 when they are not UTF-8'

@@ -66,7 +66,7 @@ impl Refusal {
         }
     }
 
-    // Its place, 0 where it carries none.
+    // Its place, 0 where it carries none: no Option, since 01 gives each refusal a number and a place, and C gets both.
     pub fn place(self) -> usize
         ensures { result ≡ refusal_place self }
     {

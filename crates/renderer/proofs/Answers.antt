@@ -1,5 +1,8 @@
 -- Answers: the length where it lies in the room, 13 where it has passed it, and the room that is cleared after them. Assumes nothing.
-use Rattle.renderer.proofs.Names.{ℕ, ◌≤◌, ◌<◌, ◌≡◌, sym, ap, ◌∙◌, List, length, Result, refused, ◌>>=◌, measured, seen, seen_in, seen-out, Answer, Ok, Err}
+use Rattle.renderer.proofs.Names.{ℕ, ◌≤◌, ◌<◌, ◌≡◌, refl, sym, ap, ◌∙◌, List, [], length, Result, refused, ◌>>=◌, measured, seen, seen_in, seen-out}
+use Rattle.renderer.proofs.Names.{Answer, Ok, Err}
+use Rattle.std.specs.Prelude.{IsErrAnd}
+use Rattle.std.proofs.lemmas.Result.{err_from_is_err_and}
 use Rattle.refusal.specs.declared.Refusal.TheVariants as refusal
 use Rattle.refusal.specs.declared.Refusal.{Refusal}
 use Rattle.renderer.specs.Rendered.{standing, Inside, filled}
@@ -14,17 +17,19 @@ module _ (room : List ℕ) (len : ℕ) where
   pub answer_in : len ≤ length room → (standing room (Ok len) ≡ seen room len) × Inside (length room) (Ok len)
   answer_in h = (sym (seen_in room len h), h)
 
-  module _ (at : ℕ) where
-    pub form-out : length room < len
-        → (standing room (Err refusal.NoRoom) ≡ (seen room len >>= λ _. refused 11 at)) × Inside (length room) (Err refusal.NoRoom)
-    unfolding ◌>>=◌
-    form-out h = (rw (seen-out room len h), tt)
+abbrev pub no_form : ℕ → List ℕ → Result (List ℕ)
+no_form at x = refused 11 at
 
-    pub form_in : len ≤ length room
-        → (standing room (Err (refusal.NoForm at)) ≡ (seen room len >>= λ _. refused 11 at))
-        × Inside (length room) (Err (refusal.NoForm at))
-    unfolding ◌>>=◌
-    form_in h = (rw (seen_in room len h), tt)
+-- after an answer that is no refusal comes 11, and a refusal goes on
+module _ (room : List ℕ) (at : ℕ) {s : Result (List ℕ)} where
+  pub then_no_form : (n : ℕ) → standing room (Ok n) ≡ s → no_form at [] ≡ (s >>= no_form at)
+  unfolding ◌>>=◌
+  then_no_form n e = rw (← e) refl
+
+  pub refused_before : (r : Answer ℕ Refusal) (a : Refusal) → IsErrAnd r (λ e. e ≡ a) → standing room (Err a) ≡ s
+      → (standing room r ≡ (s >>= no_form at)) × Inside (length room) r
+  unfolding ◌>>=◌
+  refused_before r a h e = let p = err_from_is_err_and r h in rw (p.1, p.2, ← e) (refl, tt)
 
 -- what stands in the room for an answer, and the room cleared after it
 pub answer_cleared : (room new : List ℕ) (limit : ℕ) (a : Answer ℕ Refusal) (r : Result (List ℕ)) → length room ≡ limit → standing room a ≡ r → Inside limit a

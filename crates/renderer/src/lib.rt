@@ -16,20 +16,14 @@ use splitter::Piece;
 pub fn clear_after(room: &mut [u8], answer: Result<usize, Refusal>)
     ensures { room.new ≡ filled (length room.old) (standing room.old answer) }
 {
-    match answer {
-        Ok(n) => room::clear_from(room, n),
-        Err(_) => room::clear_from(room, 0),
-    }
+    room::clear_from(room, answer.unwrap_or(0));
 }
 
 // Whether a chunk ends the walk of its body: 'With `full` off, a paragraph chunk ends the walk of that body'.
 pub fn ends_body(piece: Piece, full: bool) -> bool
     ensures { (body : List ℕ) → result ≡ last full (chunk_of body piece) }
 {
-    match piece {
-        Piece::Paragraph(_) => !full,
-        _ => false,
-    }
+    matches!(piece, Piece::Paragraph(_)) && !full
 }
 
 // The answer for a text up to a length: 13 where that has passed the room.
@@ -48,8 +42,6 @@ pub fn no_form(room: &[u8], len: usize, at: usize) -> Result<usize, Refusal>
     ensures text { standing room.now result ≡ bind (seen room.now len) (λ _. refused 11 at) }
     ensures inside { Inside (length room.now) result }
 {
-    if room.len() < len {
-        return Err(Refusal::NoRoom);
-    }
+    answer(room, len)?;
     Err(Refusal::NoForm(at))
 }

@@ -2,9 +2,8 @@
 // check, the renderers, the splitter and its step, the tabstop.
 #![tactic(auto)]
 
-use console_rules::{Measure, Settings};
 use recorded::operation::Operation;
-use recorded::{Call, output, tally};
+use recorded::{Call, run};
 use refusal::Refusal;
 use splitter::{Code, Cursor, Piece};
 use std::io;
@@ -103,13 +102,14 @@ fn splits(body: &[u8], answer: &[u8]) -> bool {
 
 // Whether `next_chunk` answers as a case says: what the chunk is and the cursor after it, where it begins, its length and its width.
 fn hands_out(call: Call, body: &[u8], answer: &[u8]) -> bool {
-    let next = next_chunk::next_chunk(body, call.setting, call.ticks as u32);
+    let next = next_chunk::next_chunk(body, call.setting, u32::from(call.ticks));
     let (number, rest) = recorded::split_number(answer);
     let (at, rest) = recorded::split_number(rest);
     let (ticks, rest) = recorded::split_number(rest);
     let (start, rest) = recorded::split_number(rest);
     let (length, rest) = recorded::split_number(rest);
     let (width, rest) = recorded::split_number(rest);
+    // `as`, since Rust has no From between u32 and usize
     number == next.number as usize
         && at == next.at
         && ticks == next.ticks as usize
@@ -130,19 +130,6 @@ fn finds_tabstop(document: &[u8], answer: &[u8]) -> bool {
     }
 }
 
-// What the console is asked for: the second flag of its calls says whether it counts characters.
-fn settings_of(call: Call) -> Settings {
-    Settings {
-        width: call.setting,
-        full: call.full,
-        measure: if call.css {
-            Measure::Characters
-        } else {
-            Measure::Bytes
-        },
-    }
-}
-
 // The call of a case, into a room: the console's where it is no other renderer's.
 fn render(
     call: Call,
@@ -156,7 +143,7 @@ fn render(
         Operation::HtmlStrict => html::render_html_strict(document, full, call.css, room),
         Operation::Markdown => markdown::render_markdown(document, full, room),
         Operation::Roff => manpage::render_roff(document, room),
-        _ => console::render_console(document, settings_of(call), room),
+        _ => console::render_console(document, call.settings(), room),
     }
 }
 
@@ -199,7 +186,5 @@ const NAMES: [(Operation, &[u8]); 9] = [
 
 // A read or a write that fails ends the program with its error.
 fn main(rt: HostRuntime) -> io::Result<()> {
-    let mut space = [0u8; 65536];
-    let replayed = tally::replay_all(&mut rt.stdin(), &mut space, agrees);
-    output::print_replayed(&mut rt.stdout(), &NAMES, replayed)
+    run::run(&mut rt.stdin(), &mut rt.stdout(), &NAMES, agrees)
 }

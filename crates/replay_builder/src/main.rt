@@ -3,7 +3,7 @@
 #![tactic(auto)]
 
 use recorded::operation::Operation;
-use recorded::{Call, output, tally};
+use recorded::{Call, run};
 use records::{Block, Style};
 use refusal::Refusal;
 use std::io;
@@ -60,7 +60,7 @@ fn is_built(built: Result<usize, Refusal>, room: &[u8], before: &[u8], answer: &
 // Whether the builder answers as a case says; `listed` begins with the length so far and what the room holds of the document so far.
 fn builds(call: Call, operation: Operation, argument: &[u8], listed: &[u8]) -> bool {
     let size = call.room;
-    let mut space = [0u8; 65536];
+    let mut space = [0u8; 65536]; // a case that asks for a larger room counts as a difference
     if space.len() < size {
         return false;
     }
@@ -102,7 +102,5 @@ const NAMES: [(Operation, &[u8]); 5] = [
 
 // A read or a write that fails ends the program with its error.
 fn main(rt: HostRuntime) -> io::Result<()> {
-    let mut space = [0u8; 65536];
-    let replayed = tally::replay_all(&mut rt.stdin(), &mut space, agrees);
-    output::print_replayed(&mut rt.stdout(), &NAMES, replayed)
+    run::run(&mut rt.stdin(), &mut rt.stdout(), &NAMES, agrees)
 }

@@ -2,9 +2,8 @@
 // the joined form of a document, moved, checked and rendered, and one option list from two.
 #![tactic(auto)]
 
-use console_rules::{Measure, Settings};
 use recorded::operation::Operation;
-use recorded::{Call, output, tally};
+use recorded::{Call, run};
 use refusal::Refusal;
 use std::io;
 
@@ -12,19 +11,6 @@ use std::io;
 fn checks(joined: &[u8], answer: &[u8]) -> bool {
     let (number, place) = recorded::split_number(answer);
     compared::is_verdict(joined_check::check(joined), number, recorded::number(place))
-}
-
-// What the console is asked for: the second flag of its calls says whether it counts characters.
-fn settings_of(call: Call) -> Settings {
-    Settings {
-        width: call.setting,
-        full: call.full,
-        measure: if call.css {
-            Measure::Characters
-        } else {
-            Measure::Bytes
-        },
-    }
 }
 
 // The call of a case, into a room: the console's where it is no other.
@@ -45,7 +31,7 @@ fn make(call: Call, operation: Operation, given: &[u8], room: &mut [u8]) -> Resu
             base::get_from(given, first),
             room,
         ),
-        _ => joined_render::joined_console(given, settings_of(call), room),
+        _ => joined_render::joined_console(given, call.settings(), room),
     }
 }
 
@@ -88,7 +74,5 @@ const NAMES: [(Operation, &[u8]); 9] = [
 
 // A read or a write that fails ends the program with its error.
 fn main(rt: HostRuntime) -> io::Result<()> {
-    let mut space = [0u8; 65536];
-    let replayed = tally::replay_all(&mut rt.stdin(), &mut space, agrees);
-    output::print_replayed(&mut rt.stdout(), &NAMES, replayed)
+    run::run(&mut rt.stdin(), &mut rt.stdout(), &NAMES, agrees)
 }

@@ -1,11 +1,13 @@
 -- Pieces that are pushed one after another, as what stands in a room. Assumes nothing.
-use Rattle.roff_escape.proofs.Names.{ℕ, ◌≡◌, refl, sym, ap, ◌∙◌, Bool, true, false, List, [], ◌∷◌, ◌++◌, length, arith, when◌then◌else◌, Result, ◌>>=◌}
-use Rattle.roff_escape.proofs.Names.{pick, encode, bytes, seen, extended, seen_in, Escape, special, special_no_newline, escape, line_start, at_newline}
-use Rattle.roff_escape.proofs.Names.{Piece, piece, line_end, line_here, escape_all, line_after, font_escape, Followed, Pushed}
+use Rattle.roff_escape.proofs.Names.{ℕ, ◌≡◌, refl, sym, ap, ◌∙◌, Bool, true, false, List, [], ◌∷◌, ◌++◌, when◌then◌else◌}
+use Rattle.roff_escape.proofs.Names.{pick, encode, bytes, Escape, special, special_no_newline, escape, line_start, at_newline}
+use Rattle.roff_escape.proofs.Names.{Piece, piece, line_end, line_here, escape_all, line_after, font_escape, Laid, Composed, escaped, with_pieces}
+use Rattle.roff_escape.proofs.Names.{roff_of, pushed, composed, Lent, with_bytes, with_bytes_twice, with_none, ap₂}
+use Rattle.std.specs.Borrow.{GName}
 use Rattle.roff_escape.specs.declared.roff.Roff.{Roff}
 use Rattle.roff_escape.specs.declared.roff.Font.{Font}
 use Rattle.roff_escape.specs.declared.roff.Font.TheVariants as font
-use Rattle.roff_escape.proofs.Escaping.{puts, puts_nothing, puts_two}
+use Rattle.roff_escape.proofs.Escaping.{laid_same}
 use Rattle.roff_escape.proofs.Buffer.{all_append, after-append, all_one, after_one}
 
 -- The line end before a piece
@@ -45,24 +47,25 @@ module _ (mode : Escape) (start : Bool) where
 
 -- One piece
 
-module _ (mode : Escape) (x old new : List ℕ) (len r : ℕ) (start fresh : Bool) where
+module _ (mode : Escape) (x : List ℕ) where
   -- the line end, and then its bytes
-  pub piece_made : (mid : List ℕ) (n : ℕ) (here : Bool) → length mid ≡ length old
-      → seen mid n ≡ (seen old len >>= extended (length old) (line_end mode start)) → here ≡ line_here mode start
-      → seen new r ≡ (seen mid n >>= extended (length mid) (escape mode here x)) → fresh ≡ line_start mode here x
-      → (seen new r ≡ (seen old len >>= extended (length old) (escape_all start (piece mode x ∷ [])))) × (fresh ≡ line_after start (piece mode x ∷ []))
-  piece_made mid n here k e h f g = (
-    puts old new len r _ _ (all_one mode x start ∙ ap (λ (b : Bool). line_end mode start ++ escape mode b x) (sym h))
-        (puts_two old mid new len n r _ _ k e f),
-    g ∙ ap (λ (b : Bool). line_start mode b x) h ∙ sym (after_one mode x start),
-  )
+  pub piece_made : (p q r : Laid) → q.text ≡ with_bytes (line_end mode p.fresh) p.text → q.fresh ≡ line_here mode p.fresh → r ≡ escaped mode x q
+      → r ≡ with_pieces (piece mode x ∷ []) p
+  piece_made p q r e f w =
+      w ∙ laid_same
+      (ap₂ (λ (t : Lent) (b : Bool). with_bytes (escape mode b x) t) e f
+      ∙ with_bytes_twice p.text (line_end mode p.fresh) (escape mode (line_here mode p.fresh) x)
+      ∙ ap (λ (y : List ℕ). with_bytes y p.text) (sym (all_one mode x p.fresh)))
+      (ap (λ (b : Bool). line_start mode b x) f ∙ sym (after_one mode x p.fresh))
 
   -- its bytes alone, in a mode that asks for no line end
-  pub piece-put : at_newline mode ≡ false → seen new r ≡ (seen old len >>= extended (length old) (escape mode start x)) → fresh ≡ line_start mode start x
-      → (seen new r ≡ (seen old len >>= extended (length old) (escape_all start (piece mode x ∷ [])))) × (fresh ≡ line_after start (piece mode x ∷ []))
-  piece-put a f g =
-      piece_made old len start refl
-      (puts old old len len _ _ (no-line_unasked mode start a) (puts_nothing old len)) (here_unasked mode start a) f g
+  pub piece-put : at_newline mode ≡ false → (p : Laid) → escaped mode x p ≡ with_pieces (piece mode x ∷ []) p
+  piece-put a p =
+      laid_same
+      (ap (λ (y : List ℕ). with_bytes y p.text)
+      (sym (all_one mode x p.fresh
+      ∙ ap₂ (λ (y : List ℕ) (b : Bool). y ++ escape mode b x) (no-line_unasked mode p.fresh a) (sym (here_unasked mode p.fresh a)))))
+      (sym (after_one mode x p.fresh ∙ ap (λ (b : Bool). line_start mode b x) (sym (here_unasked mode p.fresh a))))
 
 -- the mode of text asks for none
 pub text_unasked : (strip : Bool) → at_newline (when strip then special_no_newline else special) ≡ false
@@ -70,27 +73,32 @@ text_unasked strip = pick (λ m. at_newline m ≡ false) strip (λ _. refl) (λ 
 
 -- Some pieces
 
-pub pushed_none : (room : List ℕ) (m : Roff) → Pushed [] room m room m
+-- the payload is what changes
+pub payload_same : {p q : Laid} (n : GName) (strip : Bool) → p ≡ q → composed n p strip ≡ composed n q strip
+payload_same n strip e = ap (λ (p : Laid). composed n p strip) e
+
+pub pushed_none : (m : Roff) → roff_of m ≡ pushed [] (roff_of m)
 unfolding escape_all line_after
-pushed_none room m = record { text = puts_nothing room m.len; line = refl; strip = refl }
+pushed_none m =
+    let t = m.text.now in
+    payload_same m.text.ghost_name m.strip (laid_same (sym (with_none t.room.ghost_name t.room.now t.len)) refl)
 
-module _ {ps qs : List Piece} {old mid new : List ℕ} {m n r : Roff} where
-  pub followed_then : {s t : Bool} → length mid ≡ length old → Followed ps s old m mid n → Followed qs t mid n new r → Followed (ps ++ qs) t old m new r
-  followed_then k a b = record {
-    text = puts old new m.len r.len _ _ (all_append m.fresh ps qs ∙ ap (λ (f : Bool). escape_all m.fresh ps ++ escape_all f qs) (sym a.line))
-        (puts_two old mid new m.len n.len r.len _ _ k a.text b.text);
-    line = b.line ∙ ap (λ (f : Bool). line_after f qs) a.line ∙ sym (after-append m.fresh ps qs);
-    strip = b.strip;
-  }
+pub pushed_twice : (m : Composed) (ps qs : List Piece) → pushed qs (pushed ps m) ≡ pushed (ps ++ qs) m
+pushed_twice m ps qs =
+    let p = m.payload in
+    payload_same m.loan m.strip
+    (laid_same
+    (with_bytes_twice p.text (escape_all p.fresh ps) (escape_all (line_after p.fresh ps) qs)
+    ∙ ap (λ (y : List ℕ). with_bytes y p.text) (sym (all_append p.fresh ps qs)))
+    (sym (after-append p.fresh ps qs)))
 
-  pub pushed_then : length mid ≡ length old → Pushed ps old m mid n → Pushed qs mid n new r → Pushed (ps ++ qs) old m new r
-  pushed_then k a b =
-      let f = followed_then k a b in
-      record { text = f.text; line = f.line; strip = b.strip ∙ a.strip }
+-- some, and then some others, where the first's end is the second's start
+pub pushed_then : (m n r : Composed) (ps qs : List Piece) → n ≡ pushed ps m → r ≡ pushed qs n → r ≡ pushed (ps ++ qs) m
+pushed_then m n r ps qs e w = w ∙ ap (λ (v : Composed). pushed qs v) e ∙ pushed_twice m ps qs
 
 -- the same pieces
-pub pushed-same : {ps qs : List Piece} {old new : List ℕ} {m r : Roff} → qs ≡ ps → Pushed ps old m new r → Pushed qs old m new r
-pushed-same e a = rw e a
+pub pushed-same : (m r : Composed) (ps qs : List Piece) → qs ≡ ps → r ≡ pushed ps m → r ≡ pushed qs m
+pushed-same m r ps qs e w = w ∙ ap (λ (x : List Piece). pushed x m) (sym e)
 
 module _ (f : Font) where
   pub font_roman : f ≡ font.Roman → font_escape f ≡ 0x5C ∷ 0x66 ∷ 0x52 ∷ []
@@ -104,10 +112,3 @@ module _ (f : Font) where
   pub font_italic : f ≡ font.Italic → font_escape f ≡ 0x5C ∷ 0x66 ∷ 0x49 ∷ []
   unfolding font_escape bytes encode when◌then◌else◌
   font_italic e = rw e
-
--- The preamble
-
--- what goes out first
-pub first_made : (old new : List ℕ) (r : ℕ) (x : List ℕ) → seen new r ≡ (seen old 0 >>= extended (length old) x) → seen new r ≡ extended (length old) x []
-unfolding ◌>>=◌
-first_made old new r x e = e ∙ ap (λ (s : Result (List ℕ)). s >>= extended (length old) x) (seen_in old 0 (omega arith))

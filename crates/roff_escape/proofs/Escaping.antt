@@ -1,38 +1,21 @@
 -- Bytes in a mode, as the code writes them one by one. Assumes nothing.
-use Rattle.roff_escape.proofs.Names.{ℕ, zero, suc, ◌+◌, ◌≤◌, ◌<◌, ◌≡◌, refl, sym, ap, ◌∙◌, Bool, true, false, false≢true, ⊎_elim, List, [], ◌∷◌, ◌++◌}
-use Rattle.roff_escape.proofs.Names.{append_assoc, append-nil, eqb, length, take, drop, get_or, length-take-le, drop-cons, add-one, arith, ne_eqb}
-use Rattle.roff_escape.proofs.Names.{when◌then◌else◌, Result, gives, ◌>>=◌, le_or_lt, bind_same, bind_assoc, encode, bytes, seen, extended, seen_in}
-use Rattle.roff_escape.proofs.Names.{seen-out, extended_in, extended_twice, Escape, unescaped_at_newline, spaces, special, special_no_newline, unescaped}
+use Rattle.roff_escape.proofs.Names.{ℕ, zero, suc, ◌+◌, ◌<◌, ◌≡◌, refl, sym, ap, ◌∙◌, Bool, true, false, false≢true, ⊎_elim, List, [], ◌∷◌, ◌++◌}
+use Rattle.roff_escape.proofs.Names.{append_assoc, append-nil, eqb, length, drop, get_or, drop-cons, add-one, arith, ne_eqb}
+use Rattle.roff_escape.proofs.Names.{when◌then◌else◌, encode, bytes}
+use Rattle.roff_escape.proofs.Names.{Escape, unescaped_at_newline, spaces, special, special_no_newline, unescaped}
 use Rattle.roff_escape.proofs.Names.{guard, backslash, replaced, spaces_byte, escape_byte, starts_line, escape, line_start, as_it_is}
+use Rattle.roff_escape.proofs.Names.{Laid, laid, escaped, Lent, Text, text_of, with_bytes, with_bytes_twice, with_none, with_same, ap₂}
 use mathlib.Core.Logic.{◌⊎◌, inl, inr}
 
 -- Writes
 
 -- a write of the same bytes
-pub puts : (old new : List ℕ) (len r : ℕ) (x y : List ℕ) → y ≡ x → seen new r ≡ (seen old len >>= extended (length old) x)
-    → seen new r ≡ (seen old len >>= extended (length old) y)
-puts old new len r x y e f = f ∙ ap (λ (z : List ℕ). seen old len >>= extended (length old) z) (sym e)
+pub puts : (u v : Lent) (x y : List ℕ) → y ≡ x → u ≡ with_bytes x v → u ≡ with_bytes y v
+puts u v x y e w = with_same u v x y (sym e) w
 
 -- a write of nothing
-pub puts_nothing : (room : List ℕ) (len : ℕ) → seen room len ≡ (seen room len >>= extended (length room) [])
-unfolding ◌>>=◌
-puts_nothing room len =
-    ⊎_elim
-    (λ (h : len ≤ length room).
-    let k : length (take len room) ≡ len = length-take-le len room h in
-    rw (seen_in room len h) (sym (extended_in (length room) [] (take len room) (omega arith) ∙ ap gives (append-nil (take len room)))))
-    (λ (h : length room < len). rw (seen-out room len h) refl)
-    (le_or_lt len (length room))
-
--- two writes, one after the other
-pub puts_two : (old mid new : List ℕ) (len m r : ℕ) (x y : List ℕ) → length mid ≡ length old
-    → seen mid m ≡ (seen old len >>= extended (length old) x) → seen new r ≡ (seen mid m >>= extended (length mid) y)
-    → seen new r ≡ (seen old len >>= extended (length old) (x ++ y))
-puts_two old mid new len m r x y k e f =
-    f ∙ ap (λ (n : ℕ). seen mid m >>= extended n y) k
-    ∙ ap (λ (s : Result (List ℕ)). s >>= extended (length old) y) e
-    ∙ sym (bind_assoc (seen old len) (extended (length old) x) (extended (length old) y))
-    ∙ bind_same (seen old len) _ _ (extended_twice (length old) x y)
+pub puts_nothing : (t : Text) (x : List ℕ) → x ≡ [] → text_of t ≡ with_bytes x (text_of t)
+puts_nothing t x e = puts _ _ [] x e (sym (with_none t.room.ghost_name t.room.now t.len))
 
 -- One byte
 
@@ -135,47 +118,34 @@ line-last start (c ∷ []) (suc k) e = absurd (omega arith)
 line-last start (c ∷ d ∷ x) zero e = absurd (omega arith)
 line-last start (c ∷ d ∷ x) (suc k) e = line-last (eqb c 0x0A) (d ∷ x) k (omega arith)
 
--- Of a text x, which goes after the first `len` bytes of a room, y is left: what stands in the room up to n, and y escaped, is x escaped.
-pub record Escaped (mode : Escape) (start : Bool) (x old : List ℕ) (len : ℕ) (new : List ℕ) (n : ℕ) (fresh : Bool) (y : List ℕ) : Type 0 where
-  pub size : length new ≡ length old
-  pub text : (seen new n >>= extended (length old) (escape mode fresh y)) ≡ (seen old len >>= extended (length old) (escape mode start x))
-  pub line : line_start mode fresh y ≡ line_start mode start x
+-- What was written: a text, and whether a line starts after it
 
-module _ (mode : Escape) (start : Bool) (x old : List ℕ) (len : ℕ) where
-  pub escaped-start : Escaped mode start x old len old len start x
-  escaped-start = record { size = refl; text = refl; line = refl }
+pub laid_same : {t u : Lent} {f g : Bool} → t ≡ u → f ≡ g → laid t f ≡ laid u g
+laid_same e f = ap₂ laid e f
 
-  module _ {room : List ℕ} {n : ℕ} {fresh : Bool} {y : List ℕ} (s : Escaped mode start x old len room n fresh y) where
-    -- the first part of what is left goes out
-    pub escaped-part : (a b : List ℕ) → y ≡ a ++ b → (new : List ℕ) (r : ℕ) → length new ≡ length room
-        → seen new r ≡ (seen room n >>= extended (length room) (escape mode fresh a)) → Escaped mode start x old len new r (line_start mode fresh a) b
-    escaped-part a b q new r k e =
-        let after = line_start mode fresh a in
-        record {
-          size = k ∙ s.size;
-          text = ap (λ (t : Result (List ℕ)). t >>= extended (length old) (escape mode after b))
-              (e ∙ ap (λ (m : ℕ). seen room n >>= extended m (escape mode fresh a)) s.size)
-              ∙ sym (bind_assoc (seen room n) (extended (length old) (escape mode fresh a)) (extended (length old) (escape mode after b)))
-              ∙ bind_same (seen room n) _ _ (extended_twice (length old) (escape mode fresh a) (escape mode after b))
-              ∙ ap (λ (z : List ℕ). seen room n >>= extended (length old) z) (sym (ap (escape mode fresh) q ∙ escape-append mode fresh a b))
-              ∙ s.text;
-          line = sym (ap (line_start mode fresh) q ∙ line-append mode fresh a b) ∙ s.line;
-        }
+module _ (mode : Escape) where
+  -- nothing is left to go out
+  pub escaped-none : (t : Text) (start : Bool) (x : List ℕ) → x ≡ [] → escaped mode x (laid (text_of t) start) ≡ laid (text_of t) start
+  unfolding escape line_start
+  escaped-none t start x e = rw e (laid_same (with_none t.room.ghost_name t.room.now t.len) refl)
 
-    -- a byte of it goes out
-    pub escaped_byte : (c : ℕ) (b : List ℕ) → y ≡ c ∷ b → (new : List ℕ) (r : ℕ) → length new ≡ length room
-        → seen new r ≡ (seen room n >>= extended (length room) (escape_byte mode fresh c)) → Escaped mode start x old len new r (starts_line mode c) b
-    unfolding escape line_start
-    escaped_byte c b q new r k e = escaped-part (c ∷ []) b q new r k (puts room new n r _ _ (append-nil (escape_byte mode fresh c)) e)
+  -- some bytes, and then some others
+  pub escaped_then : (p : Laid) (a b x : List ℕ) → x ≡ a ++ b → escaped mode b (escaped mode a p) ≡ escaped mode x p
+  escaped_then p a b x e =
+      laid_same
+      (with_bytes_twice p.text (escape mode p.fresh a) (escape mode (line_start mode p.fresh a) b)
+      ∙ ap (λ (y : List ℕ). with_bytes y p.text) (sym (ap (escape mode p.fresh) e ∙ escape-append mode p.fresh a b)))
+      (sym (ap (line_start mode p.fresh) e ∙ line-append mode p.fresh a b))
 
-    -- nothing is left
-    pub escaped-end : y ≡ [] → (seen room n ≡ (seen old len >>= extended (length old) (escape mode start x))) × (fresh ≡ line_start mode start x)
-    unfolding escape line_start
-    escaped-end z = (
-      puts_nothing room n ∙ ap (λ (m : ℕ). seen room n >>= extended m []) s.size
-          ∙ ap (λ (v : List ℕ). seen room n >>= extended (length old) (escape mode fresh v)) (sym z) ∙ s.text,
-      sym (ap (line_start mode fresh) z) ∙ s.line,
-    )
+  -- the first part of what is left went out
+  pub escaped_more : (p q r : Laid) (a b x y : List ℕ) → q ≡ escaped mode a p → x ≡ a ++ b → escaped mode x p ≡ escaped mode y r
+      → escaped mode b q ≡ escaped mode y r
+  escaped_more p q r a b x y w e s = ap (λ (v : Laid). escaped mode b v) w ∙ escaped_then p a b x e ∙ s
+
+  -- a byte
+  pub escaped_byte : (p : Laid) (c : ℕ) → escaped mode (c ∷ []) p ≡ laid (with_bytes (escape_byte mode p.fresh c) p.text) (starts_line mode c)
+  unfolding escape line_start
+  escaped_byte p c = laid_same (ap (λ (y : List ℕ). with_bytes y p.text) (append-nil (escape_byte mode p.fresh c))) refl
 
 -- the bytes of a list from a place on
 pub from-here : (s : List ℕ) (i : ℕ) → i < length s → drop i s ≡ get_or s i 0 ∷ drop (i + 1) s

@@ -1,13 +1,13 @@
 -- What functions here promise their callers, beyond the rules; no rule of 01 stands here.
-use Rattle.std.specs.Prelude.{ℕ, ◌+◌, ◌-◌, ◌≤◌, ◌<◌, ◌≡◌, Bool, true, false, not, ◌&&◌, ◌||◌, List, [], ◌∷◌, ◌++◌, eqb, length, take}
+use Rattle.std.specs.Prelude.{ℕ, ◌≤◌, ◌≡◌, Bool, true, false, not, ◌&&◌, ◌||◌, List, [], ◌∷◌, eqb, length}
+use Rattle.std.specs.Borrow.{GName}
 use Rattle.base.specs.Bytes.{part}
 use Rattle.base.specs.Choice.{when◌then◌else◌}
-use Rattle.base.specs.Result.{◌>>=◌}
 use Rattle.utf8.specs.Utf8.{bytes}
-use Rattle.room.specs.Room.{seen, extended}
+use Rattle.room.specs.Lent.{Lent, text_of, with_bytes}
 use Rattle.roff_escape.specs.declared.escape.Escape.{Escape}
 use Rattle.roff_escape.specs.declared.roff.Roff.{Roff}
-use Rattle.roff_escape.specs.Escape.{unescaped_at_newline, spaces, special, special_no_newline, unescaped}
+use Rattle.roff_escape.specs.Escape.{unescaped_at_newline, spaces, special, special_no_newline, unescaped, escape, line_start, preamble}
 use Rattle.roff_escape.specs.Monoid.{Piece, piece, escape_all, line_after}
 
 -- the mode of text, where line ends are stripped from it or not
@@ -31,24 +31,56 @@ unfoldable pub all_plain : List ℕ → Bool
 all_plain [] = true
 all_plain (c ∷ x) = plain c && all_plain x
 
--- The bytes of x from `at` up to `to`, all plain, were copied after the first `len` bytes of a room, which stay; where there are any, they fit.
-pub record Copies (x : List ℕ) (at len : ℕ) (old new : List ℕ) (to : ℕ) : Type 0 where
+-- What was written: a text in a lent room, and whether a line starts after it.
+pub record Laid : Type 0 where
+  pub text : Lent
+  pub fresh : Bool
+
+abbrev pub laid : Lent → Bool → Laid
+laid t start = record { text = t; fresh = start }
+
+-- some bytes in a mode went out
+abbrev pub escaped : Escape → List ℕ → Laid → Laid
+escaped mode x p = laid (with_bytes (escape mode p.fresh x) p.text) (line_start mode p.fresh x)
+
+-- some pieces went out
+abbrev pub with_pieces : List Piece → Laid → Laid
+with_pieces ps p = laid (with_bytes (escape_all p.fresh ps) p.text) (line_after p.fresh ps)
+
+-- What a `Roff` holds: which loan of a text, what was written, and whether line ends are stripped from text from here on.
+pub record Composed : Type 0 where
+  pub loan : GName
+  pub payload : Laid
+  pub strip : Bool
+
+abbrev pub composed : GName → Laid → Bool → Composed
+composed n p strip = record { loan = n; payload = p; strip = strip }
+
+abbrev pub roff_of : Roff → Composed
+roff_of m = composed m.text.ghost_name (laid (text_of m.text.now) m.fresh) m.strip
+
+-- the preamble was written to a text
+abbrev pub begun : GName → Lent → Composed
+begun n t = composed n (laid (with_bytes preamble t) true) false
+
+-- some bytes in a mode went out
+abbrev pub with_escaped : Escape → List ℕ → Composed → Composed
+with_escaped mode x m = composed m.loan (escaped mode x m.payload) m.strip
+
+-- some pieces were pushed
+abbrev pub pushed : List Piece → Composed → Composed
+pushed ps m = composed m.loan (with_pieces ps m.payload) m.strip
+
+-- line ends are stripped from here on, or not
+abbrev pub stripped : Bool → Composed → Composed
+stripped x m = composed m.loan m.payload x
+
+-- The bytes of x from `at` up to `to`, all plain, went out after a text.
+pub record Copies (x : List ℕ) (at : ℕ) (old new : Lent) (to : ℕ) : Type 0 where
   pub order : at ≤ to
   pub within : at ≤ length x → to ≤ length x
-  pub fits : at < to → len + (to - at) ≤ length old
-  pub copied : take (len + (to - at)) new ≡ take len old ++ part x at to
+  pub copied : new ≡ with_bytes (part x at to) old
   pub plains : all_plain (part x at to) ≡ true
-
--- Some pieces were pushed: the text in the room is longer by their bytes, or past the room; whether a line starts after them; and whether
--- line ends are stripped from text from here on.
-pub record Followed (ps : List Piece) (strips : Bool) (old : List ℕ) (m : Roff) (new : List ℕ) (r : Roff) : Type 0 where
-  pub text : seen new r.len ≡ (seen old m.len >>= extended (length old) (escape_all m.fresh ps))
-  pub line : r.fresh ≡ line_after m.fresh ps
-  pub strip : r.strip ≡ strips
-
--- the same, where that stays as it was
-abbrev pub Pushed : List Piece → List ℕ → Roff → List ℕ → Roff → Type 0
-Pushed ps old m new r = Followed ps m.strip old m new r
 
 -- what a control line begins with
 unfoldable pub control_name : List ℕ → List Piece

@@ -1,13 +1,13 @@
 // Escape bytes by roff's rules, into a lent room (src/buffer/manpage/escape.rs).
-ghost use Rattle.std.specs.Prelude.{◌≡◌, not, ◌&&◌, ◌+◌, ◌≤◌, length, take, drop};
-ghost use Rattle.base.specs.Bytes.{part, overwritten};
+ghost use Rattle.std.specs.Prelude.{◌≡◌, not, ◌&&◌, ◌+◌, ◌≤◌, min, length, take};
+ghost use Rattle.base.specs.Bytes.{part};
 ghost use Rattle.base.specs.Choice.{when◌then◌else◌ as choose};
-ghost use Rattle.base.specs.Result.{◌>>=◌ as bind};
-ghost use Rattle.room.specs.Room.{seen, extended};
+ghost use Rattle.room.specs.Lent.{text_of, with_bytes};
 ghost use Rattle.splitter.specs.Split.{before};
-ghost use Rattle.runs.specs.InnerRuns.{among};
-ghost use Rattle.roff_escape.specs.Escape.{guard, backslash, replaced, special_byte, spaces_byte, escape_byte, starts_line, escape, line_start};
-ghost use Rattle.roff_escape.specs.InnerParts.{text_mode, plain, Copies};
+ghost use Rattle.roff_escape.specs.Escape.{guard, backslash, replaced, special_byte, spaces_byte, escape_byte, starts_line};
+ghost use Rattle.roff_escape.specs.InnerParts.{text_mode, plain, Copies, laid, escaped};
+
+use room::Text;
 
 // Escaping rules.
 #[derive(Clone, Copy)]
@@ -24,75 +24,68 @@ pub enum Escape {
     Unescaped,
 }
 
-// The length of the text so far, and whether a line starts there.
-#[derive(Clone, Copy)]
-pub struct Payload {
-    pub len: usize,
-    pub fresh: bool,
-}
-
 // A full stop and an apostrophe are guarded at the start of a line.
-fn put_guard(room: &mut [u8], len: usize, start: bool, c: u8) -> usize
-    ensures { seen room.new result ≡ bind (seen room.old len) (extended (length room.old) (guard start c)) }
+fn put_guard(t: &mut Text, start: bool, c: u8)
+    ensures { text_of t.new ≡ with_bytes (guard start c) (text_of t.old) }
 {
     if !start {
-        return len;
+        return;
     }
     match c {
-        b'.' | b'\'' => room::put_all(room, len, b"\\&"),
-        _ => len,
+        b'.' | b'\'' => t.put_all(b"\\&"),
+        _ => {}
     }
 }
 
-fn put_backslash(room: &mut [u8], len: usize, c: u8) -> usize
-    ensures { seen room.new result ≡ bind (seen room.old len) (extended (length room.old) (backslash c)) }
+fn put_backslash(t: &mut Text, c: u8)
+    ensures { text_of t.new ≡ with_bytes (backslash c) (text_of t.old) }
 {
     match c {
-        b'\\' | b'-' => room::put(room, len, b'\\'),
-        _ => len,
+        b'\\' | b'-' => t.put(b'\\'),
+        _ => {}
     }
 }
 
 // An apostrophe becomes APOSTROPHE, and a line end the byte given for it.
-fn put_replaced(room: &mut [u8], len: usize, ends: u8, c: u8) -> usize
-    ensures { seen room.new result ≡ bind (seen room.old len) (extended (length room.old) (replaced ends c)) }
+fn put_replaced(t: &mut Text, ends: u8, c: u8)
+    ensures { text_of t.new ≡ with_bytes (replaced ends c) (text_of t.old) }
 {
     match c {
-        b'\'' => room::put_all(room, len, b"\\*(Aq"),
-        b'\n' => room::put(room, len, ends),
-        _ => room::put(room, len, c),
+        b'\'' => t.put_all(b"\\*(Aq"),
+        b'\n' => t.put(ends),
+        _ => t.put(c),
     }
 }
 
 // A byte of text.
-fn put_special(room: &mut [u8], len: usize, ends: u8, start: bool, c: u8) -> usize
-    ensures { seen room.new result ≡ bind (seen room.old len) (extended (length room.old) (special_byte ends start c)) }
+fn put_special(t: &mut Text, ends: u8, start: bool, c: u8)
+    ensures { text_of t.new ≡ with_bytes (special_byte ends start c) (text_of t.old) }
 {
-    let guarded = put_guard(room, len, start, c);
-    let marked = put_backslash(room, guarded, c);
-    put_replaced(room, marked, ends, c)
+    put_guard(t, start, c);
+    put_backslash(t, c);
+    put_replaced(t, ends, c);
 }
 
 // A byte of a control line's argument.
-fn put_space(room: &mut [u8], len: usize, c: u8) -> usize
-    ensures { seen room.new result ≡ bind (seen room.old len) (extended (length room.old) (spaces_byte c)) }
+fn put_space(t: &mut Text, c: u8)
+    ensures { text_of t.new ≡ with_bytes (spaces_byte c) (text_of t.old) }
 {
     match c {
-        b' ' | b'\n' => room::put_all(room, len, b"\\ "),
-        _ => room::put(room, len, c),
+        b' ' | b'\n' => t.put_all(b"\\ "),
+        _ => t.put(c),
     }
 }
 
 // A byte in a mode.
-pub fn put_byte(room: &mut [u8], len: usize, mode: Escape, start: bool, c: u8) -> usize
-    ensures { seen room.new result ≡ bind (seen room.old len) (extended (length room.old) (escape_byte mode start c)) }
+pub fn put_byte(t: &mut Text, mode: Escape, start: bool, c: u8)
+    ensures { text_of t.new ≡ with_bytes (escape_byte mode start c) (text_of t.old) }
 {
     match mode {
-        Escape::UnescapedAtNewline => room::put(room, len, c),
-        Escape::Spaces => put_space(room, len, c),
-        Escape::Special => put_special(room, len, b'\n', start, c),
-        Escape::SpecialNoNewline => put_special(room, len, b' ', start, c),
-        Escape::Unescaped => room::put(room, len, c),
+        Escape::UnescapedAtNewline => t.put(c),
+        Escape::Spaces => put_space(t, c),
+        Escape::Special => put_special(t, b'\n', start, c),
+        Escape::SpecialNoNewline => put_special(t, b' ', start, c),
+        Escape::Unescaped => t.put(c),
     }
 }
 
@@ -106,28 +99,23 @@ pub fn starts_line(mode: Escape, c: u8) -> bool
     }
 }
 
-// 'for &c in payload.as_bytes()': some bytes in a mode.
-pub fn escape_bytes(room: &mut [u8], len: usize, mode: Escape, start: bool, bytes: &[u8]) -> Payload
-    ensures text { seen room.new result.len ≡ bind (seen room.old len) (extended (length room.old) (escape mode start bytes.now)) }
-    ensures line { result.fresh ≡ line_start mode start bytes.now }
+// 'for &c in payload.as_bytes()': some bytes in a mode, after the start of a line or not; whether a line starts after them.
+pub fn escape_bytes(t: &mut Text, mode: Escape, start: bool, bytes: &[u8]) -> bool
+    ensures { laid (text_of t.new) result ≡ escaped mode bytes.now (laid (text_of t.old) start) }
 {
-    let mut n = len;
     let mut fresh = start;
     for &c in bytes {
-        n = put_byte(room, n, mode, fresh, c);
+        put_byte(t, mode, fresh, c);
         fresh = starts_line(mode, c);
     }
-    Payload { len: n, fresh }
+    fresh
 }
 
-// A byte that text leaves as it is, save at the start of a line.
+// A byte that text leaves as it is, save at the start of a line. No test hangs on another, so that the compiler makes them for 16 bytes at a time.
 fn is_plain(c: u8) -> bool
     ensures { result ≡ plain c }
 {
-    match c {
-        b'\n' | b'\'' | b'-' | b'\\' => false,
-        _ => true,
-    }
+    !((c == b'\n') | (c == b'\'') | (c == b'-') | (c == b'\\'))
 }
 
 // Whether a byte of text stays as it is: a plain one, not at the start of a line.
@@ -137,60 +125,48 @@ fn plain_here(fresh: bool, c: u8) -> bool
     !fresh && is_plain(c)
 }
 
-// Copies 32 bytes; says how many of them are before the first that is not plain. A local block stands between, since a compiler cannot tell
-// that the two places do not overlap.
-fn copy_block(room: &mut [u8], len: usize, bytes: &[u8], at: usize) -> usize
-    requires { (at + 32 ≤ length bytes.now) × (len + 32 ≤ length room.old) }
-    ensures text { room.new ≡ overwritten room.old len (take 32 (drop at bytes.now)) }
-    ensures plain { result ≡ length (before (among 0x0A 0x27 0x2D 0x5C) (take 32 (drop at bytes.now))) }
+// Copies 32 bytes, of which those before the first that is not plain are taken, and at most so many; says how many. A local block stands between,
+// since a compiler cannot tell that the two places do not overlap. What stands in the room past the text is free.
+fn copy_block(t: &mut Text, bytes: &[u8; 32], most: usize) -> usize
+    requires { t.old.len + 32 ≤ length t.old.room.now }
+    ensures plain { result ≡ min most (length (before (λ c. not (plain c)) bytes.now)) }
+    ensures text { text_of t.new ≡ with_bytes (take result bytes.now) (text_of t.old) }
 {
-    let mut block: [u8; 32] = [0; 32];
-    base::copy_from_slice(&mut block, 0, &bytes[at..at + 32]);
-    base::copy_from_slice(room, len, &block);
-    runs::first_of(bytes, at, b'\n', b'\'', b'-', b'\\')
+    let block = *bytes;
+    let room = &mut *t.room;
+    base::copy_from_slice(room, t.len, &block);
+    let k = most.min(runs::first_of(bytes, |c| !is_plain(c)));
+    t.len += k;
+    k
 }
 
-// Copies the plain bytes from a place up to another one by one, as many as fit; says where it stopped.
-// A place in the text and one in the room move on together, and either may end first: a `for` over the one leaves the other to count.
-fn copy_bytes(room: &mut [u8], len: usize, bytes: &[u8], at: usize, stop: usize) -> usize
-    requires { stop ≤ length bytes.now }
-    ensures { Copies (take stop bytes.now) at len room.old room.new result }
+// Copies the plain bytes that some begin with; says how many.
+fn copy_bytes(t: &mut Text, bytes: &[u8]) -> usize
+    ensures plain { result ≡ length (before (λ c. not (plain c)) bytes.now) }
+    ensures text { text_of t.new ≡ with_bytes (take result bytes.now) (text_of t.old) }
 {
-    let mut i = at;
-    let mut n = len;
-    while i < stop {
-        let c = bytes[i];
-        if !is_plain(c) || room.len() <= n {
-            return i;
-        }
-        room[n] = c;
-        n += 1;
-        i += 1;
-    }
-    i
+    let found = bytes.iter().position(|c| !is_plain(*c));
+    let k = found.unwrap_or(bytes.len());
+    t.put_all(&bytes[..k]);
+    k
 }
 
-// Copies the plain bytes from a place up to another, as many as fit; says where it stopped. Whole blocks are copied, also where the run ends
-// within one: what stands in the room past the length is free. The steps are of up to 32 bytes, so no `for`.
-fn copy_plain(room: &mut [u8], len: usize, bytes: &[u8], at: usize, stop: usize) -> usize
+// Copies the plain bytes from a place up to another; says where it stopped. Whole blocks are copied, also where the run ends within one. The steps
+// are of up to 32 bytes and end within a block: a `for` over blocks would need the place, and the end of the run, beside it.
+fn copy_plain(t: &mut Text, bytes: &[u8], at: usize, stop: usize) -> usize
     requires { stop ≤ length bytes.now }
-    ensures { Copies (take stop bytes.now) at len room.old room.new result }
+    ensures { Copies (take stop bytes.now) at (text_of t.old) (text_of t.new) result }
 {
     let mut i = at;
-    let mut n = len;
     while i < stop {
-        if room.len() <= n {
-            return i;
+        if t.room.len().saturating_sub(t.len) < 32 {
+            return i + copy_bytes(t, &bytes[i..stop]);
         }
-        if room.len() - n < 32 || bytes.len() - i < 32 {
-            return copy_bytes(room, n, bytes, i, stop);
-        }
-        let k = copy_block(room, n, bytes, i);
-        if stop - i <= k {
-            return stop;
-        }
+        let Some(block) = bytes[i..].first_chunk::<32>() else {
+            return i + copy_bytes(t, &bytes[i..stop]);
+        };
+        let k = copy_block(t, block, stop - i);
         i += k;
-        n += k;
         if k < 32 {
             return i;
         }
@@ -206,13 +182,14 @@ fn line_byte(strip: bool) -> u8
 }
 
 // A byte of text, where line ends are stripped or not. Most that are not plain are hyphens.
-fn put_text_byte(room: &mut [u8], len: usize, strip: bool, start: bool, c: u8) -> usize
-    ensures { seen room.new result ≡ bind (seen room.old len) (extended (length room.old) (escape_byte (text_mode strip) start c)) }
+fn put_text_byte(t: &mut Text, strip: bool, start: bool, c: u8)
+    ensures { text_of t.new ≡ with_bytes (escape_byte (text_mode strip) start c) (text_of t.old) }
 {
     if c == b'-' {
-        return room::put_all(room, len, b"\\-");
+        t.put_all(b"\\-");
+        return;
     }
-    put_special(room, len, line_byte(strip), start, c)
+    put_special(t, line_byte(strip), start, c);
 }
 
 // Whether the byte of text after this one counts as the first of a line.
@@ -225,34 +202,29 @@ fn starts_text_line(strip: bool, c: u8) -> bool
 // The bytes of a text from a place up to another, as `escape_bytes` writes them; most are plain, and those are copied by runs. The steps
 // are runs, so no `for`.
 pub fn escape_text(
-    room: &mut [u8],
-    len: usize,
+    t: &mut Text,
     strip: bool,
     start: bool,
     bytes: &[u8],
     from: usize,
     to: usize,
-) -> Payload
-    ensures text { seen room.new result.len ≡ bind (seen room.old len) (extended (length room.old) (escape (text_mode strip) start (part bytes.now from to))) }
-    ensures line { result.fresh ≡ line_start (text_mode strip) start (part bytes.now from to) }
+) -> bool
+    ensures { laid (text_of t.new) result ≡ escaped (text_mode strip) (part bytes.now from to) (laid (text_of t.old) start) }
 {
     let stop = to.min(bytes.len());
-    let mut n = len;
     let mut fresh = start;
     let mut i = from;
     while i < stop {
         if plain_here(fresh, bytes[i]) {
-            let k = copy_plain(room, n, bytes, i, stop);
-            n += k - i;
-            i = k;
+            i = copy_plain(t, bytes, i, stop);
             if stop <= i {
-                return Payload { len: n, fresh };
+                return fresh;
             }
         }
         let c = bytes[i];
-        n = put_text_byte(room, n, strip, fresh, c);
+        put_text_byte(t, strip, fresh, c);
         fresh = starts_text_line(strip, c);
         i += 1;
     }
-    Payload { len: n, fresh }
+    fresh
 }

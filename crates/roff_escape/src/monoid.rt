@@ -1,30 +1,18 @@
 // The labelled buffer (src/buffer/manpage/monoid.rs). It is not stored: 'roff bytes are written as they arise', so that a piece goes through
-// `escape` as it is pushed. What stands for the buffer is a `Payload`: how long the text is, and whether a line starts there.
-ghost use Rattle.std.specs.Prelude.{◌≡◌, [], ◌∷◌, length};
-ghost use Rattle.base.specs.Result.{◌>>=◌ as bind};
-ghost use Rattle.room.specs.Room.{seen, extended};
+// `escape` as it is pushed. What stands for the buffer is the text, and whether a line starts after it.
+ghost use Rattle.std.specs.Prelude.{◌≡◌, [], ◌∷◌};
+ghost use Rattle.room.specs.Lent.{text_of, with_bytes};
 ghost use Rattle.roff_escape.specs.Escape.{at_newline, unescaped, line_start};
-ghost use Rattle.roff_escape.specs.Monoid.{piece, line_end, line_here, escape_all, line_after};
-ghost use Rattle.roff_escape.specs.InnerParts.{as_it_is};
+ghost use Rattle.roff_escape.specs.Monoid.{piece, line_end, line_here};
+ghost use Rattle.roff_escape.specs.InnerParts.{as_it_is, laid, with_pieces};
 
-use crate::escape::{Escape, Payload};
+use crate::escape::Escape;
+use room::Text;
 
 fn at_newline(mode: Escape) -> bool
     ensures { result ≡ at_newline mode }
 {
     matches!(mode, Escape::UnescapedAtNewline)
-}
-
-// A line end before what starts a line of its own.
-fn new_line(room: &mut [u8], at: Payload, mode: Escape) -> Payload
-    ensures text { seen room.new result.len ≡ bind (seen room.old at.len) (extended (length room.old) (line_end mode at.fresh)) }
-    ensures line { result.fresh ≡ line_here mode at.fresh }
-{
-    if at.fresh || !at_newline(mode) {
-        return at;
-    }
-    let len = room::put(room, at.len, b'\n');
-    Payload { len, fresh: true }
 }
 
 // The modes in which every byte stays as it is.
@@ -44,17 +32,27 @@ fn ends_line(start: bool, bytes: &[u8]) -> bool
     }
 }
 
-// `FreeMonoid::push_str`, escaped at once. Bytes that stay as they are go out in one write, which for a mark that is written out in the code
-// is one test and one or two stores.
-pub fn push_str(room: &mut [u8], at: Payload, mode: Escape, bytes: &[u8]) -> Payload
-    ensures text { seen room.new result.len ≡ bind (seen room.old at.len) (extended (length room.old) (escape_all at.fresh (piece mode bytes.now ∷ []))) }
-    ensures line { result.fresh ≡ line_after at.fresh (piece mode bytes.now ∷ []) }
+// A line end before what starts a line of its own; whether a line starts after that.
+fn new_line(t: &mut Text, start: bool, mode: Escape) -> bool
+    ensures text { text_of t.new ≡ with_bytes (line_end mode start) (text_of t.old) }
+    ensures line { result ≡ line_here mode start }
 {
-    let line = new_line(room, at, mode);
-    if as_it_is(mode) {
-        let len = room::put_all(room, line.len, bytes);
-        let fresh = ends_line(line.fresh, bytes);
-        return Payload { len, fresh };
+    if start || !at_newline(mode) {
+        return start;
     }
-    crate::escape::escape_bytes(room, line.len, mode, line.fresh, bytes)
+    t.put(b'\n');
+    true
+}
+
+// `FreeMonoid::push_str`, escaped at once, after the start of a line or not; whether a line starts after it. Bytes that stay as they are go out in one
+// write, which for a mark that is written out in the code is one test and one or two stores.
+pub fn push_str(t: &mut Text, start: bool, mode: Escape, bytes: &[u8]) -> bool
+    ensures { laid (text_of t.new) result ≡ with_pieces (piece mode bytes.now ∷ []) (laid (text_of t.old) start) }
+{
+    let fresh = new_line(t, start, mode);
+    if as_it_is(mode) {
+        t.put_all(bytes);
+        return ends_line(fresh, bytes);
+    }
+    crate::escape::escape_bytes(t, mode, fresh, bytes)
 }

@@ -1,18 +1,20 @@
 // Roff document composer (src/buffer/manpage/roff.rs).
-ghost use Rattle.std.specs.Prelude.{◌≡◌, true, false, [], ◌∷◌, length};
+ghost use Rattle.std.specs.Prelude.{◌≡◌, [], ◌∷◌};
 ghost use Rattle.base.specs.Bytes.{part};
-ghost use Rattle.room.specs.Room.{seen, extended};
+ghost use Rattle.room.specs.Lent.{text_of, with_bytes};
 ghost use Rattle.roff_escape.specs.Escape.{unescaped, preamble};
 ghost use Rattle.roff_escape.specs.Monoid.{piece};
 ghost use Rattle.roff_escape.specs.Composer.{font_escape, linebreak, control0, plaintext, text};
-ghost use Rattle.roff_escape.specs.InnerParts.{Pushed, control_name};
+ghost use Rattle.roff_escape.specs.InnerParts.{roff_of, with_escaped, pushed, stripped, control_name};
 
-use crate::escape::{Escape, Payload};
+use crate::escape::Escape;
+use room::Text;
 
-// `Roff`: the length of the text so far and whether a line starts there, which stand for its payload, and `strip_newlines`.
-#[derive(Clone, Copy)]
-pub struct Roff {
-    pub len: usize,
+// `Roff`: the text and whether a line starts after it, which stand for its payload, and `strip_newlines`. The text is lent, since of one that is held
+// within two structs Rattle does not tell what its room is when they end.
+#[derive(Drop)]
+pub struct Roff<'a, 'b> {
+    pub text: &'a mut Text<'b>,
     pub fresh: bool,
     pub strip: bool,
 }
@@ -23,65 +25,6 @@ pub enum Font {
     Roman,
     Bold,
     Italic,
-}
-
-// `Roff::new`, and the preamble, which `Roff::render` puts first; no part of it goes through `escape`, so that a line starts after it.
-pub fn put_preamble(room: &mut [u8]) -> Roff
-    ensures text { seen room.new result.len ≡ extended (length room.old) preamble [] }
-    ensures flags { (result.fresh ≡ true) × (result.strip ≡ false) }
-{
-    let len = room::put_all(room, 0, b".ie \\n(.g .ds Aq \\(aq\n.el .ds Aq '\n");
-    Roff {
-        len,
-        fresh: true,
-        strip: false,
-    }
-}
-
-// Chainable setter for `strip`.
-pub fn strip_newlines(m: Roff, state: bool) -> Roff
-    ensures { (result.len ≡ m.len) × (result.fresh ≡ m.fresh) × (result.strip ≡ state) }
-{
-    Roff { strip: state, ..m }
-}
-
-// `self.payload.push_str`
-pub fn push(room: &mut [u8], m: Roff, mode: Escape, bytes: &[u8]) -> Roff
-    ensures { Pushed (piece mode bytes.now ∷ []) room.old m room.new result }
-{
-    let at = Payload {
-        len: m.len,
-        fresh: m.fresh,
-    };
-    let line = crate::monoid::push_str(room, at, mode, bytes);
-    Roff {
-        len: line.len,
-        fresh: line.fresh,
-        ..m
-    }
-}
-
-// What a control line begins with.
-pub fn control_name(room: &mut [u8], m: Roff, name: &[u8]) -> Roff
-    ensures { Pushed (control_name name.now) room.old m room.new result }
-{
-    let a = push(room, m, Escape::UnescapedAtNewline, b".");
-    push(room, a, Escape::Unescaped, name)
-}
-
-// A line break in the source of the page.
-pub fn roff_linebreak(room: &mut [u8], m: Roff) -> Roff
-    ensures { Pushed linebreak room.old m room.new result }
-{
-    push(room, m, Escape::UnescapedAtNewline, b"")
-}
-
-// A control line without arguments.
-pub fn control0(room: &mut [u8], m: Roff, name: &[u8]) -> Roff
-    ensures { Pushed (control0 name.now) room.old m room.new result }
-{
-    let a = control_name(room, m, name);
-    roff_linebreak(room, a)
 }
 
 // The letter of a font in its escape.
@@ -95,31 +38,91 @@ fn letter(font: Font) -> u8
     }
 }
 
-// `Font::escape`, pushed.
-fn put_font(room: &mut [u8], m: Roff, font: Font) -> Roff
-    ensures { Pushed (piece unescaped (font_escape font) ∷ []) room.old m room.new result }
+// The preamble, which `Roff::render` puts first; no part of it goes through `escape`, so that a line starts after it.
+pub fn put_preamble(t: &mut Text)
+    ensures { text_of t.new ≡ with_bytes preamble (text_of t.old) }
 {
-    let mark: [u8; 3] = [b'\\', b'f', letter(font)];
-    push(room, m, Escape::Unescaped, &mark)
+    t.put_all(b".ie \\n(.g .ds Aq \\(aq\n.el .ds Aq '\n");
 }
 
-// The bytes of a text from a place up to another, with special bytes escaped.
-fn plaintext(room: &mut [u8], m: Roff, bytes: &[u8], from: usize, to: usize) -> Roff
-    ensures { Pushed (plaintext m.strip (part bytes.now from to) ∷ []) room.old m room.new result }
-{
-    let line = crate::escape::escape_text(room, m.len, m.strip, m.fresh, bytes, from, to);
-    Roff {
-        len: line.len,
-        fresh: line.fresh,
-        ..m
+impl<'a, 'b> Roff<'a, 'b> {
+    // Setter for `strip`.
+    pub fn strip_newlines(&mut self, state: bool)
+        ensures { roff_of self.new ≡ stripped state (roff_of self.old) }
+    {
+        self.strip = state;
     }
-}
 
-// The bytes of a text from a place up to another, in a font. More of the text is read than goes out, in blocks: so it comes whole.
-pub fn text(room: &mut [u8], m: Roff, font: Font, bytes: &[u8], from: usize, to: usize) -> Roff
-    ensures { Pushed (text m.strip font (part bytes.now from to)) room.old m room.new result }
-{
-    let a = put_font(room, m, font);
-    let b = plaintext(room, a, bytes, from, to);
-    push(room, b, Escape::Unescaped, b"\\fP")
+    // `self.payload.push_str`
+    pub fn push(&mut self, mode: Escape, bytes: &[u8])
+        ensures { roff_of self.new ≡ pushed (piece mode bytes.now ∷ []) (roff_of self.old) }
+    {
+        let text = &mut *self.text;
+        self.fresh = crate::monoid::push_str(text, self.fresh, mode, bytes);
+    }
+
+    // A byte in a mode.
+    pub fn put_byte(&mut self, mode: Escape, c: u8)
+        ensures { roff_of self.new ≡ with_escaped mode (c ∷ []) (roff_of self.old) }
+    {
+        let text = &mut *self.text;
+        crate::escape::put_byte(text, mode, self.fresh, c);
+        self.fresh = crate::escape::starts_line(mode, c);
+    }
+
+    // Some bytes in a mode.
+    pub fn escape_bytes(&mut self, mode: Escape, bytes: &[u8])
+        ensures { roff_of self.new ≡ with_escaped mode bytes.now (roff_of self.old) }
+    {
+        let text = &mut *self.text;
+        self.fresh = crate::escape::escape_bytes(text, mode, self.fresh, bytes);
+    }
+
+    // What a control line begins with.
+    pub fn control_name(&mut self, name: &[u8])
+        ensures { roff_of self.new ≡ pushed (control_name name.now) (roff_of self.old) }
+    {
+        self.push(Escape::UnescapedAtNewline, b".");
+        self.push(Escape::Unescaped, name);
+    }
+
+    // A line break in the source of the page.
+    pub fn roff_linebreak(&mut self)
+        ensures { roff_of self.new ≡ pushed linebreak (roff_of self.old) }
+    {
+        self.push(Escape::UnescapedAtNewline, b"");
+    }
+
+    // A control line without arguments.
+    pub fn control0(&mut self, name: &[u8])
+        ensures { roff_of self.new ≡ pushed (control0 name.now) (roff_of self.old) }
+    {
+        self.control_name(name);
+        self.roff_linebreak();
+    }
+
+    // `Font::escape`, pushed.
+    fn put_font(&mut self, font: Font)
+        ensures { roff_of self.new ≡ pushed (piece unescaped (font_escape font) ∷ []) (roff_of self.old) }
+    {
+        let mark: [u8; 3] = [b'\\', b'f', letter(font)];
+        self.push(Escape::Unescaped, &mark);
+    }
+
+    // The bytes of a text from a place up to another, with special bytes escaped.
+    fn plaintext(&mut self, bytes: &[u8], from: usize, to: usize)
+        ensures { roff_of self.new ≡ pushed (plaintext self.old.strip (part bytes.now from to) ∷ []) (roff_of self.old) }
+    {
+        let text = &mut *self.text;
+        self.fresh = crate::escape::escape_text(text, self.strip, self.fresh, bytes, from, to);
+    }
+
+    // The bytes of a text from a place up to another, in a font. More of the text is read than goes out, in blocks: so it comes whole.
+    pub fn text(&mut self, font: Font, bytes: &[u8], from: usize, to: usize)
+        ensures { roff_of self.new ≡ pushed (text self.old.strip font (part bytes.now from to)) (roff_of self.old) }
+    {
+        self.put_font(font);
+        self.plaintext(bytes, from, to);
+        self.push(Escape::Unescaped, b"\\fP");
+    }
 }

@@ -35,7 +35,9 @@ wrote_same v f g h = ap (λ (s : Result (List ℕ)). let t : Lent = record v { s
 
 -- nothing was written
 pub wrote-none : (v : Lent) (f : ℕ → List ℕ → Result (List ℕ)) → ((o : List ℕ) → v.shown ≡ gives o → f v.size o ≡ gives o) → v ≡ wrote f v
-wrote-none v f h = ap (λ (s : Result (List ℕ)). let t : Lent = record v { shown = s } in t) (sym (bind_end v.shown)) ∙ wrote_same v (λ n. gives) f (λ o e. sym (h o e))
+wrote-none v f h =
+    ap (λ (s : Result (List ℕ)). let t : Lent = record v { shown = s } in t) (sym (bind_end v.shown))
+    ∙ wrote_same v (λ n. gives) f (λ o e. sym (h o e))
 
 -- a rule after a rule
 pub wrote_then : (v : Lent) (f g : ℕ → List ℕ → Result (List ℕ)) → wrote g (wrote f v) ≡ wrote (λ n o. f n o >>= g n) v

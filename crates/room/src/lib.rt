@@ -120,14 +120,14 @@ impl<'a> Text<'a> {
         self.room.len() < self.len
     }
 
-    // Whether nothing is written.
+    // Whether nothing is written; free where the text is longer than the room.
     pub fn is_empty(&self) -> bool
         ensures { (o : List ℕ) → (text_of self.now).shown ≡ gives o → result ≡ is_empty o }
     {
         self.len == 0
     }
 
-    // Whether the text ends with some bytes.
+    // Whether the text ends with some bytes; free where it is longer than the room.
     pub fn ends_with(&self, tail: &[u8]) -> bool
         ensures { (o : List ℕ) → (text_of self.now).shown ≡ gives o → result ≡ ends_with tail.now o }
     {

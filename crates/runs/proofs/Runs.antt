@@ -1,7 +1,7 @@
 -- Runs of bytes up to the first that passes a test. Assumes nothing.
 use Rattle.runs.proofs.Names.{ℕ, zero, suc, ◌+◌, ◌-◌, ◌≤◌, ◌<◌, min, ◌≡◌, refl, sym, ap, ◌∙◌, Bool, true, false, ◌||◌, false≢true, ◌⊎◌, inl, inr, ⊎_elim}
 use Rattle.runs.proofs.Names.{List, [], ◌∷◌, ◌++◌, length, take, drop, get_or, length-drop, take-append-drop, length-append, length-take-le}
-use Rattle.runs.proofs.Names.{get_or-drop, get_or-take, drop-drop, arith, when◌then◌else◌, pick, if_true, if_false, le_or_lt, Reached}
+use Rattle.runs.proofs.Names.{drop-drop, arith, when◌then◌else◌, pick, if_true, if_false, le_or_lt, Reached}
 use Rattle.std.specs.List.{list_any}
 use lib.Seq.{take_all}
 use native.Mathlib.Nat.{le_refl}
@@ -131,7 +131,3 @@ module _ (stop : ℕ → Bool) (x : List ℕ) (n : ℕ) where
   least_all size j k h l =
       ⊎_elim (λ (p : (length (before stop x) < j) × (k ≡ length (before stop x))). p.1)
       (λ (p : (j ≤ length (before stop x)) × (k ≡ n)). omega (arith, p.0, p.1, before-short stop x)) l
-
--- a byte of a block, by its place in all
-pub block_byte : (s : List ℕ) (at n j i : ℕ) → i ≡ j → j < n → get_or (take n (drop at s)) j 0 ≡ get_or s (at + i) 0
-block_byte s at n j i e h = get_or-take n (drop at s) j 0 h ∙ get_or-drop at s j 0 ∙ ap (λ (k : ℕ). get_or s (at + k) 0) (sym e)

@@ -3,8 +3,8 @@
 
 #![tactic(auto)]
 
-ghost use Rattle.std.specs.Prelude.{◌≡◌, ◌+◌, ◌≤◌, leb, length, take, drop};
-ghost use Rattle.base.specs.Choice.{when◌then◌else◌ as choose};
+ghost use Rattle.std.specs.Prelude.{◌≡◌, ◌+◌, ◌≤◌, ℕ, Bool, length, take, drop};
+ghost use Rattle.base.specs.Tests.{AnswersAs};
 ghost use Rattle.splitter.specs.Split.{before};
 ghost use Rattle.std.specs.List.{list_any};
 ghost use Rattle.runs.specs.InnerRuns.{among, Reached};
@@ -53,29 +53,15 @@ pub fn run_end(s: &[u8], at: usize, a: u8, b: u8, c: u8, d: u8) -> usize
     i + found.unwrap_or(rest.len())
 }
 
-// Where the first of four bytes stands among the 32 at a place; 32 where none does. No branch hangs on a byte: the least place is kept.
-fn least_place(s: &[u8], at: usize, a: u8, b: u8, c: u8, d: u8) -> usize
-    requires { at + 32 ≤ length s.now }
-    ensures { result ≡ length (before (among a b c d) (take 32 (drop at s.now))) }
+// How many of 32 bytes stand before the first that passes a test. No branch hangs on a byte: the least place is kept.
+pub fn first_of<F: Fn(u8) -> bool>(block: &[u8; 32], test: F) -> usize
+    requires { F.IsAlwaysCallable test }
+    ensures { (p : ℕ → Bool) → AnswersAs F.post test p → result ≡ length (before p block.now) }
 {
     let mut k: u8 = 32;
     for j in 0..32 {
-        let found = is_among(s[at + usize::from(j)], a, b, c, d);
-        let place = if found { j } else { 32 };
+        let place = if test(block[usize::from(j)]) { j } else { 32 };
         k = k.min(place);
     }
     usize::from(k)
-}
-
-// Where the first of four bytes stands among the 32 at a place, 32 where none does; 0 where there are not 32.
-pub fn first_of(s: &[u8], at: usize, a: u8, b: u8, c: u8, d: u8) -> usize
-    ensures { result ≡ choose (leb (at + 32) (length s.now)) (length (before (among a b c d) (take 32 (drop at s.now)))) 0 }
-{
-    if s.len() <= at {
-        return 0;
-    }
-    if s.len() - at < 32 {
-        return 0;
-    }
-    least_place(s, at, a, b, c, d)
 }

@@ -8,15 +8,16 @@ use native.Mathlib.Omega.{arith}
 use borrow.Author.Tests.{le-leb, lt-leb}
 use Rattle.base.specs.Bytes.{part}
 use Rattle.base.specs.Result.{Result, gives, refused, ◌>>=◌}
-use Rattle.room.specs.Room.{padded, extended, seen}
-use Rattle.room.proofs.Laws.{seen_in}
+use Rattle.room.specs.Room.{padded, extended}
 use Rattle.refusal.specs.Answers.{answered}
 use Rattle.refusal.specs.declared.Refusal.{Refusal}
 use Rattle.renderer.specs.Rendered.{filled}
 use Rattle.compared.specs.InnerCompared.{is_rendered, is_answer}
 use Rattle.compared.proofs.Answers.{rendered-by}
 use Rattle.compared.proofs.Comparing.{and_no}
-use Rattle.sample_lines.proofs.Writing.{wrote_then}
+use Rattle.std.specs.Borrow.{GName}
+use Rattle.room.specs.Lent.{Lent, lent_empty, with_bytes}
+use Rattle.room.proofs.Lents.{with_both, sees}
 use Rattle.sample_calls.specs.InnerCalls.{by_letter, letter_of, wanted_text, agrees}
 use Rattle.std.specs.Prelude.{Result as Answer, Ok, Err}
 use Rattle.sample_calls.specs.declared.Call.{Call}
@@ -76,12 +77,10 @@ module _ (letter width n : ℕ) (document : List ℕ) (w : Answer ℕ Refused) (
   agrees-by e h = rw (e, le-leb n 512 h)
 
 -- two writes into a room that holds nothing yet
-pub wrote_two : (limit m : ℕ) (room x y : List ℕ) {s t : Result (List ℕ)} → m ≡ limit → s ≡ (seen room 0 >>= extended limit x) → t ≡ (s >>= extended m y)
-    → t ≡ extended limit (x ++ y) []
+pub wrote_two : (name : GName) (limit : ℕ) (x y : List ℕ) (one two : Lent) → one ≡ with_bytes x (lent_empty name limit) → two ≡ with_bytes y one
+    → two.shown ≡ extended limit (x ++ y) []
 unfolding ◌>>=◌
-wrote_two limit m room x y {s} f e g =
-    g ∙ ap (λ (k : ℕ). s >>= extended k y) f ∙ wrote_then limit x y (seen room 0) e
-    ∙ ap (λ (r : Result (List ℕ)). r >>= extended limit (x ++ y)) (seen_in room 0 (omega arith))
+wrote_two name limit x y one two e f = sees _ _ _ _ (with_both (lent_empty name limit) one two x y e f)
 
 -- the first n bytes of a buffer of 512
 pub part_length : (n : ℕ) (l : List ℕ) → length l ≡ 512 → n ≤ 512 → length (take n l) ≡ n

@@ -14,6 +14,7 @@ ghost use Rattle.sample_calls.specs.InnerCalls.{by_letter, letter_of, is_call, w
 
 use console_rules::{Measure, Settings};
 use refusal::Refusal;
+use room::Text;
 
 // A wanted refusal: its number and place.
 #[derive(Clone, Copy)]
@@ -32,8 +33,10 @@ const PREAMBLE: usize = 35;
 pub fn put_wanted(text: &mut [u8], line: &[u8]) -> usize
     ensures { seen text.new result ≡ extended (length text.old) (preamble ++ text_from line.now 2) [] }
 {
-    let n = room::put_all(text, 0, b".ie \\n(.g .ds Aq \\(aq\n.el .ds Aq '\n");
-    sample_lines::put_text(text, n, line, 2)
+    let mut t = Text::new(text);
+    t.put_all(b".ie \\n(.g .ds Aq \\(aq\n.el .ds Aq '\n");
+    sample_lines::put_text(&mut t, line, 2);
+    t.finish()
 }
 
 // The calls.

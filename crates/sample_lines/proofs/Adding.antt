@@ -1,9 +1,10 @@
 -- What a line adds to a document, by its letter. Assumes nothing.
 use Rattle.sample_lines.proofs.Names.{ℕ, suc, ◌+◌, ◌-◌, ◌/◌, ◌%◌, ◌≤◌, ◌<◌, ◌≡◌, ap, ◌∙◌, List, [], ◌∷◌, ◌++◌, append-nil, length}
-use Rattle.sample_lines.proofs.Names.{arith, Result, ◌>>=◌, extended, number_at}
+use Rattle.sample_lines.proofs.Names.{arith, ap₂, number_at}
 use Rattle.sample_lines.proofs.Names.{next_number, Number, repeated}
 use Rattle.sample_lines.specs.InnerAdding.{head, text_record, block_records}
-use Rattle.sample_lines.proofs.Writing.{wrote_then}
+use Rattle.room.specs.Lent.{Lent, with_bytes}
+use Rattle.room.proofs.Lents.{with_both, with_same}
 
 -- once more, and so many times
 pub repeated-more : (times i : ℕ) (x : List ℕ) → i < times → repeated (times - i) x ≡ x ++ repeated (times - (i + 1)) x
@@ -24,12 +25,11 @@ pub head-is : {a b d e : ℕ} (size kind : ℕ) → a ≡ size % 256 → b ≡ s
 head-is size kind f g h i = rw (f, g, h, i)
 
 -- a record's first bytes and then its body
-pub record_wrote : (limit kind : ℕ) (x : List ℕ) (size : ℕ) (r : Result (List ℕ)) {s t : Result (List ℕ)} → size ≡ length x
-    → s ≡ (r >>= extended limit (repeated 1 (head size kind))) → t ≡ (s >>= extended limit x) → t ≡ (r >>= extended limit (text_record kind x))
+pub record_wrote : (old mid new : Lent) (kind : ℕ) (x : List ℕ) (size : ℕ) {k : ℕ} → size ≡ length x → k ≡ kind
+    → mid ≡ with_bytes (repeated 1 (head size k)) old → new ≡ with_bytes x mid → new ≡ with_bytes (text_record kind x) old
 unfolding text_record
-record_wrote limit kind x size r a e f =
-    f ∙ wrote_then limit (repeated 1 (head size kind)) x r e
-    ∙ ap (λ (l : List ℕ). r >>= extended limit (l ++ x)) (repeated_once (head size kind) ∙ ap (λ (n : ℕ). head n kind) a)
+record_wrote old mid new kind x size a b e f =
+    with_same new old _ _ (ap (λ (l : List ℕ). l ++ x) (repeated_once _ ∙ ap₂ head a b)) (with_both old mid new _ x e f)
 
 -- block records, of the numbers that stand in the line
 pub blocks_are : (first : ℕ) (line : List ℕ) {n m : Number} → n ≡ number_at line 2 → m ≡ next_number line n

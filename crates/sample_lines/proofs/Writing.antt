@@ -1,39 +1,22 @@
--- Several writes into a room are one. Assumes nothing.
-use Rattle.sample_lines.proofs.Names.{ℕ, ◌≤◌, ◌<◌, ◌≡◌, sym, ap, ◌∙◌, List, [], ◌++◌, append-nil, length, take, arith, Result, gives, ◌>>=◌, le_or_lt}
-use Rattle.sample_lines.proofs.Names.{extended, seen}
-use Rattle.std.proofs.Common.{⊎_elim, length-take-le}
-use Rattle.base.proofs.Results.{bind_assoc, bind_same}
-use Rattle.room.proofs.Laws.{seen_in, seen-out, extended_in, extended_twice}
+-- Bytes that are written one part after another. Assumes nothing.
+use Rattle.sample_lines.proofs.Names.{ℕ, ◌≡◌, sym, ap, ◌∙◌, List, [], ◌++◌}
+use Rattle.room.specs.Lent.{Lent, text_of, with_bytes}
+use Rattle.room.specs.declared.Text.{Text}
+use Rattle.room.proofs.Lents.{with_bytes_twice, with_none}
 
--- a write, and the rest
-pub wrote_then : (limit : ℕ) (a b : List ℕ) (r : Result (List ℕ)) {s : Result (List ℕ)} → s ≡ (r >>= extended limit a)
-    → (s >>= extended limit b) ≡ (r >>= extended limit (a ++ b))
-wrote_then limit a b r e =
-    ap (λ (t : Result (List ℕ)). t >>= extended limit b) e ∙ sym (bind_assoc r (extended limit a) (extended limit b))
-    ∙ bind_same r _ _ (extended_twice limit a b)
+-- Some bytes stand in a room; `all` is to stand after what stood there at first, and `rest` of it is left to write.
+pub record Putting (all : List ℕ) (old : Lent) (rest : List ℕ) (t : Lent) : Type 0 where
+  pub leads : with_bytes rest t ≡ with_bytes all old
 
--- nothing is left to write
-pub wrote_all : (room : List ℕ) (limit len : ℕ) → limit ≡ length room → (seen room len >>= extended limit []) ≡ seen room len
-unfolding ◌>>=◌
-wrote_all room limit len e =
-    ⊎_elim
-    (λ (h : len ≤ length room).
-    let n : length (take len room) ≡ len = length-take-le len room h in
-    rw (seen_in room len h) (extended_in limit [] (take len room) (omega arith) ∙ ap gives (append-nil (take len room))))
-    (λ (h : length room < len). rw (seen-out room len h))
-    (le_or_lt len (length room))
+pub putting_start : {all rest : List ℕ} (t : Lent) → rest ≡ all → Putting all t rest t
+putting_start t e = record { leads = ap (λ (x : List ℕ). with_bytes x t) e }
 
--- a loop of writes: after one of them, and after the last
+-- some bytes of it were written
+pub putting_more : {all left : List ℕ} {old t : Lent} (x rest : List ℕ) (new : Lent) → Putting all old left t → left ≡ x ++ rest → new ≡ with_bytes x t
+    → Putting all old rest new
+putting_more {t = t} x rest new w f e = record {
+  leads = ap (with_bytes rest) e ∙ with_bytes_twice t x rest ∙ ap (λ (z : List ℕ). with_bytes z t) (sym f) ∙ w.leads;
+}
 
-pub wrote_on : (limit m : ℕ) (x rest all : List ℕ) (r : Result (List ℕ)) {s w : Result (List ℕ)} → m ≡ limit → s ≡ (r >>= extended m x) → all ≡ x ++ rest
-    → (r >>= extended limit all) ≡ w → (s >>= extended limit rest) ≡ w
-wrote_on limit m x rest all r f e g h =
-    wrote_then limit x rest r (e ∙ ap (λ (k : ℕ). r >>= extended k x) f) ∙ ap (λ (l : List ℕ). r >>= extended limit l) (sym g) ∙ h
-
-pub wrote_last : (room : List ℕ) (limit len : ℕ) (all : List ℕ) {w : Result (List ℕ)} → limit ≡ length room → all ≡ []
-    → (seen room len >>= extended limit all) ≡ w → seen room len ≡ w
-wrote_last room limit len all f g h = sym (wrote_all room limit len f) ∙ ap (λ (l : List ℕ). seen room len >>= extended limit l) (sym g) ∙ h
-
--- the same bytes by another name
-pub wrote_as : (limit : ℕ) (x y : List ℕ) (r : Result (List ℕ)) {s : Result (List ℕ)} → x ≡ y → s ≡ (r >>= extended limit x) → s ≡ (r >>= extended limit y)
-wrote_as limit x y r f e = e ∙ ap (λ (l : List ℕ). r >>= extended limit l) f
+pub putting_done : {all rest : List ℕ} {old : Lent} (t : Text) → Putting all old rest (text_of t) → rest ≡ [] → text_of t ≡ with_bytes all old
+putting_done t w e = sym (with_none t.room.ghost_name t.room.now t.len) ∙ ap (λ (x : List ℕ). with_bytes x (text_of t)) (sym e) ∙ w.leads

@@ -1,67 +1,63 @@
 // What a line adds to a document.
-ghost use Rattle.std.specs.Prelude.{◌≡◌, ◌%◌, ◌≤◌, length};
-ghost use Rattle.base.specs.Result.{◌>>=◌ as bind};
-ghost use Rattle.room.specs.Room.{seen, extended};
+ghost use Rattle.std.specs.Prelude.{◌≡◌, ◌≤◌};
+ghost use Rattle.records.specs.Records.{number};
+ghost use Rattle.room.specs.Lent.{text_of, with_bytes};
 ghost use Rattle.sample_lines.specs.InnerLines.{text_from};
 ghost use Rattle.sample_lines.specs.InnerAdding.{repeated, head, text_record, block_records, added_by};
 
-fn low(n: usize) -> u8
-    ensures { result ≡ n % 256 }
-{
-    (n % 256) as u8
-}
+use records::Style;
+use room::Text;
 
 // Some bytes, so many times.
-fn put_times(d: &mut [u8], len: usize, bytes: &[u8], times: usize) -> usize
-    ensures { seen d.new result ≡ bind (seen d.old len) (extended (length d.old) (repeated times bytes.now)) }
+fn put_times(d: &mut Text, bytes: &[u8], times: usize)
+    ensures { text_of d.new ≡ with_bytes (repeated times bytes.now) (text_of d.old) }
 {
-    let mut n = len;
     for _ in 0..times {
-        n = room::put_all(d, n, bytes);
+        d.put_all(bytes);
     }
-    n
 }
 
 // First bytes of records: the body's length, and the kind.
-fn put_heads(d: &mut [u8], n: usize, size: usize, kind: usize, times: usize) -> usize
-    ensures { seen d.new result ≡ bind (seen d.old n) (extended (length d.old) (repeated times (head size kind))) }
+fn put_heads(d: &mut Text, size: usize, kind: usize, times: usize)
+    ensures { text_of d.new ≡ with_bytes (repeated times (head size kind)) (text_of d.old) }
 {
-    let head: [u8; 6] = [low(size), low(size / 256), 0, 0, low(kind), low(kind / 256)];
-    put_times(d, n, &head, times)
+    let size = size.to_le_bytes();
+    let kind = kind.to_le_bytes();
+    let head: [u8; 6] = [size[0], size[1], 0, 0, kind[0], kind[1]];
+    put_times(d, &head, times)
 }
 
-// A text record of a kind.
-fn put_record(line: &[u8], d: &mut [u8], n: usize, kind: usize) -> usize
-    ensures { seen d.new result ≡ bind (seen d.old n) (extended (length d.old) (text_record kind (text_from line.now 2))) }
+// A text record in a style.
+fn put_record(line: &[u8], d: &mut Text, style: Style)
+    ensures { text_of d.new ≡ with_bytes (text_record (number style) (text_from line.now 2)) (text_of d.old) }
 {
-    let n = put_heads(d, n, crate::text_size(line, 2), kind, 1);
-    crate::put_text(d, n, line, 2)
+    put_heads(d, crate::text_size(line, 2), style.number(), 1);
+    crate::put_text(d, line, 2);
 }
 
-// Block records.
-fn put_blocks(line: &[u8], d: &mut [u8], n: usize, first: usize) -> usize
+// Block records. Their kind is a number, since a line may ask for one that no block has.
+fn put_blocks(line: &[u8], d: &mut Text, first: usize)
     requires { first ≤ 0x0200 }
-    ensures { seen d.new result ≡ bind (seen d.old n) (extended (length d.old) (block_records first line.now)) }
+    ensures { text_of d.new ≡ with_bytes (block_records first line.now) (text_of d.old) }
 {
     let index = crate::number_at(line, 2);
     let times = crate::next_number(line, index);
-    put_heads(d, n, 0, first + index.value, times.value)
+    put_heads(d, 0, first + index.value, times.value)
 }
 
 // Adds what a line adds to the document: a text record in one of five styles, starts or ends of a block, zeros, or else bytes.
-pub fn add(line: &[u8], d: &mut [u8], n: usize) -> usize
-    ensures { seen d.new result ≡ bind (seen d.old n) (extended (length d.old) (added_by line.now)) }
+pub fn add(line: &[u8], d: &mut Text)
+    ensures { text_of d.new ≡ with_bytes (added_by line.now) (text_of d.old) }
 {
-    let letter = compared::byte_or(line, 0, 0);
-    match letter {
-        b'T' => put_record(line, d, n, 0x0001),
-        b'E' => put_record(line, d, n, 0x0002),
-        b'L' => put_record(line, d, n, 0x0003),
-        b'M' => put_record(line, d, n, 0x0004),
-        b'I' => put_record(line, d, n, 0x0005),
-        b'(' => put_blocks(line, d, n, 0x0100),
-        b')' => put_blocks(line, d, n, 0x0200),
-        b'Z' => put_times(d, n, b"\0", crate::number_at(line, 2).value),
-        _ => crate::put_text(d, n, line, 2),
+    match compared::byte_or(line, 0, 0) {
+        b'T' => put_record(line, d, Style::Text),
+        b'E' => put_record(line, d, Style::Emphasis),
+        b'L' => put_record(line, d, Style::Literal),
+        b'M' => put_record(line, d, Style::Metavar),
+        b'I' => put_record(line, d, Style::Invalid),
+        b'(' => put_blocks(line, d, 0x0100),
+        b')' => put_blocks(line, d, 0x0200),
+        b'Z' => put_times(d, b"\0", crate::number_at(line, 2).value),
+        _ => crate::put_text(d, line, 2),
     }
 }

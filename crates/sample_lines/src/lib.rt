@@ -5,14 +5,14 @@
 
 ghost use Rattle.std.specs.Prelude.{◌≡◌, ◌<◌, ◌≤◌, ◌∷◌, length};
 ghost use Rattle.std.specs.Iterator.{YieldsFirst, item_count};
-ghost use Rattle.base.specs.Result.{◌>>=◌ as bind};
-ghost use Rattle.room.specs.Room.{seen, extended};
+ghost use Rattle.room.specs.Lent.{text_of as text_in, with_bytes};
 ghost use Rattle.splitter.specs.Answers.{chunk_of};
 ghost use Rattle.splitter.specs.Split.{raw};
 ghost use Rattle.compared.specs.InnerCompared.{same};
 ghost use Rattle.sample_lines.specs.InnerLines.{number_at, next_number, hex_digit, written, text_from, is_chunk, tally_of};
 
 use compared::byte_or;
+use room::Text;
 use splitter::Piece;
 
 mod documents;
@@ -45,7 +45,7 @@ pub struct Number {
     pub next: usize,
 }
 
-// The number at a place, 0 where there is no digit.
+// The number at a place, 0 where there is no digit: as an Option it would be given a 0 at each of its uses.
 pub fn number_at(line: &[u8], from: usize) -> Number
     ensures { (result ≡ number_at line.now from) × (result.value ≤ 10_000_255) }
 {
@@ -95,9 +95,9 @@ fn first_written<'a>(byte: u8, rest: &'a [u8]) -> (u8, &'a [u8])
 
 // The bytes that a part of a line stands for.
 #[derive(Clone, Copy)]
-struct Text<'a>(&'a [u8]);
+struct Written<'a>(&'a [u8]);
 
-impl<'a> Iterator for Text<'a> {
+impl<'a> Iterator for Written<'a> {
     type Item = u8;
 
     ghost next_gives = { YieldsFirst (λ t. written 0 t.0.now) };
@@ -113,21 +113,19 @@ impl<'a> Iterator for Text<'a> {
 }
 
 // The text from a place of a line on.
-fn text_of<'a>(line: &'a [u8], from: usize) -> Text<'a>
+fn text_of<'a>(line: &'a [u8], from: usize) -> Written<'a>
     ensures { written 0 result.0.now ≡ text_from line.now from }
 {
-    Text(base::get_from(line, from))
+    Written(base::get_from(line, from))
 }
 
 // Adds the text from a place of a line on.
-pub fn put_text(room: &mut [u8], len: usize, line: &[u8], from: usize) -> usize
-    ensures { seen room.new result ≡ bind (seen room.old len) (extended (length room.old) (text_from line.now from)) }
+pub fn put_text(t: &mut Text, line: &[u8], from: usize)
+    ensures { text_in t.new ≡ with_bytes (text_from line.now from) (text_in t.old) }
 {
-    let mut n = len;
     for b in text_of(line, from) {
-        n = room::put(room, n, b);
+        t.put(b);
     }
-    n
 }
 
 // How many bytes the text from a place of a line on has.

@@ -5,7 +5,8 @@ use Rattle.sefgrunn.proofs.Names.{Answer}
 use Rattle.sefgrunn.specs.Merge.{MergeTold}
 use Rattle.sefgrunn.proofs.Numbers.{rendered-number}
 
-pub merge_told : {room s t new : List ℕ} {r : Answer ℕ Refusal} {k p : ℕ} → Merged room s t r new → k ≡ number_of (answered r) → p ≡ length_or_place (answered r)
+pub merge_told : {room s t new : List ℕ} {r : Answer ℕ Refusal} {k p : ℕ} → Merged room s t r new → k ≡ number_of (answered r)
+    → p ≡ length_or_place (answered r)
     → MergeTold room s t k p new
 merge_told {r = r} a e f =
     let n = rendered-number r a.result a.answer in

@@ -5,6 +5,7 @@ pub mod Machine
 pub mod Opened
 pub mod Records
 pub mod Loops
+pub mod Along
 pub mod Laws
 pub mod Accepted
 pub mod Samples

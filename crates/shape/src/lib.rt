@@ -9,7 +9,7 @@ ghost use Rattle.shape.specs.Answers.{TheAnswer};
 ghost use Rattle.shape.specs.InnerSteps.{OpenAt, Walked};
 ghost use Rattle.shape.specs.InnerSteps as want;
 
-use records::{Block, Kind, record_at};
+use records::{Block, Kind, Records, record_at};
 use refusal::Refusal;
 
 // The place of the first record that is out of place.
@@ -26,7 +26,7 @@ fn is_other(b: Block) -> bool
 }
 
 // Whether a block may stand in a term.
-fn is_inline(b: Block) -> bool
+pub fn is_inline(b: Block) -> bool
     ensures { result ≡ inline b }
 {
     matches!(b, Block::TermRef | Block::Mono | Block::InlineBlock)
@@ -39,38 +39,34 @@ fn is_inline(b: Block) -> bool
 // calls nest at most 33 deep.
 // `inlines` is no case of `parts`: it calls neither of the two, and so stands outside of their cycle.
 // In an accepted document a block record has no body: the next record stands where its body would start, and its length is not read again.
+// `parts` and `pairs` are no `for` over records, since they go on where a call stopped. Each asks that the blocks around it are open (`OpenAt`): a struct of
+// a document, a place and a depth would be made anew at each call, with the same fact to be shown there.
 
 // What a term holds, from a place on.
 fn inlines(document: &[u8], from: usize, depth: usize) -> Result<usize, OutOfPlace>
     requires { OpenAt document.now from depth }
     ensures { Walked document.now want.inlines depth from result }
 {
-    let mut at = from;
     let mut inner: usize = 0;
-    while at < document.len() {
-        let h = record_at(document, at);
-        match h.kind {
-            Kind::Text(_) => {
-                at = h.next;
-            }
+    for r in Records::from_place(document, from) {
+        match r.kind {
+            Kind::Text(_) => {}
             Kind::Start(b) => {
                 if !is_inline(b) {
-                    return Err(OutOfPlace { place: at });
+                    return Err(OutOfPlace { place: r.place });
                 }
                 inner += 1;
-                at = h.start;
             }
             Kind::End(_) => {
                 if inner == 0 {
-                    return Ok(h.start);
+                    return Ok(r.start);
                 }
                 inner -= 1;
-                at = h.start;
             }
-            Kind::Unknown => return Err(OutOfPlace { place: at }),
+            Kind::Unknown => return Err(OutOfPlace { place: r.place }),
         }
     }
-    Ok(at)
+    Ok(document.len())
 }
 
 // Parts, from a place on: a list among them is checked by `pairs`.

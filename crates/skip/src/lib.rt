@@ -78,7 +78,7 @@ impl Skip {
         self.depth = self.depth.saturating_sub(1);
     }
 
-    // The start of a block.
+    // The start of a block. It and `end` are two, as `push` and `pop` in the source are: one function would have to be told which of the two to call.
     pub fn start(&mut self, b: Block)
         ensures { self.new ≡ new_if_fits self.old (skip_start b self.old) }
     {

@@ -1,5 +1,6 @@
 mod Names
 pub mod Before
+pub mod Positions
 pub mod Words
 pub mod Starts
 pub mod Stripped

@@ -1,8 +1,18 @@
 -- A word read byte by byte, with its characters counted on the way. Assumes nothing.
-use Rattle.splitter.proofs.Names.{ℕ, ◌+◌, ◌/◌, ◌≤◌, ◌<◌, ◌≡◌, refl, ap, ap₂, true, false, List, [], length, drop, get_or, arith, characters, word}
-use Rattle.splitter.proofs.Names.{is_line_end_or_space, word_from}
-use Rattle.utf8.proofs.Laws.{adds, adds-by, adds-not}
+use Rattle.splitter.proofs.Names.{ℕ, ◌+◌, ◌≤◌, ◌<◌, ◌≡◌, refl, ap, ap₂, true, false, List, [], length, drop, get_or, arith, characters, word}
+use Rattle.splitter.proofs.Names.{is_line_end_or_space, word_from, when◌then◌else◌, Bool, continues}
+use Rattle.std.specs.Prelude.{not}
+use Rattle.std.specs.Int.{from_bool}
+use Rattle.utf8.proofs.Laws.{adds}
 use Rattle.splitter.proofs.Before.{before-stop, before-go, before-none}
+
+adds_is : (b : ℕ) → (from_bool (not (continues b)) ≡ adds b) × (from_bool (not (continues b)) ≤ 1)
+unfolding when◌then◌else◌
+adds_is b = go (continues b)
+  where
+    go : (x : Bool) → (from_bool (not x) ≡ when x then 0 else 1) × (from_bool (not x) ≤ 1)
+    go true = (refl, omega arith)
+    go false = (refl, omega arith)
 
 -- the word from `at` on is read up to `to`, with so many characters
 pub record Reading (body : List ℕ) (at to width : ℕ) : Type 0 where
@@ -38,8 +48,5 @@ module _ (body : List ℕ) (at : ℕ) where
           record { ends = omega (arith, r.ends); counts = omega (arith, r.counts); few = omega (arith, r.few) }
 
       -- a byte that begins a character counts, another does not
-      pub reading_one : (w : ℕ) → w ≡ width + 1 → (get_or body to 0 / 64 ≡ 2 → ⊥) → Reading body at (to + 1) w
-      reading_one w k n = on w (omega (arith, adds-by (get_or body to 0) n)) (omega arith)
-
-      pub reading_none : (w : ℕ) → w ≡ width → get_or body to 0 / 64 ≡ 2 → Reading body at (to + 1) w
-      reading_none w k n = on w (omega (arith, adds-not (get_or body to 0) n)) (omega arith)
+      pub reading_next : {x : Bool} {n : ℕ} → x ≡ not (continues (get_or body to 0)) → n ≡ from_bool x → Reading body at (to + 1) (width + n)
+      reading_next k f = let a = adds_is (get_or body to 0) in on (width + _) (omega (arith, f, ap from_bool k, a.0)) (omega (arith, f, ap from_bool k, a.1))

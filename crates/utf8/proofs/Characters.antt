@@ -5,7 +5,7 @@ use Rattle.utf8.proofs.Names.{◌-◌, ◌*◌, ◌<◌, ◌≤◌, not-suc-le-z
 use Rattle.utf8.proofs.Names.{drop_of_length-le, drop-cons, drop-drop, get_or-drop, when◌then◌else◌, eq_or_not, and_left, and_right, if_true, if_false}
 use Rattle.utf8.proofs.Names.{Range, within, row_of, begins, size_of, well_formed, utf8, emit, decode_from, decode, encode, scalar, first_of, character_at}
 use Rattle.utf8.proofs.Names.{Option, Some, None}
-use Rattle.utf8.proofs.Laws.{size-next, size-stop, size-yes, due_1}
+use Rattle.utf8.proofs.Laws.{size-next, size-stop, size-one, head_at, rest_is}
 use Rattle.utf8.proofs.Text.{Valid, decode-append, row_follows, follows, follow, follows_rest}
 use Rattle.utf8.proofs.Scalars.{lead_of, led, One, Chars, none, char, text_chars}
 
@@ -52,6 +52,11 @@ head-one (b ∷ t) n =
     let p = size-begins b t n in
     let d = due_one (row_of b).after (b - (row_of b).lead) t p.0 in
     rw p.1 record { valid = d.0; chars = d.1 }
+
+-- what is known by a byte and the bytes after it, at its place
+pub headed : (s : List ℕ) (at : ℕ) → at < length s → {n : ℕ} → n ≡ size_of (get_or s at 0 ∷ take (length s - (at + 1)) (drop (at + 1) s))
+    → n ≡ size_of (drop at s)
+headed s at h e = e ∙ ap size_of (ap (λ (l : List ℕ). get_or s at 0 ∷ l) (rest_is (at + 1) s) ∙ head_at s at h)
 
 module _ (s : List ℕ) (at : ℕ) where
   pub character_none : size_of (drop at s) ≡ 0 → None ≡ character_at s at
@@ -199,7 +204,7 @@ module _ (s : List ℕ) (at l : ℕ) {c d : ℕ} where
 pub ascii_at : (s : List ℕ) (at : ℕ) → at < length s → get_or s at 0 < 0x80 → Some (get_or s at 0, at + 1) ≡ character_at s at
 unfolding when◌then◌else◌ lead_of
 ascii_at s at h l =
-    let f = started s at h (size-yes s at [] h (due_1 _ l) refl refl) (λ z. omega arith) in
+    let f = started s at h (size-one _ (drop (at + 1) s) l ∙ ap size_of (head_at s at h)) (λ z. omega arith) in
     let q : get_or s at 0 - lead_of (get_or s at 0) ≡ get_or s at 0 = rw (lt-ltb (get_or s at 0) 0x80 l) (omega arith) in
     going_done s at 1 1 (get_or s at 0) (rw (← q) f.going) refl
 

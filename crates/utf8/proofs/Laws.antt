@@ -1,14 +1,19 @@
 -- Laws of the definitions of `specs/Utf8.antt`.
 -- Assumes nothing.
-use Rattle.utf8.proofs.Names.{◌≡◌, refl, ap, sym, ◌∙◌, Bool, true, false, not, ◌||◌, ◌&&◌, and-true, and-false, and_assoc, false≢true, ⊎_elim, List, [], ◌∷◌, ℕ}
-use Rattle.utf8.proofs.Names.{zero, suc, ◌+◌, ◌/◌, ◌<◌, ◌≤◌, suc-le-suc, add-one, not-suc-le-zero, add-zero, arith, leb, leb-zero, leb-false, length, get_or, take, drop}
-use Rattle.utf8.proofs.Names.{drop_of_length-le, length-drop, length-take-le, get_or-take, get_or-drop, le-leb, lt-leb, ne_eqb, drop-cons, drop-drop, when◌then◌else◌, le_or_lt, eq_or_not, and_right, Range, ◌to◌}
+use Rattle.utf8.proofs.Names.{◌≡◌, refl, ap, sym, ◌∙◌, Bool, true, false, not, ◌||◌, ◌&&◌, and-false, and_assoc, false≢true, ⊎_elim, List, [], ◌∷◌, ℕ}
+use Rattle.utf8.proofs.Names.{zero, suc, ◌+◌, ◌-◌, ◌/◌, ◌<◌, ◌≤◌, suc-le-suc, add-one, not-suc-le-zero, add-zero, arith, leb, leb-zero, leb-false}
+use Rattle.utf8.proofs.Names.{length, get_or, take, drop, length-drop}
+use Rattle.utf8.proofs.Names.{le-leb, lt-leb, ne_eqb, drop-cons, when◌then◌else◌, le_or_lt, eq_or_not, and_right, Range, ◌to◌}
 use Rattle.utf8.proofs.Names.{within, continues, table, row_of, well_formed, characters, never, begins, size_of, low, high}
 use Rattle.std.specs.Prelude.{cond}
-use Rattle.std.specs.List.{list_any, count_by}
+use Rattle.std.specs.List.{count_by}
 use Rattle.std.proofs.lemmas.List.Recursion.{is_count_by}
 use Rattle.base.proofs.Counting.{none_passes_part}
 use Rattle.utf8.specs.InnerParts.{is_ascii}
+use Rattle.std.specs.Prelude.{Option, MatchOption}
+use Rattle.std.specs.Bool.{then_some}
+use Rattle.std.proofs.lemmas.List.{take_all}
+use lib.Dec.{eqb}
 
 -- what a byte adds to the count
 abbrev pub adds : ℕ → ℕ
@@ -26,30 +31,6 @@ pub adds_none : (b : ℕ) → 0x80 ≤ b → b ≤ 0xBF → adds b ≡ 0
 unfolding when◌then◌else◌
 adds_none b g h = rw (le-leb 0x80 b g, le-leb b 0xBF h)
 
--- the bytes due, at a place of s
-pub begins-end : (r : Range) (rs : List Range) (s : List ℕ) (at : ℕ) → length s ≤ at → begins (r ∷ rs) (drop at s) ≡ false
-begins-end r rs s at h = rw (drop_of_length-le s h)
-
-pub begins_at : (r : Range) (rs : List Range) (s : List ℕ) (at : ℕ) → at < length s
-    → begins (r ∷ rs) (drop at s) ≡ (within (get_or s at 0) r && begins rs (drop (at + 1) s))
-begins_at r rs s at h = rw (add-one, drop-cons s at 0)
-
-begins_tail : (r : Range) (rs : List Range) (t : List ℕ) → begins (r ∷ rs) t ≡ (begins (r ∷ []) t && begins rs (drop 1 t))
-begins_tail r rs [] = refl
-begins_tail r rs (b ∷ t) = rw and-true
-
-pub begins-split : (r : Range) (rs : List Range) (s : List ℕ) (at : ℕ)
-    → begins (r ∷ rs) (drop at s) ≡ (begins (r ∷ []) (drop at s) && begins rs (drop (at + 1) s))
-begins-split r rs s at = begins_tail r rs (drop at s) ∙ ap (λ (t : List ℕ). begins (r ∷ []) (drop at s) && begins rs t) (drop-drop 1 at s)
-
-pub split-true : (r : Range) (rs : List Range) (s : List ℕ) (at : ℕ) {x y : Bool} → x ≡ begins (r ∷ []) (drop at s) → x ≡ true
-    → y ≡ begins rs (drop (at + 1) s) → y ≡ begins (r ∷ rs) (drop at s)
-split-true r rs s at p e q = cc (begins-split r rs s at)
-
-pub split-false : (r : Range) (rs : List Range) (s : List ℕ) (at : ℕ) {x : Bool} → x ≡ begins (r ∷ []) (drop at s) → x ≡ false
-    → false ≡ begins (r ∷ rs) (drop at s)
-split-false r rs s at p e = cc (begins-split r rs s at)
-
 -- what is due, and then whole characters
 pub fits_begins : (rs : List Range) (t : List ℕ) → well_formed rs t ≡ (begins rs t && well_formed [] (drop (length rs) t))
 fits_begins [] t = refl
@@ -61,31 +42,12 @@ begins_room [] t e = omega arith
 begins_room (r ∷ rs) [] e = absurd (false≢true e)
 begins_room (r ∷ rs) (b ∷ t) e = suc-le-suc (begins_room rs t (and_right (within b r) (begins rs t) e))
 
-pub size_at : (s : List ℕ) (i : ℕ) → i < length s
-    → size_of (drop i s) ≡ when begins (row_of (get_or s i 0)).after (drop (i + 1) s) then suc (length (row_of (get_or s i 0)).after) else 0
-unfolding when◌then◌else◌ size_of
-size_at s i h = rw (add-one, drop-cons s i 0)
-
--- by the test whether the bytes due stand after the first
-pub size-by : (s : List ℕ) (i : ℕ) (due : List Range) {x : Bool} → i < length s → (row_of (get_or s i 0)).after ≡ due
-    → x ≡ begins due (drop (i + 1) s) → when x then suc (length due) else 0 ≡ size_of (drop i s)
-size-by s i due h e p = rw (size_at s i h, e, ← p)
-
-pub size-yes : (s : List ℕ) (i : ℕ) (due : List Range) {x : Bool} → i < length s → (row_of (get_or s i 0)).after ≡ due
-    → x ≡ begins due (drop (i + 1) s) → x ≡ true → suc (length due) ≡ size_of (drop i s)
-unfolding when◌then◌else◌
-size-yes s i due h e p q = rw (size_at s i h, e, ← p, q)
-
 pub begins-never : (t : List ℕ) → false ≡ begins never.after t
 begins-never [] = refl
 begins-never (b ∷ t) = ⊎_elim (λ (l : b ≤ 0x80). rw (lt-leb 0xFF b (omega arith))) (λ (l : 0x80 < b). simp (lt-leb b 0x80 l, and-false)) (le_or_lt b 0x80)
 
-pub size-never : (s : List ℕ) (i : ℕ) → i < length s → (row_of (get_or s i 0)).after ≡ never.after → 0 ≡ size_of (drop i s)
-unfolding when◌then◌else◌
-size-never s i h e = rw (size_at s i h, e, ← begins-never (drop (i + 1) s))
-
-pub ranged : {l : List Range} {lo hi p q : ℕ} {rest : List Range} → l ≡ p to q ∷ rest → lo ≡ p → hi ≡ q → l ≡ lo to hi ∷ rest
-ranged e f g = rw (f, g, e)
+pub ranged : {l : List Range} {r : ℕ × ℕ} {p q : ℕ} {rest : List Range} → l ≡ p to q ∷ rest → r ≡ (p, q) → l ≡ r.0 to r.1 ∷ rest
+ranged e f = rw (f, e)
 
 -- a text goes on after its first character, or is none
 pub record Next (t : List ℕ) (k : ℕ) : Type 0 where
@@ -113,6 +75,9 @@ size-next (b ∷ t) n = go (begins (row_of b).after t) refl n
       rest = fits_begins (row_of b).after t ∙ rw q;
     }
     go false q n = absurd (n refl)
+
+pub next_of : (t : List ℕ) {k : ℕ} → k ≡ size_of t → 1 ≤ k → Next t k
+next_of t e h = let n = size-next t (λ z. let q : ⊥ = omega (arith, e, z) in q) in rw (← e) at n
 
 -- the lines of the table, by the first byte
 abbrev pub tail : List Range
@@ -236,22 +201,52 @@ due_four a g h =
     due_4 a g h m n ∙ ap (λ (r : Range). r ∷ 0x80 to 0xBF ∷ tail) (any_range a (λ z. omega arith) (λ z. omega arith) m n)) (eq_or_not a 0xF4))
     (eq_or_not a 0xF0)
 
-pub record Went (s : List ℕ) (i k : ℕ) : Type 0 where
-  pub within_s : i + k ≤ length s
-  pub same : well_formed [] (drop i s) ≡ well_formed [] (drop (i + k) s)
+-- a first byte, and the bytes after it
+module _ (a : ℕ) (t : List ℕ) where
+  pub size-by : (due : List Range) {x : Bool} → (row_of a).after ≡ due → x ≡ begins due t → when x then suc (length due) else 0 ≡ size_of (a ∷ t)
+  unfolding size_of
+  size-by due e p = rw (e, ← p)
 
-pub next_at : (s : List ℕ) (i : ℕ) {k : ℕ} → i < length s → k ≡ size_of (drop i s) → (k ≡ 0 → ⊥)
-    → Went s i k
-next_at s i {k} h e n =
-    let r = size-next (drop i s) (λ z. n (e ∙ z)) in
-    let l : k ≤ length (drop i s) = rw e r.room in
-    record { within_s = omega (arith, l, length-drop i s); same = r.rest ∙ rw (← e, drop-drop) }
+  pub size-never : (row_of a).after ≡ never.after → 0 ≡ size_of (a ∷ t)
+  unfolding when◌then◌else◌ size_of
+  size-never e = rw (e, ← begins-never t)
 
-pub stop_at : (s : List ℕ) (i : ℕ) {k : ℕ} → i < length s → k ≡ size_of (drop i s) → k ≡ 0 → false ≡ well_formed [] (drop i s)
-stop_at s i h e z = sym (size-stop (drop i s) (omega (arith, length-drop i s)) (sym e ∙ z))
+  pub size-one : a < 0x80 → 1 ≡ size_of (a ∷ t)
+  unfolding when◌then◌else◌ size_of
+  size-one h = rw (due_1 a h)
+
+pub head_at : (s : List ℕ) (at : ℕ) → at < length s → get_or s at 0 ∷ drop (at + 1) s ≡ drop at s
+head_at s at h = rw (add-one, drop-cons s at 0)
 
 pub one_at : (s : List ℕ) (i : ℕ) → i < length s → get_or s i 0 < 0x80 → well_formed [] (drop i s) ≡ well_formed [] (drop (i + 1) s)
-one_at s i h l = (next_at s i h (size-yes s i [] h (due_1 _ l) refl refl) (λ z. omega arith)).same
+one_at s i h l =
+    ap (well_formed []) (sym (head_at s i h)) ∙ ap (λ (due : List Range). well_formed due (drop (i + 1) s)) (due_1 (get_or s i 0) l)
+
+-- a part up to the end
+pub rest_is : (k : ℕ) (t : List ℕ) → take (length t - k) (drop k t) ≡ drop k t
+rest_is k t = take_all (length t - k) (drop k t) (omega (arith, length-drop k t))
+
+-- the first byte of a text and the others
+pub first_is : (t : List ℕ) → 1 ≤ length t → get_or t 0 0 ∷ take (length t - 1) (drop 1 t) ≡ t
+first_is [] h = absurd (not-suc-le-zero h)
+first_is (b ∷ t) h = ap (λ (l : List ℕ). b ∷ l) (rest_is 1 (b ∷ t))
+
+pub size-empty : (t : List ℕ) → length t < 1 → size_of t ≡ 0
+unfolding size_of
+size-empty [] h = refl
+size-empty (b ∷ t) h = let z : ⊥ = omega arith in absurd z
+
+-- the size as an Option
+pub sized : (x : Bool) (k : ℕ) → 1 ≤ k → {n : ℕ} → when x then k else 0 ≡ n → {o : Option ℕ} → o ≡ then_some x k
+    → MatchOption o (n ≡ 0) (λ j. (1 ≤ j) × (j ≡ n))
+unfolding when◌then◌else◌
+sized true k h e f = rw f (h, e)
+sized false k h e f = rw f (sym e)
+
+-- a text is no more than its characters where none stands at its head
+pub ends_there : (t : List ℕ) → size_of t ≡ 0 → eqb (length t) 0 ≡ well_formed [] t
+ends_there [] e = refl
+ends_there (b ∷ t) e = ne_eqb (length (b ∷ t)) 0 (λ z. omega (arith, z)) ∙ sym (size-stop (b ∷ t) (omega arith) e)
 
 -- ASCII by one test of all
 pub or_none : (x y : Bool) → x || y ≡ false → (x ≡ false) × (y ≡ false)

@@ -2,10 +2,11 @@
 -- Then the same from a place on, as the code tests it by blocks.
 -- Assumes nothing.
 use Rattle.utf8.proofs.Names.{◌≡◌, refl, ap, sym, ◌∙◌, ⊎_elim, Bool, beq, true, false, not, ◌&&◌, ◌||◌, or-true, false≢true, List, [], ◌∷◌, ℕ, zero, suc}
-use Rattle.utf8.proofs.Names.{◌+◌, ◌-◌, ◌/◌, ◌<◌, ◌≤◌, add-zero, add-one, arith, leb, eqb, eqb-true, eqb-false, length, get_or, take, drop, drop-cons, drop-length, le-leb, lt-leb}
+use Rattle.utf8.proofs.Names.{◌+◌, ◌-◌, ◌/◌, ◌<◌, ◌≤◌, add-zero, add-one, arith, leb, eqb, eqb-true, eqb-false}
+use Rattle.utf8.proofs.Names.{length, get_or, take, drop, drop-cons, drop-length, le-leb, lt-leb}
 use Rattle.utf8.proofs.Names.{lt-ltb, le-ltb, leb-true, leb-false, pick, le_or_lt, and_left, and_right, and_both}
 use Rattle.utf8.proofs.Names.{if_true, if_false, same_test, not-passed, Range, ◌to◌, within, row_of, never, well_formed, utf8, low, high, Ascii}
-use Rattle.utf8.proofs.Names.{sound_at, Passed, Begun}
+use Rattle.utf8.proofs.Names.{sound_at, beside_at, Tested, and-false, get_or-take, get_or-drop, length-take-le, length-drop}
 use Rattle.base.specs.Choice.{among}
 use Rattle.utf8.specs.InnerNeighbours.{asks, starts, beside, sound}
 use Rattle.utf8.proofs.Laws.{tail, begins-never, fits_begins, ascii_run, ascii_part, or_none, not_none, not_some, any_range}
@@ -84,7 +85,8 @@ starts_over b h = rw (le-ltb b 0x80 (omega arith), le-leb 0xC2 b (omega arith), 
 
 -- the first byte of a character, and what is due after it
 module _ (r q p b : ℕ) (s : List ℕ) (n : Due r q p []) (rest : (due : List Range) → Due q p b due → well_formed due s ≡ sound q p b s) where
-  begins_with : (due : List Range) → (row_of b).after ≡ due → starts b ≡ true → Due q p b due → well_formed (row_of b).after s ≡ (beside r q p b && sound q p b s)
+  begins_with : (due : List Range) → (row_of b).after ≡ due → starts b ≡ true → Due q p b due
+      → well_formed (row_of b).after s ≡ (beside r q p b && sound q p b s)
   begins_with due e f d = rw (e, beside-start r q p b (asks_none r q p n.0 n.1 n.2), f) (rest due d)
 
   begins-not : (row_of b).after ≡ never.after → starts b ≡ false → well_formed (row_of b).after s ≡ (beside r q p b && sound q p b s)
@@ -136,14 +138,10 @@ utf8-sound s = fits_sound [] 0 0 0 s (omega arith)
 
 -- from a place on
 module _ (s : List ℕ) where
-  -- the byte at i may stand after the three before it
-  abbrev pub beside_at : ℕ → Bool
-  beside_at i = beside (get_or s (i - 3) 0) (get_or s (i - 2) 0) (get_or s (i - 1) 0) (get_or s i 0)
-
   abbrev pub open_at : ℕ → Bool
   open_at i = asks (get_or s (i - 3) 0) (get_or s (i - 2) 0) (get_or s (i - 1) 0)
 
-  pub sound-step : (i : ℕ) → 3 ≤ i → i < length s → sound_at s i ≡ (beside_at i && sound_at s (i + 1))
+  pub sound-step : (i : ℕ) → 3 ≤ i → i < length s → sound_at s i ≡ (beside_at s i && sound_at s (i + 1))
   sound-step i g h =
       let p : i + 1 - 3 ≡ i - 2 = omega arith in
       let q : i + 1 - 2 ≡ i - 1 = omega arith in
@@ -159,7 +157,7 @@ module _ (s : List ℕ) where
   later i (suc n) g h e =
       let q : i + n + 1 ≡ i + suc n = omega arith in
       let f = sym (sound-step (i + n) (omega arith) (omega arith)) ∙ later i n g (omega arith) e in
-      ap (sound_at s) (sym q) ∙ and_right (beside_at (i + n)) (sound_at s (i + n + 1)) f
+      ap (sound_at s) (sym q) ∙ and_right (beside_at s (i + n)) (sound_at s (i + n + 1)) f
 
   pub sound-later : (i j : ℕ) → 3 ≤ i → i ≤ j → j ≤ length s → sound_at s i ≡ true → sound_at s j ≡ true
   sound-later i j g h l e = let q : i + (j - i) ≡ j = omega arith in rw q at (later i (j - i) g (omega arith) e)
@@ -186,8 +184,9 @@ first_three (a ∷ b ∷ []) h = absurd (let z : ⊥ = omega arith in z)
 first_three (a ∷ b ∷ c ∷ s) h = utf8-sound (a ∷ b ∷ c ∷ s)
 
 -- a byte that may not stand there is a fault
-pub fault_due : (r q p b : ℕ) {x y : Bool} {lo hi : ℕ} → x ≡ asks r q p → x ≡ true → lo ≡ low p → hi ≡ high p → y ≡ not (among lo hi b) → y ≡ not (beside r q p b)
-fault_due r q p b e t l h d = rw (beside_due r q p b (sym e ∙ t), ← l, ← h) d
+pub fault_due : (r q p b : ℕ) {x y : Bool} {range : ℕ × ℕ} → x ≡ asks r q p → x ≡ true → range ≡ (low p, high p)
+    → y ≡ not (among range.0 range.1 b) → y ≡ not (beside r q p b)
+fault_due r q p b {y = y} e t l d = rw (beside_due r q p b (sym e ∙ t)) (rw l at d)
 
 pub fault_ascii : (r q p b : ℕ) {x : Bool} → x ≡ asks r q p → x ≡ false → b < 0x80 → false ≡ not (beside r q p b)
 fault_ascii r q p b e t h = ap not (sym (beside-start r q p b (sym e ∙ t) ∙ starts_ascii b h))
@@ -234,19 +233,44 @@ module _ (s : List ℕ) (a : ℕ) (g : 3 ≤ a) where
       not-passed (sound_at s a) (λ t.
       false≢true (sym (sound-step s (a + n) (omega arith) h ∙ rw e) ∙ sound-later s a (a + n) g (omega arith) (omega arith) t))
 
-  pub passed_all : (n : ℕ) → a + n ≤ length s → ((k : ℕ) → a ≤ k → k < a + n → beside_at s k ≡ true) → Passed s a n false
-  passed_all n h f = record { all = λ _. all_beside n h f; some = λ e. absurd (false≢true e) }
+  -- by the tests of a part that begins with the three bytes before a
+  module _ (b n m : ℕ) (c : b + 3 ≡ a) (h : a + n ≤ length s) (e : m ≡ n + 3) {r : Bool} (t : Tested (take m (drop b s)) r) where
+    part_byte : (k : ℕ) → k < m → get_or (take m (drop b s)) k 0 ≡ get_or s (b + k) 0
+    part_byte k l = get_or-take m (drop b s) k 0 l ∙ get_or-drop b s k 0
 
-  pub passed_not : (n k : ℕ) → a + n ≤ length s → a ≤ k → k < a + n → beside_at s k ≡ false → Passed s a n true
-  passed_not n k h i j e = record {
-    all = λ z. absurd (false≢true (sym z));
-    some = λ _. let q : a + (k - a) ≡ k = omega arith in some_beside (k - a) (omega arith) (rw q e);
-  }
+    part_length : length (take m (drop b s)) ≡ m
+    part_length = length-take-le m (drop b s) (omega (arith, length-drop b s))
 
-  pub passed_by : (n : ℕ) (x : Bool) → a + n ≤ length s → (x ≡ false → (k : ℕ) → a ≤ k → k < a + n → false ≡ not (beside_at s k))
-      → (x ≡ true → (k : ℕ) × (a ≤ k) × (k < a + n) × (true ≡ not (beside_at s k))) → Passed s a n x
-  passed_by n true h f e = let k = e refl in passed_not n k.0 h k.1 k.2 (not_none _ (sym k.3))
-  passed_by n false h f e = passed_all n h (λ k i j. not_some _ (sym (f refl k i j)))
+    part_beside : (k : ℕ) → 3 ≤ k → k < m → beside_at (take m (drop b s)) k ≡ beside_at s (b + k)
+    part_beside k g l =
+        let x : b + (k - 3) ≡ b + k - 3 = omega arith in
+        let y : b + (k - 2) ≡ b + k - 2 = omega arith in
+        let z : b + (k - 1) ≡ b + k - 1 = omega arith in
+        rw (part_byte (k - 3) (omega arith), part_byte (k - 2) (omega arith), part_byte (k - 1) (omega arith), part_byte k l, x, y, z)
+
+    -- all of them stand there
+    pub passed : r ≡ false → sound_at s a ≡ sound_at s (a + n)
+    passed f =
+        all_beside n h (λ k i j.
+        let q : b + (k - b) ≡ k = omega arith in
+        rw q at (sym (part_beside (k - b) (omega arith) (omega arith)) ∙ t.all f (k - b) (omega arith) (omega (arith, part_length))))
+
+    -- one does not
+    pub failed : r ≡ true → sound_at s a ≡ false
+    failed f =
+        let k = t.some f in
+        let q : a + (k.0 - 3) ≡ b + k.0 = omega (arith, k.1) in
+        some_beside (k.0 - 3) (omega (arith, k.1, k.2, part_length))
+        (rw q (sym (part_beside k.0 k.1 (omega (arith, k.2, part_length))) ∙ k.3))
+
+-- what the tests found
+pub tested_all : (s : List ℕ) → ((k : ℕ) → 3 ≤ k → k < length s → beside_at s k ≡ true) → Tested s false
+tested_all s f = record { all = λ _. f; some = λ e. absurd (false≢true e) }
+
+pub tested_by : (s : List ℕ) (x : Bool) → (x ≡ false → (k : ℕ) → 3 ≤ k → k < length s → false ≡ not (beside_at s k))
+    → (x ≡ true → (k : ℕ) × (3 ≤ k) × (k < length s) × (true ≡ not (beside_at s k))) → Tested s x
+tested_by s true f e = record { all = λ z. absurd (false≢true (sym z)); some = λ z. let k = e z in (k.0, k.1, k.2, not_none _ (sym k.3)) }
+tested_by s false f e = tested_all s (λ k i j. not_some _ (sym (f refl k i j)))
 
 -- ASCII
 module _ (s : List ℕ) where
@@ -265,7 +289,7 @@ module _ (s : List ℕ) where
   pub ascii_all : (i : ℕ) → Ascii s i → i ≡ length s → true ≡ utf8 s
   ascii_all i a e = sym (ascii_rest i a ∙ ap (λ (k : ℕ). utf8 (drop k s)) e ∙ ap utf8 (drop-length s))
 
-  ascii_sound : (i : ℕ) → Ascii s i → 3 ≤ i → utf8 s ≡ sound_at s i
+  pub ascii_sound : (i : ℕ) → Ascii s i → 3 ≤ i → utf8 s ≡ sound_at s i
   ascii_sound i a h =
       let f = a.each (i - 3) (omega arith) in
       let g = a.each (i - 2) (omega arith) in
@@ -286,22 +310,20 @@ module _ (s : List ℕ) where
       near : ((k : ℕ) → k < 64 → get_or s (a + k) 0 < 0x80) → (k : ℕ) → 1 ≤ k → k ≤ 3 → get_or s (a + 64 - k) 0 < 0x80
       near each k g v = let q : a + (64 - k) ≡ a + 64 - k = omega arith in rw q at (each (64 - k) (omega arith))
 
-pub begun-far : (s : List ℕ) (from : ℕ) → Ascii s from → 3 ≤ from → Begun s from
-begun-far s from a h = record { back = h; room = a.room; same = ascii_sound s from a h }
+not-not : (x : Bool) → not (not x) ≡ x
+not-not true = refl
+not-not false = refl
 
--- where to start: after ASCII, or after the first three bytes
+-- where to start: after the first three bytes
 module _ (s : List ℕ) (h : 3 ≤ length s) where
   pub begun_first : first s ≡ false → utf8 s ≡ false
   begun_first e = first_three s h ∙ rw e
 
-  pub begun_second : first s ≡ true → second s ≡ false → utf8 s ≡ false
-  begun_second d e = first_three s h ∙ rw (d, e)
+  pub begun_second : second s ≡ false → utf8 s ≡ false
+  begun_second e = first_three s h ∙ simp (e, and-false)
 
-  pub begun_third : first s ≡ true → second s ≡ true → third s ≡ false → utf8 s ≡ false
-  begun_third d e f = first_three s h ∙ rw (d, e, f)
-
-  pub begun-on : first s ≡ true → second s ≡ true → third s ≡ true → Begun s 3
-  begun-on d e f = record { back = omega arith; room = h; same = first_three s h ∙ rw (d, e, f) }
+  pub begun_third : first s ≡ true → second s ≡ true → {x : Bool} → x ≡ not (third s) → utf8 s ≡ (not x && sound_at s 3)
+  begun_third d e f = first_three s h ∙ rw (d, e, f) (ap (λ (x : Bool). x && sound_at s 3) (sym (not-not (third s))))
 
 -- the last block, which may lie over the one before
 module _ (s : List ℕ) (j : ℕ) (g : 3 ≤ j) (h : j ≤ length s) where

@@ -1,8 +1,7 @@
 -- What the functions inside this crate promise each other; no rule of 01 or of the Unicode standard stands here.
 use Rattle.std.specs.Prelude.{◌≡◌, Bool, true, false, not, List, ℕ, ◌≤◌, ◌<◌, ◌+◌, ◌-◌, length, drop, get_or, leb}
 use Rattle.std.specs.List.{list_any}
-use Rattle.utf8.specs.Utf8.{utf8}
-use Rattle.utf8.specs.InnerNeighbours.{sound}
+use Rattle.utf8.specs.InnerNeighbours.{beside, sound}
 
 -- each of some bytes is ASCII
 abbrev pub is_ascii : List ℕ → Bool
@@ -21,18 +20,16 @@ sound_at s i = sound (get_or s (i - 3) 0) (get_or s (i - 2) 0) (get_or s (i - 1)
 abbrev pub Window : {F : Type 0} → (F → ℕ → ℕ → ℕ → ℕ → Bool → Type 0) → F → List ℕ → ℕ → Bool → Type 0
 Window post f s i x = post f (get_or s (i - 3) 0) (get_or s (i - 2) 0) (get_or s (i - 1) 0) (get_or s i 0) x
 
--- where r is false, the n bytes from a on stand beside those before them; else not all of them
-pub record Passed (s : List ℕ) (a n : ℕ) (r : Bool) : Type 0 where
-  pub all : r ≡ false → sound_at s a ≡ sound_at s (a + n)
-  pub some : r ≡ true → sound_at s a ≡ false
+-- the byte at i may stand after the three before it
+abbrev pub beside_at : List ℕ → ℕ → Bool
+beside_at s i = beside (get_or s (i - 3) 0) (get_or s (i - 2) 0) (get_or s (i - 1) 0) (get_or s i 0)
+
+-- where r is false, each byte from the fourth on may stand after the three before it; else one may not
+pub record Tested (s : List ℕ) (r : Bool) : Type 0 where
+  pub all : r ≡ false → (k : ℕ) → 3 ≤ k → k < length s → beside_at s k ≡ true
+  pub some : r ≡ true → (k : ℕ) × (3 ≤ k) × (k < length s) × (beside_at s k ≡ false)
 
 -- where r is true, 64 bytes from a on are ASCII, and no character is open before them
 pub record Plain (s : List ℕ) (a : ℕ) (r : Bool) : Type 0 where
   pub room : r ≡ true → a + 64 ≤ length s
   pub skips : r ≡ true → sound_at s a ≡ sound_at s (a + 64)
-
--- all before r is well-formed, and it leaves three bytes to look back on
-pub record Begun (s : List ℕ) (r : ℕ) : Type 0 where
-  pub back : 3 ≤ r
-  pub room : r ≤ length s
-  pub same : utf8 s ≡ sound_at s r

@@ -2,92 +2,76 @@
 
 #![tactic(auto)]
 
-ghost use Rattle.std.specs.Prelude.{◌≡◌, ◌≢◌, ℕ, Bool, true, false, not, [], ◌∷◌, ◌<◌, ◌≤◌, ◌+◌, ◌-◌, ◌*◌, ◌^◌, length, drop, get_or, MatchOption, MatchBool};
+ghost use Rattle.std.specs.Prelude.{◌≡◌, ◌≢◌, ℕ, Bool, true, false, not, [], ◌∷◌, ◌<◌, ◌≤◌, ◌+◌, ◌-◌, ◌*◌, ◌^◌, ◌&&◌};
+ghost use Rattle.std.specs.Prelude.{length, drop, replicate, get_or, MatchOption, MatchBool};
 ghost use Rattle.base.specs.Choice.{when◌then◌else◌, among};
 ghost use Rattle.utf8.specs.Utf8.{◌to◌, utf8, characters, continues, begins, size_of, character_at};
 ghost use Rattle.utf8.specs.InnerNeighbours.{asks, low, high, beside};
-ghost use Rattle.utf8.specs.InnerParts.{is_ascii, Ascii, Passed, Plain, Begun, Window};
+ghost use Rattle.utf8.specs.InnerParts.{is_ascii, sound_at, Ascii, Tested, Plain, Window};
 
-// Whether a byte from lo to hi stands at `at`.
-fn next1(s: &[u8], at: usize, lo: u8, hi: u8) -> bool
-    ensures { result ≡ begins (lo to hi ∷ []) (drop at s.now) }
+// Whether s begins with a byte from lo to hi, and with `more` bytes from 0x80 to 0xBF after it.
+fn begins(s: &[u8], lo: u8, hi: u8, more: usize) -> bool
+    ensures { result ≡ begins (lo to hi ∷ replicate more (0x80 to 0xBF)) s.now }
 {
-    at < s.len() && lo <= s[at] && s[at] <= hi
-}
-
-// The same, with a byte from 0x80 to 0xBF after it.
-fn next2(s: &[u8], at: usize, lo: u8, hi: u8) -> bool
-    requires { at + 1 < 2 ^ 64 }
-    ensures { result ≡ begins (lo to hi ∷ 0x80 to 0xBF ∷ []) (drop at s.now) }
-{
-    next1(s, at, lo, hi) && next1(s, at + 1, 0x80, 0xBF)
-}
-
-// The same, with two such bytes after it.
-fn next3(s: &[u8], at: usize, lo: u8, hi: u8) -> bool
-    requires { at + 2 < 2 ^ 64 }
-    ensures { result ≡ begins (lo to hi ∷ 0x80 to 0xBF ∷ 0x80 to 0xBF ∷ []) (drop at s.now) }
-{
-    next1(s, at, lo, hi) && next2(s, at + 1, 0x80, 0xBF)
+    let [b, rest @ ..] = s else {
+        return false;
+    };
+    lo <= *b && *b <= hi && (more == 0 || begins(rest, 0x80, 0xBF, more - 1))
 }
 
 // The least and the largest byte that may go on with a character after p.
-fn low(p: u8) -> u8
-    ensures { result ≡ low p }
+fn range_after(p: u8) -> (u8, u8)
+    ensures { result ≡ (low p, high p) }
 {
     match p {
-        0xE0 => 0xA0,
-        0xF0 => 0x90,
-        _ => 0x80,
+        0xE0 => (0xA0, 0xBF),
+        0xED => (0x80, 0x9F),
+        0xF0 => (0x90, 0xBF),
+        0xF4 => (0x80, 0x8F),
+        _ => (0x80, 0xBF),
     }
 }
 
-fn high(p: u8) -> u8
-    ensures { result ≡ high p }
-{
-    match p {
-        0xED => 0x9F,
-        0xF4 => 0x8F,
-        _ => 0xBF,
-    }
-}
+// The three functions below say whether a first byte that announces two, three or four bytes makes a character with the bytes after it.
 
-// The three functions below say whether a character of two, three or four bytes stands at i, by a first byte there that announces so many.
-
-// By a first byte below 0xE0: whether a character of two bytes stands at i.
-fn two_at(s: &[u8], i: usize) -> bool
-    requires { (i < length s.now) × (0x80 ≤ get_or s.now i 0) × (get_or s.now i 0 < 0xE0) }
-    ensures { when result then 2 else 0 ≡ size_of (drop i s.now) }
+// By one below 0xE0: a character of two bytes.
+fn two(a: u8, rest: &[u8]) -> bool
+    requires { (0x80 ≤ a) × (a < 0xE0) }
+    ensures { when result then 2 else 0 ≡ size_of (a ∷ rest.now) }
 {
-    0xC2 <= s[i] && next1(s, i + 1, 0x80, 0xBF)
+    0xC2 <= a && begins(rest, 0x80, 0xBF, 0)
 }
 
 // By one from there below 0xF0: one of three bytes.
-fn three_at(s: &[u8], i: usize) -> bool
-    requires { (i < length s.now) × (0xE0 ≤ get_or s.now i 0) × (get_or s.now i 0 < 0xF0) }
-    ensures { when result then 3 else 0 ≡ size_of (drop i s.now) }
+fn three(a: u8, rest: &[u8]) -> bool
+    requires { (0xE0 ≤ a) × (a < 0xF0) }
+    ensures { when result then 3 else 0 ≡ size_of (a ∷ rest.now) }
 {
-    next2(s, i + 1, low(s[i]), high(s[i]))
+    let (lo, hi) = range_after(a);
+    begins(rest, lo, hi, 1)
 }
 
 // By one from there on: one of four bytes.
-fn four_at(s: &[u8], i: usize) -> bool
-    requires { (i < length s.now) × (0xF0 ≤ get_or s.now i 0) }
-    ensures { when result then 4 else 0 ≡ size_of (drop i s.now) }
+fn four(a: u8, rest: &[u8]) -> bool
+    requires { 0xF0 ≤ a }
+    ensures { when result then 4 else 0 ≡ size_of (a ∷ rest.now) }
 {
-    s[i] <= 0xF4 && next3(s, i + 1, low(s[i]), high(s[i]))
+    let (lo, hi) = range_after(a);
+    a <= 0xF4 && begins(rest, lo, hi, 2)
 }
 
-// How many bytes the character at i has, if one stands there.
-fn size(s: &[u8], i: usize) -> Option<usize>
-    requires { i < length s.now }
-    ensures { MatchOption result (size_of (drop i s.now) ≡ 0) (λ k. (1 ≤ k) × (k ≡ size_of (drop i s.now))) }
+// How many bytes the character at the head of s has, if one stands there.
+fn size(s: &[u8]) -> Option<usize>
+    ensures { MatchOption result (size_of s.now ≡ 0) (λ k. (1 ≤ k) × (k ≡ size_of s.now)) }
 {
-    match s[i] {
+    let [a, rest @ ..] = s else {
+        return None;
+    };
+    match *a {
         0x00..=0x7F => Some(1),
-        0x80..=0xDF => { if two_at(s, i) { Some(2) } else { None } }
-        0xE0..=0xEF => { if three_at(s, i) { Some(3) } else { None } }
-        _ => { if four_at(s, i) { Some(4) } else { None } }
+        0x80..=0xDF => two(*a, rest).then_some(2),
+        0xE0..=0xEF => three(*a, rest).then_some(3),
+        _ => four(*a, rest).then_some(4),
     }
 }
 
@@ -98,7 +82,8 @@ pub fn is_ascii(s: &[u8]) -> bool
     !base::any(s, |b| 0x80 <= b)
 }
 
-// Goes on from a by blocks of w bytes while they are ASCII, and returns where it stands.
+// Goes on from a by blocks of w bytes while they are ASCII, and returns where it stands: a loop by hand, since that place is the answer, from which the
+// next call goes on by smaller blocks.
 fn past_ascii(s: &[u8], a: usize, w: usize) -> usize
     requires { (1 ≤ w) × Ascii s.now a }
     ensures { Ascii s.now result }
@@ -110,23 +95,15 @@ fn past_ascii(s: &[u8], a: usize, w: usize) -> usize
     i
 }
 
-// Whether s is well-formed from a on, by characters.
-fn chars(s: &[u8], a: usize) -> bool
-    requires { a ≤ length s.now }
-    ensures { result ≡ utf8 (drop a s.now) }
+// Whether s is well-formed, by characters.
+fn chars(s: &[u8]) -> bool
+    ensures { result ≡ utf8 s.now }
 {
-    let mut i: usize = a;
-    while i < s.len() {
-        if s[i] < 0x80 {
-            i += 1;
-        } else {
-            let Some(k) = size(s, i) else {
-                return false;
-            };
-            i += k;
-        }
+    let mut rest = s;
+    while let Some(k) = size(rest) {
+        rest = &rest[k..];
     }
-    true
+    rest.is_empty()
 }
 
 // The functions from here to `wide` are well-formedness by each byte and the three before it, r, q and p: the same few tests for every byte, which the
@@ -151,7 +128,8 @@ fn fault(r: u8, q: u8, p: u8, b: u8) -> bool
     ensures { result ≡ not (beside r q p b) }
 {
     if asks(r, q, p) {
-        outside(b, low(p), high(p))
+        let (lo, hi) = range_after(p);
+        outside(b, lo, hi)
     } else {
         0x80 <= b && outside(b, 0xC2, 0xF4)
     }
@@ -168,34 +146,31 @@ fn doubt(r: u8, q: u8, p: u8, b: u8) -> bool
     asks(r, q, p) != (b >> 6 == 2)
 }
 
-// Whether a test finds one of the 32 bytes from a, each with the three before it.
-fn finds<F: Fn(u8, u8, u8, u8) -> bool>(s: &[u8], a: usize, test: F) -> bool
-    requires room { (3 ≤ a) × (a + 32 ≤ length s.now) }
-    requires callable { F.IsAlwaysCallable test }
-    ensures none { result ≡ false → (k : ℕ) → a ≤ k → k < a + 32 → Window F.post test s.now k false }
-    ensures one { result ≡ true → (k : ℕ) × (a ≤ k) × (k < a + 32) × Window F.post test s.now k true }
+// Whether a test finds one of some bytes from the fourth on, each with the three before it.
+fn finds<F: Fn(u8, u8, u8, u8) -> bool>(block: &[u8], test: F) -> bool
+    requires { F.IsAlwaysCallable test }
+    ensures none { result ≡ false → (k : ℕ) → 3 ≤ k → k < length block.now → Window F.post test block.now k false }
+    ensures one { result ≡ true → (k : ℕ) × (3 ≤ k) × (k < length block.now) × Window F.post test block.now k true }
 {
     let mut found = false;
-    for i in a..a + 32 {
-        found |= test(s[i - 3], s[i - 2], s[i - 1], s[i]);
+    for i in 3..block.len() {
+        found |= test(block[i - 3], block[i - 2], block[i - 1], block[i]);
     }
     found
 }
 
-// Whether one of the 32 bytes from a may not stand after the three before it.
-fn faulty(s: &[u8], a: usize) -> bool
-    requires { (3 ≤ a) × (a + 32 ≤ length s.now) }
-    ensures { Passed s.now a 32 result }
+// Whether one of some bytes from the fourth on may not stand after the three before it.
+fn faulty(block: &[u8]) -> bool
+    ensures { Tested block.now result }
 {
-    finds(s, a, fault)
+    finds(block, fault)
 }
 
 // The same, by the tests of `fault` only where those of `doubt` do not tell.
-fn quickly_faulty(s: &[u8], a: usize) -> bool
-    requires { (3 ≤ a) × (a + 32 ≤ length s.now) }
-    ensures { Passed s.now a 32 result }
+fn quickly_faulty(block: &[u8]) -> bool
+    ensures { Tested block.now result }
 {
-    finds(s, a, doubt) && faulty(s, a)
+    finds(block, doubt) && faulty(block)
 }
 
 // Whether a character is open before n.
@@ -217,42 +192,36 @@ fn plain(s: &[u8], a: usize) -> bool
     is_ascii(&s[a..a + 64])
 }
 
-// Where to start: each byte tested after it has three before it. None where the first three are no text.
-fn begin(s: &[u8], from: usize) -> Option<usize>
-    requires { (3 ≤ length s.now) × Ascii s.now from }
-    ensures { MatchOption result (utf8 s.now ≡ false) (Begun s.now) }
+// Whether each of the first three bytes may stand after those before it: the tests of blocks look back on three.
+fn begins_well(s: &[u8]) -> bool
+    requires { 3 ≤ length s.now }
+    ensures { utf8 s.now ≡ (result && sound_at s.now 3) }
 {
-    if 3 <= from {
-        return Some(from);
-    }
-    if fault(0, 0, 0, s[0]) || fault(0, 0, s[0], s[1]) || fault(0, s[0], s[1], s[2]) {
-        return None;
-    }
-    Some(3)
+    !fault(0, 0, 0, s[0]) && !fault(0, 0, s[0], s[1]) && !fault(0, s[0], s[1], s[2])
 }
 
-// Whether s, of which all before `from` is ASCII, is well-formed: by blocks of 64 that are ASCII, else of 32. The last block ends where s does, and may
-// have been tested in part.
+// Whether s, of which all before `from` is ASCII, is well-formed: by blocks of 64 that are ASCII, else of 32, so that the loop steps by hand. The last
+// block ends where s does, and may have been tested in part.
 fn wide(s: &[u8], from: usize) -> bool
     requires { (35 ≤ length s.now) × Ascii s.now from }
     ensures { result ≡ utf8 s.now }
 {
     let n = s.len();
-    let Some(start) = begin(s, from) else {
+    if from < 3 && !begins_well(s) {
         return false;
-    };
-    let mut i = start;
+    }
+    let mut i = from.max(3);
     while 32 <= n - i {
         if plain(s, i) {
             i += 64;
         } else {
-            if quickly_faulty(s, i) {
+            if quickly_faulty(&s[i - 3..i + 32]) {
                 return false;
             }
             i += 32;
         }
     }
-    if i < n && faulty(s, n - 32) {
+    if i < n && faulty(&s[n - 35..]) {
         return false;
     }
     !cut_off(s, n)
@@ -265,7 +234,7 @@ fn valid_from(s: &[u8], from: usize) -> bool
     ensures { result ≡ utf8 s.now }
 {
     if s.len() < 35 {
-        return chars(s, from);
+        return chars(&s[from..]);
     }
     let i = past_ascii(s, past_ascii(s, past_ascii(s, from, 64), 8), 1);
     if i == s.len() {
@@ -295,7 +264,7 @@ pub fn starts_character(b: u8) -> bool
     b >> 6 != 2
 }
 
-// How many bytes of s start a character.
+// How many bytes of s start a character. No `filter(..).count()`: `base::count` lets the compiler count 16 bytes at a time.
 pub fn count(s: &[u8]) -> usize
     ensures { result ≡ characters s.now }
 {
@@ -318,17 +287,18 @@ pub fn decode(s: &[u8], at: usize) -> Option<(u32, usize)>
         return None;
     }
     let a = s[at];
+    let rest = &s[at + 1..];
     if a < 0x80 {
         return Some((u32::from(a), at + 1));
     }
     if a < 0xE0 {
-        if two_at(s, at) {
+        if two(a, rest) {
             return Some((with(u32::from(a - 0xC0), s[at + 1]), at + 2));
         }
         return None;
     }
     if a < 0xF0 {
-        if three_at(s, at) {
+        if three(a, rest) {
             return Some((
                 with(with(u32::from(a - 0xE0), s[at + 1]), s[at + 2]),
                 at + 3,
@@ -336,7 +306,7 @@ pub fn decode(s: &[u8], at: usize) -> Option<(u32, usize)>
         }
         return None;
     }
-    if four_at(s, at) {
+    if four(a, rest) {
         return Some((
             with(
                 with(with(u32::from(a - 0xF0), s[at + 1]), s[at + 2]),

@@ -1,31 +1,35 @@
 -- The end of the first e bytes of s, and the size of the White_Space character there.
 -- Assumes nothing.
-use Rattle.white.proofs.Names.{◌≡◌, ap, sym, ◌∙◌, Bool, true, false, List, [], ◌∷◌, ◌++◌, ℕ, suc, ◌+◌, ◌-◌, ◌<◌, ◌≤◌, arith, length, get_or, take, drop}
-use Rattle.white.proofs.Names.{take-add, drop_at, drop-cons, length-take-le, when◌then◌else◌, encode, whites, white_bytes, white_size, last}
+use Rattle.white.proofs.Names.{◌≡◌, refl, ap, sym, ◌∙◌, Bool, true, false, List, [], ◌∷◌, ℕ, suc, ◌-◌, ◌<◌, ◌≤◌, arith, length, get_or, drop}
+use Rattle.white.proofs.Names.{drop-cons, drop-length, when◌then◌else◌, encode, whites, white_bytes, white_size, last}
 
-module _ (s : List ℕ) (e : ℕ) (room : e ≤ length s) where
-  -- the last k of the first e bytes
-  last_of : (k : ℕ) → k ≤ e → last k (take e s) ≡ take k (drop (e - k) s)
-  last_of k h =
-      let l : length (take e s) ≡ e = length-take-le e s room in
-      let q : take e s ≡ take (e - k) s ++ take k (drop (e - k) s) =
-      ap (λ (n : ℕ). take n s) (let z : e ≡ (e - k) + k = omega arith in z) ∙ take-add (e - k) k s in
-      ap (λ (n : ℕ). drop (n - k) (take e s)) l
-      ∙ ap (drop (e - k)) q ∙ drop_at (take (e - k) s) (take k (drop (e - k) s)) (e - k) (length-take-le (e - k) s (omega arith))
+-- the last bytes of some, one by one
+module _ (s : List ℕ) where
+  from_here : (k : ℕ) → 1 ≤ k → k ≤ length s → last k s ≡ get_or s (length s - k) 0 ∷ last (k - 1) s
+  from_here k g h =
+      let q : suc (length s - k) ≡ length s - (k - 1) = omega arith in
+      drop-cons s (length s - k) 0 (omega arith) ∙ ap (λ (n : ℕ). get_or s (length s - k) 0 ∷ drop n s) q
 
-  pub got1 : {x : Bool} → 1 ≤ e → x ≡ white_bytes (get_or s (e - 1) 0 ∷ []) → white_bytes (last 1 (take e s)) ≡ x
-  got1 h p = rw (last_of 1 h, drop-cons s (e - 1) 0 (omega arith), p)
+  last_1 : 1 ≤ length s → last 1 s ≡ get_or s (length s - 1) 0 ∷ []
+  last_1 h =
+      let z : length s - 0 ≡ length s = omega arith in
+      from_here 1 (omega arith) h ∙ ap (λ (l : List ℕ). get_or s (length s - 1) 0 ∷ l) (ap (λ (n : ℕ). drop n s) z ∙ drop-length s)
 
-  pub got2 : {x : Bool} → 2 ≤ e → x ≡ white_bytes (get_or s (e - 2) 0 ∷ get_or s (e - 1) 0 ∷ []) → white_bytes (last 2 (take e s)) ≡ x
-  got2 h p =
-      let q : suc (e - 2) ≡ e - 1 = omega arith in
-      rw (last_of 2 h, drop-cons s (e - 2) 0 (omega arith), drop-cons s (suc (e - 2)) 0 (omega arith), q, p)
+  last_2 : 2 ≤ length s → last 2 s ≡ get_or s (length s - 2) 0 ∷ get_or s (length s - 1) 0 ∷ []
+  last_2 h = from_here 2 (omega arith) h ∙ ap (λ (l : List ℕ). get_or s (length s - 2) 0 ∷ l) (last_1 (omega arith))
 
-  pub got3 : {x : Bool} → 3 ≤ e → x ≡ white_bytes (get_or s (e - 3) 0 ∷ get_or s (e - 2) 0 ∷ get_or s (e - 1) 0 ∷ []) → white_bytes (last 3 (take e s)) ≡ x
-  got3 h p =
-      let q : suc (e - 3) ≡ e - 2 = omega arith in
-      let r : suc (e - 2) ≡ e - 1 = omega arith in
-      rw (last_of 3 h, drop-cons s (e - 3) 0 (omega arith), drop-cons s (suc (e - 3)) 0 (omega arith), drop-cons s (suc (suc (e - 3))) 0 (omega arith), q, r, p)
+  last_3 : 3 ≤ length s → last 3 s ≡ get_or s (length s - 3) 0 ∷ get_or s (length s - 2) 0 ∷ get_or s (length s - 1) 0 ∷ []
+  last_3 h = from_here 3 (omega arith) h ∙ ap (λ (l : List ℕ). get_or s (length s - 3) 0 ∷ l) (last_2 (omega arith))
+
+  pub got1 : {x : Bool} → 1 ≤ length s → x ≡ white_bytes (get_or s (length s - 1) 0 ∷ []) → white_bytes (last 1 s) ≡ x
+  got1 h p = ap white_bytes (last_1 h) ∙ sym p
+
+  pub got2 : {x : Bool} → 2 ≤ length s → x ≡ white_bytes (get_or s (length s - 2) 0 ∷ get_or s (length s - 1) 0 ∷ []) → white_bytes (last 2 s) ≡ x
+  got2 h p = ap white_bytes (last_2 h) ∙ sym p
+
+  pub got3 : {x : Bool} → 3 ≤ length s → x ≡ white_bytes (get_or s (length s - 3) 0 ∷ get_or s (length s - 2) 0 ∷ get_or s (length s - 1) 0 ∷ [])
+      → white_bytes (last 3 s) ≡ x
+  got3 h p = ap white_bytes (last_3 h) ∙ sym p
 
 pub last-short : (k : ℕ) (t : List ℕ) → length t ≤ k → last k t ≡ t
 last-short k t h = let z : length t - k ≡ 0 = omega arith in rw z
@@ -53,6 +57,7 @@ module _ (t : List ℕ) where
   pub none_1 : length t ≤ 1 → white_bytes (last 1 t) ≡ false → white_size t ≡ 0
   none_1 l a = none_2 (omega arith) a (ap white_bytes (last-short 2 t (omega arith) ∙ sym (last-short 1 t l)) ∙ a)
 
-pub none_0 : (s : List ℕ) (e : ℕ) → e < 1 → white_size (take e s) ≡ 0
+pub none_0 : (s : List ℕ) → length s < 1 → white_size s ≡ 0
 unfolding when◌then◌else◌ white_size white_bytes whites encode
-none_0 s e h = let z : e ≡ 0 = omega arith in rw z
+none_0 [] h = refl
+none_0 (b ∷ s) h = let z : ⊥ = omega arith in absurd z

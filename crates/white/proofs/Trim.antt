@@ -1,7 +1,7 @@
 -- What a trim leaves, one White_Space character at the end after another, as code takes them off. Assumes nothing.
 use Rattle.white.proofs.Names.{◌≡◌, refl, ap, sym, ◌∙◌, ◌⊎◌, inl, inr, ⊎_elim, Bool, true, false, ◌&&◌, ◌||◌, false≢true, true≢false, or-true, List}
 use Rattle.white.proofs.Names.{[], ◌∷◌, ◌++◌, append_assoc, append-nil, ℕ, zero, suc, ◌-◌, ◌<◌, ◌≤◌, arith, eqb, leb, length, take, drop}
-use Rattle.white.proofs.Names.{length-append, take-append-drop, drop_at, drop-length, length-take-le, take-take, eqb-true, eq-eqb, leb-true}
+use Rattle.white.proofs.Names.{length-append, take-append-drop, drop_at, drop-length, eqb-true, eq-eqb, leb-true}
 use Rattle.white.proofs.Names.{when◌then◌else◌, and_left, and_right, not-passed, le_or_lt, encode, encode_all, decode, row_of, table, whites, any, white}
 use Rattle.white.proofs.Names.{all_white, blank, trim, same, white_bytes, last, white_size}
 use Rattle.utf8.proofs.Scalars.{encode-decode}
@@ -165,17 +165,13 @@ keep_all (d ∷ r) x z =
 pub trim-stop : (t : List ℕ) → white_size t ≡ 0 → trim t ≡ t
 trim-stop t z = keep_all t [] z
 
--- The loop: the first e bytes are left to be trimmed.
-module _ (s : List ℕ) (e : ℕ) (room : e ≤ length s) where
-  size : length (take e s) ≡ e
-  size = length-take-le e s room
+-- The loop: a text with what it ends with taken off
+module _ (t : List ℕ) where
+  pub left_fits : {k : ℕ} → 1 ≤ k → k ≡ white_size t → k ≤ length t
+  left_fits n p = (found t p (λ z. omega arith)).room
 
-  pub left_fits : {k : ℕ} → 1 ≤ k → k ≡ white_size (take e s) → k ≤ e
-  left_fits n p = omega (arith, (found (take e s) p (λ z. omega arith)).room, size)
+  pub left-next : {k : ℕ} → 1 ≤ k → k ≡ white_size t → trim t ≡ trim (take (length t - k) t)
+  left-next {k} n p = trim_found t k (found t p (λ z. omega arith))
 
-  pub left-next : {k : ℕ} → 1 ≤ k → k ≡ white_size (take e s) → trim (take e s) ≡ trim (take (e - k) s)
-  left-next {k} n p =
-      trim_found (take e s) k (found (take e s) p (λ z. omega arith)) ∙ ap trim (rw size (take-take (e - k) e s (omega arith)))
-
-  pub left-stop : white_size (take e s) ≡ 0 → trim s ≡ trim (take e s) → e ≡ length (trim s)
-  left-stop p q = sym (ap length (q ∙ trim-stop (take e s) p) ∙ size)
+  pub left-stop : (s : List ℕ) → white_size t ≡ 0 → trim s ≡ trim t → length t ≡ length (trim s)
+  left-stop s p q = sym (ap length (q ∙ trim-stop t p))

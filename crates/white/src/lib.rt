@@ -29,7 +29,7 @@ fn white_e280(c: u8) -> bool
     matches!(c, 0x80..=0x8A | 0xA8 | 0xA9 | 0xAF)
 }
 
-#[tactic(auto, using(crate::proofs::WhiteBytes::e281, crate::proofs::WhiteBytes::e19a, crate::proofs::WhiteBytes::e380, crate::proofs::WhiteBytes::not_e2, crate::proofs::WhiteBytes::not_e1, crate::proofs::WhiteBytes::not_e3, crate::proofs::WhiteBytes::not_three))]
+#[tactic(auto, using(crate::proofs::WhiteBytes::threes))]
 fn white3(a: u8, b: u8, c: u8) -> bool
     ensures { result ≡ white_bytes (a ∷ b ∷ c ∷ []) }
 {
@@ -42,43 +42,27 @@ fn white3(a: u8, b: u8, c: u8) -> bool
     }
 }
 
-// How many bytes the White_Space character that ends at e has, if one does.
-fn white_size(s: &[u8], e: usize) -> Option<usize>
-    requires { e ≤ length s.now }
-    ensures { MatchOption result (white_size (take e s.now) ≡ 0) (λ k. (1 ≤ k) × (k ≡ white_size (take e s.now))) }
+// How many bytes the White_Space character at the end of s has, if one stands there.
+fn white_size(s: &[u8]) -> Option<usize>
+    ensures { MatchOption result (white_size s.now ≡ 0) (λ k. (1 ≤ k) × (k ≡ white_size s.now)) }
 {
-    if e < 1 {
-        return None;
+    match s {
+        [.., c] if white1(*c) => Some(1),
+        [.., b, c] if white2(*b, *c) => Some(2),
+        [.., a, b, c] if white3(*a, *b, *c) => Some(3),
+        _ => None,
     }
-    let c = s[e - 1];
-    if white1(c) {
-        return Some(1);
-    }
-    if e < 2 {
-        return None;
-    }
-    let b = s[e - 2];
-    if white2(b, c) {
-        return Some(2);
-    }
-    if e < 3 {
-        return None;
-    }
-    if white3(s[e - 3], b, c) {
-        return Some(3);
-    }
-    None
 }
 
 // How many bytes of s are left without the White_Space at its end.
 pub fn trim_end(s: &[u8]) -> usize
     ensures { result ≡ length (trim s.now) }
 {
-    let mut e = s.len();
-    while let Some(k) = white_size(s, e) {
-        e -= k;
+    let mut text = s;
+    while let Some(k) = white_size(text) {
+        text = &text[..text.len() - k];
     }
-    e
+    text.len()
 }
 
 // Whether c has the property White_Space.
@@ -93,7 +77,8 @@ pub fn is_white(c: u32) -> bool
     }
 }
 
-// How many characters of s are printing ones, 0 where s is not UTF-8.
+// How many characters of s are printing ones, 0 where s is not UTF-8: no Option, since the rule counts 0 there. The place goes on by hand, as each
+// character begins where the one before it ends.
 pub fn count_printing(s: &[u8]) -> usize
     ensures { result ≡ printing_count s.now }
 {

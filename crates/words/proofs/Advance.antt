@@ -1,57 +1,59 @@
 -- One run of words after another, for any renderer that writes words as they stand. Assumes nothing.
 use Prim.Native.Nat.{ℕ, zero, suc, ◌+◌, ◌-◌, ◌≤◌, ◌<◌}
-use mathlib.Core.Path.{◌≡◌, refl, sym, ap, ap₂, ◌∙◌}
+use mathlib.Core.Path.{◌≡◌, refl, sym, ap, ◌∙◌}
 use mathlib.Core.Bool.{Bool}
 use mathlib.Core.Logic.{⊎_elim}
-use mathlib.Core.List.{List, ◌++◌, append_assoc}
-use lib.ListN.{length, take}
-use native.Mathlib.Nat.{add-zero}
+use mathlib.Core.List.{List, ◌++◌, append-nil, append_assoc}
+use lib.ListN.{length, take, drop, get_or, length-drop}
+use lib.Seq.{get_or-drop}
 use native.Mathlib.Omega.{arith}
 use Rattle.base.specs.Bytes.{part}
-use Rattle.base.specs.Result.{Result, gives, ◌>>=◌}
+use Rattle.base.specs.Result.{Result, gives, refused, ◌>>=◌}
 use Rattle.base.proofs.Choice.{le_or_lt}
 use Rattle.utf8.specs.Utf8.{characters}
-use Rattle.splitter.specs.Split.{raw, Placed}
+use Rattle.room.specs.Room.{extended}
+use Rattle.room.specs.Lent.{Lent, with_bytes}
+use Rattle.splitter.specs.Split.{raw, Placed, is_line_end_or_space}
 use Rattle.splitter.specs.declared.Code.TheVariants as code
-use Rattle.renderer.specs.Walk.{Page, page, shown}
-use Rattle.words.specs.InnerCopies.{NoLineEnd, NoWordCut, Copies}
-use Rattle.words.specs.InnerAdvance.{walk_from, Advance}
-use Rattle.words.proofs.Copying.{part_join, copied_part}
+use Rattle.renderer.specs.Walk.{Page, page}
+use Rattle.words.specs.InnerCopies.{NoLineEnd, NoWordCut, Follows}
+use Rattle.words.specs.InnerAdvance.{page_of, walk_from, Advance}
+use Rattle.words.proofs.Copying.{part_join, plain_there, run_shown}
 use Rattle.words.proofs.Chunks.{First, first_chunk}
-use Rattle.words.proofs.Follow.{shown_stays, word_follows}
+use Rattle.words.proofs.Follow.{word_follows}
+
+-- a word that goes on across a place does so from any place before it
+whole_there : (x : List ℕ) (at n : ℕ) → 0 < n → NoWordCut (drop at x) n → NoWordCut x (at + n)
+whole_there x at n h w l e =
+    let s : at + (n - 1) ≡ at + n - 1 = omega arith in
+    ap (λ (j : ℕ). get_or x j 0) (sym s) ∙ sym (get_or-drop at x (n - 1) 0)
+    ∙ w (omega (arith, length-drop at x)) (ap is_line_end_or_space (get_or-drop at x n 0) ∙ e)
 
 module _ {I L : Type 0} (full : I → Bool) (chunk : I → ℕ → Placed → Page L → Result (Page L)) (Plain : I → L → Type 0) (x : List ℕ) where
-  -- A run that stands in a room from a length on; `after` is what is laid out after so many of its characters.
-  module _ (room : List ℕ) (len at to : ℕ) (after : ℕ → L → L) where
+  -- A run after a text, in a room of a size; `after` is what is laid out after so many of its characters.
+  module _ (size : ℕ) (out : List ℕ) (at to : ℕ) (after : ℕ → L → L) where
     -- a renderer writes the words and spaces of the run as they stand
     abbrev pub Written : Type 0
     Written = (p e : ℕ) → at ≤ p → p < e → e ≤ to → (i : I) (kept : List ℕ) (lay : L) → Plain i lay
-        → chunk i (length room) (record { place = p; chunk = raw (part x p e) (characters (part x p e)) })
-        (page kept (after (characters (part x at p)) lay) (take (len + (p - at)) room))
-        ≡ gives (page kept (after (characters (part x at e)) lay) (take (len + (p - at)) room ++ part x p e))
+        → chunk i size (record { place = p; chunk = raw (part x p e) (characters (part x p e)) })
+        (page kept (after (characters (part x at p)) lay) (out ++ part x at p))
+        ≡ gives (page kept (after (characters (part x at e)) lay) ((out ++ part x at p) ++ part x p e))
 
-    module _ (within : at < to → to ≤ length x) (fits : at < to → len + (to - at) ≤ length room)
-        (copied : take (len + (to - at)) room ≡ take len room ++ part x at to) (plain : NoLineEnd x at to) (whole : at < to → NoWordCut x to)
-        (written : Written) (i : I) (kept : List ℕ) (lay : L) (q : Plain i lay) where
+    module _ (within : to ≤ length x) (plain : NoLineEnd x at to) (whole : at < to → NoWordCut x to) (written : Written) (i : I) (kept : List ℕ) (lay : L)
+        (q : Plain i lay) where
       -- what the rule gives from a place of the run on
       abbrev from : ℕ → Result (Page L)
-      from p = shown room (len + (p - at)) kept (after (characters (part x at p)) lay) >>= walk_from full chunk i (length room) x p code.No
-
-      there : (e : ℕ) → at < to → at ≤ e → e ≤ to → take (len + (e - at)) room ≡ take len room ++ part x at e
-      there e l c d = copied_part x room room len at to e (omega (arith, fits l)) c d copied
+      from p = walk_from full chunk i size x p code.No (page kept (after (characters (part x at p)) lay) (out ++ part x at p))
 
       -- the chunk at a place of the run is written
       chunk_follows : (p : ℕ) → at ≤ p → p < to → (f : First x p to) → from f.next ≡ from p
       chunk_follows p a l f =
-          let g : at < to = omega arith in
           let e = f.next in
-          let text : take (len + (e - at)) room ≡ take (len + (p - at)) room ++ part x p e =
-          there e g (omega (arith, f.more)) f.near ∙ ap (λ (y : List ℕ). take len room ++ y) (part_join x at p a e (omega (arith, f.more)))
-          ∙ sym (append_assoc (take len room) (part x at p) (part x p e))
-          ∙ ap (λ (y : List ℕ). y ++ part x p e) (sym (there p g a (omega arith))) in
-          word_follows (full i) (chunk i (length room)) x room (part x p e) (len + (p - at)) (len + (e - at)) p e (characters (part x p e)) kept
-          (after (characters (part x at p)) lay) (after (characters (part x at e)) lay) (omega (arith, fits g)) (omega (arith, fits g, f.near))
-          text f.chunks (written p e a f.more f.near i kept lay q)
+          let text : out ++ part x at e ≡ (out ++ part x at p) ++ part x p e =
+          ap (λ (y : List ℕ). out ++ y) (part_join x at p a e (omega (arith, f.more))) ∙ sym (append_assoc out (part x at p) (part x p e)) in
+          word_follows (full i) (chunk i size) x (part x p e) p e (characters (part x p e)) _ _ f.chunks
+          (written p e a f.more f.near i kept lay q
+          ∙ ap (λ (y : List ℕ). gives (page kept (after (characters (part x at e)) lay) y)) (sym text))
 
       -- and so are all up to the end of the run
       run_follows : (n p : ℕ) → to - p ≤ n → at ≤ p → p ≤ to → from to ≡ from p
@@ -59,43 +61,61 @@ module _ {I L : Type 0} (full : I → Bool) (chunk : I → ℕ → Placed → Pa
       run_follows (suc n) p h a b =
           ⊎_elim (λ (l : to ≤ p). let e : to ≡ p = omega arith in ap from e)
           (λ (l : p < to).
-          let g : at < to = omega arith in
-          let f = first_chunk x p to l (within g) (λ k c d. plain k (omega arith) d) (whole g) in
+          let f = first_chunk x p to l within (λ k c d. plain k (omega arith) d) (whole (omega arith)) in
           run_follows n f.next (omega (arith, f.more)) (omega (arith, f.more)) f.near ∙ chunk_follows p a l f)
           (le_or_lt to p)
 
-      pub run_there : at ≤ to → (shown room (len + (to - at)) kept (after (characters (part x at to)) lay) >>= walk_from full chunk i (length room) x to code.No)
-          ≡ (shown room len kept (after 0 lay) >>= walk_from full chunk i (length room) x at code.No)
+      pub run_there : at ≤ to → from to ≡ walk_from full chunk i size x at code.No (page kept (after 0 lay) out)
       run_there h =
           let z : at - at ≡ 0 = omega arith in
-          run_follows (to - at) at (omega arith) (omega arith) h ∙ rw (z, add-zero) refl
+          run_follows (to - at) at (omega arith) (omega arith) h ∙ rw (z, append-nil) refl
 
-  module _ (old : List ℕ) (len at : ℕ) where
+  module _ (old : Lent) (at : ℕ) where
     -- no word yet
-    pub advance_start : (moved : L → L) → ((i : I) (lay : L) → Plain i lay → moved lay ≡ lay) → Advance full chunk Plain moved x old len at old len at
+    pub advance_start : (moved : L → L) → ((i : I) (lay : L) → Plain i lay → moved lay ≡ lay) → Advance full chunk Plain moved x old at old at
     advance_start moved e = record {
+      name = refl;
       size = refl;
       order = omega arith;
       within = λ l. l;
-      same = λ i kept lay p. ap (λ (l : L). shown old len kept l >>= walk_from full chunk i (length old) x at code.No) (e i lay p);
+      same = λ i kept lay p. ap (λ (l : L). page_of old kept l >>= walk_from full chunk i old.size x at code.No) (e i lay p);
     }
 
     -- a run more
-    pub onward_run : (moved : L → L) (new : List ℕ) (len' at' : ℕ) → Advance full chunk Plain moved x old len at new len' at'
-        → (new' : List ℕ) (most to width : ℕ) → Copies x at' most len' new new' to width → length new' ≡ length new
-        → (after : ℕ → L → L) → ((lay : L) → after 0 lay ≡ moved lay) → Written new' len' at' to after
-        → Advance full chunk Plain (after width) x old len at new' (len' + (to - at')) to
-    onward_run moved new len' at' o new' most to width c size after first written = record {
-      size = size ∙ o.size;
-      order = omega (arith, o.order, c.order);
-      within = λ l. ⊎_elim (λ (h : to ≤ at'). omega (arith, o.within l)) (λ (h : at' < to). omega (arith, c.within h)) (le_or_lt to at');
-      same = λ i kept lay p.
-          let e : length new' ≡ length old = size ∙ o.size in
-          rw (← e, ← c.counts)
-          (run_there new' len' at' to after c.within (λ h. omega (arith, c.fits h)) (c.copied ∙ ap (λ (y : List ℕ). y ++ part x at' to) (sym c.stays))
-          c.plain c.whole written i kept lay p c.order
-          ∙ ap₂ (λ (r : Result (Page L)) (n : ℕ). r >>= walk_from full chunk i n x at' code.No)
-          (ap (shown new' len' kept) (first lay) ∙ shown_stays new new' len' size c.stays kept (moved lay)) e
-          ∙ o.same i kept lay p
-          ∙ rw e refl);
-    }
+    module _ (moved : L → L) (v : Lent) (at' : ℕ) (o : Advance full chunk Plain moved x old at v at') (new : Lent) (most n width : ℕ) (inside : at' ≤ length x)
+        (puts : new ≡ with_bytes (take n (drop at' x)) v) (c : Follows (drop at' x) most v n width) (after : ℕ → L → L)
+        (first : (lay : L) → after 0 lay ≡ moved lay)
+        (written : (out : List ℕ) → v.shown ≡ gives out → Written v.size out at' (at' + n) after) where
+      near : at' + n ≤ length x
+      near = omega (arith, c.within, length-drop at' x, inside)
+
+      part-is : part x at' (at' + n) ≡ take n (drop at' x)
+      part-is = let s : at' + n - at' ≡ n = omega arith in ap (λ (k : ℕ). take k (drop at' x)) s
+
+      run-same : (s : Result (List ℕ)) → v.shown ≡ s → (i : I) (kept : List ℕ) (lay : L) → Plain i lay
+          → (page_of new kept (after width lay) >>= walk_from full chunk i v.size x (at' + n) code.No)
+          ≡ (page_of v kept (moved lay) >>= walk_from full chunk i v.size x at' code.No)
+      unfolding ◌>>=◌
+      run-same (gives out) e i kept lay p =
+          let w = (c.words out e).1 in
+          let t = run_shown (drop at' x) most v new n width c puts out e ∙ ap (λ (y : List ℕ). gives (out ++ y)) (sym part-is) in
+          let k : width ≡ characters (part x at' (at' + n)) = sym (ap characters part-is ∙ c.counts) in
+          rw (t, e, k, ← first lay)
+          (run_there v.size out at' (at' + n) after near (plain_there x at' n w.plain) (λ h. whole_there x at' n (omega arith) (w.whole (omega arith)))
+          (written out e) i kept lay p (omega arith))
+      run-same (refused k m) e i kept lay p =
+          let t : new.shown ≡ refused k m = ap (λ (u : Lent). u.shown) puts ∙ ap (λ (s : Result (List ℕ)). s >>= extended v.size (take n (drop at' x))) e in
+          rw (t, e) refl
+
+      pub onward_run : Advance full chunk Plain (after width) x old at new (at' + n)
+      onward_run = record {
+        name = ap (λ (u : Lent). u.name) puts ∙ o.name;
+        size = ap (λ (u : Lent). u.size) puts ∙ o.size;
+        order = omega (arith, o.order);
+        within = λ l. omega (arith, near);
+        same = λ i kept lay p.
+            ap (λ (m : ℕ). page_of new kept (after width lay) >>= walk_from full chunk i m x (at' + n) code.No) (sym o.size)
+            ∙ run-same v.shown refl i kept lay p
+            ∙ ap (λ (m : ℕ). page_of v kept (moved lay) >>= walk_from full chunk i m x at' code.No) o.size
+            ∙ o.same i kept lay p;
+      }

@@ -1,23 +1,31 @@
 -- Bytes of a line that are copied, block by block and byte by byte, and the words among them that are whole. Assumes nothing.
 use Prim.Native.Nat.{ℕ, zero, suc, ◌+◌, ◌-◌, ◌≤◌, ◌<◌}
 use mathlib.Core.Path.{◌≡◌, refl, sym, ap, subst, ◌∙◌}
-use mathlib.Core.List.{List, [], ◌∷◌, ◌++◌, append-nil, append_assoc}
+use mathlib.Core.List.{List, [], ◌∷◌, ◌++◌, append-nil}
 use mathlib.Core.Bool.{Bool, true, false, not, false≢true}
 use lib.Dec.{eqb}
 use borrow.Author.Tests.{eqb-false}
 use mathlib.Core.Logic.{⊎_elim}
-use lib.ListN.{length, take, drop, get_or, set, length-set, length-take}
-use lib.Seq.{take-take, take-append-add, take-add, take-suc-set, length-take-le, drop-cons, drop-drop}
-use native.Mathlib.Nat.{add-zero}
+use lib.ListN.{length, take, drop, get_or, set, length-set, length-take, length-drop, length-append, drop_of_length-le}
+use lib.Seq.{take-take, take-append-add, take-add, take-suc, take-suc-set, length-take-le, drop-cons, drop-drop, get_or-drop, get_or-take, take_all}
 use native.Mathlib.Numerals.{add-one}
 use native.Mathlib.Omega.{arith}
+use Rattle.std.specs.Borrow.{GName}
+use Rattle.std.proofs.lemmas.List.{take-append-drop}
 use Rattle.base.specs.Bytes.{part}
+use Rattle.base.specs.Result.{Result, gives, refused, ◌>>=◌}
 use Rattle.base.proofs.Choice.{le_or_lt}
+use Rattle.base.proofs.Results.{refused-gives}
 use Rattle.utf8.specs.Utf8.{characters, continues}
 use Rattle.utf8.proofs.Laws.{adds, adds_start, adds_more}
+use Rattle.room.specs.Room.{extended, seen}
+use Rattle.room.specs.Lent.{Given, Lent, lent, with_bytes}
+use Rattle.room.proofs.Laws.{wrote, seen-out, extended_in}
+use Rattle.room.proofs.Lents.{lent_wrote, seen_given}
 use Rattle.splitter.specs.Split.{is_line_end_or_space}
+use Rattle.splitter.proofs.Before.{neither_ends}
 use Rattle.splitter.proofs.Fits.{count_short}
-use Rattle.words.specs.InnerCopies.{NoLineEnd, NoWordCut, Copying, Stopped, Whole, Copies}
+use Rattle.words.specs.InnerCopies.{NoLineEnd, NoWordCut, Copying, Stopped, Whole, Words, Copies, Follows}
 
 -- Parts
 
@@ -50,6 +58,9 @@ part-short x at to = omega (arith, length-take (to - at) (drop at x))
 pub part-narrow : (x : List ℕ) (at to : ℕ) → characters (part x at to) ≤ to - at
 part-narrow x at to = omega (arith, count_short (part x at to), part-short x at to)
 
+pub narrow : (x : List ℕ) (n : ℕ) → characters (take n x) ≤ n
+narrow x n = omega (arith, count_short (take n x), length-take n x)
+
 -- one byte
 pub take-one : (x : List ℕ) (i : ℕ) → i < length x → take 1 (drop i x) ≡ get_or x i 0 ∷ []
 take-one x i h = rw (drop-cons x i 0 h) refl
@@ -57,202 +68,239 @@ take-one x i h = rw (drop-cons x i 0 h) refl
 pub count_one : (b : ℕ) → characters (b ∷ []) ≡ adds b
 count_one b = omega arith
 
--- what was copied up to a place was copied up to any place before
-pub copied_part : (x old new : List ℕ) (len at far e : ℕ) → len ≤ length old → at ≤ e → e ≤ far → take (len + (far - at)) new ≡ take len old ++ part x at far
-    → take (len + (e - at)) new ≡ take len old ++ part x at e
-copied_part x old new len at far e h a b copied =
-    let n : length (take len old) ≡ len = length-take-le len old h in
-    sym (take-take (len + (e - at)) (len + (far - at)) new (omega arith))
-    ∙ ap (λ (l : List ℕ). take (len + (e - at)) l) copied
-    ∙ ap (λ (m : ℕ). take (m + (e - at)) (take len old ++ part x at far)) (sym n)
-    ∙ take-append-add (take len old) (part x at far) (e - at)
-    ∙ ap (λ (l : List ℕ). take len old ++ l) (take-take (e - at) (far - at) (drop at x) (omega arith))
+-- what was found from a place on was found there
+pub plain_there : (x : List ℕ) (i n : ℕ) → NoLineEnd (drop i x) 0 n → NoLineEnd x i (i + n)
+plain_there x i n plain k a b e =
+    let s : i + (k - i) ≡ k = omega arith in
+    plain (k - i) (omega arith) (omega arith) (get_or-drop i x (k - i) 0 ∙ ap (λ (j : ℕ). get_or x j 0) s ∙ e)
 
 -- Bytes of a line
 
-module _ (x : List ℕ) (at stop len : ℕ) (old : List ℕ) where
-  pub copying_start : at ≤ stop → Copying x at stop len old old at 0
-  copying_start h =
-      let z : at - at ≡ 0 = omega arith in
-      record {
-        size = refl;
-        order = omega arith;
-        near = h;
-        plain = λ k a b e. omega arith;
-        counts = rw z refl;
-        copied = rw (z, add-zero, append-nil) refl;
-      }
+module _ (x old : List ℕ) where
+  pub copying_start : Copying x old old 0 0
+  copying_start = record { size = refl; near = omega arith; plain = λ k a b e. omega arith; counts = refl; copied = refl }
 
-  module _ (mid : List ℕ) (i width : ℕ) (c : Copying x at stop len old mid i width) where
+  module _ (mid : List ℕ) (i width : ℕ) (c : Copying x old mid i width) where
     -- some bytes more
-    pub copying_more : (n w : ℕ) (new : List ℕ) → i + n ≤ stop → length new ≡ length mid → NoLineEnd x i (i + n)
-        → w ≡ width + characters (take n (drop i x)) → take (len + (i - at) + n) new ≡ take (len + (i - at)) mid ++ take n (drop i x)
-        → Copying x at stop len old new (i + n) w
+    pub copying_more : (n w : ℕ) (new : List ℕ) → i + n ≤ length x → length new ≡ length mid → NoLineEnd x i (i + n)
+        → w ≡ width + characters (take n (drop i x)) → take (i + n) new ≡ take i mid ++ take n (drop i x) → Copying x old new (i + n) w
     copying_more n w new h size plain e f =
-        let more = part-more x at i c.order n in
-        let s : len + (i + n - at) ≡ len + (i - at) + n = omega (arith, c.order) in
+        let more = take-add i n x in
         record {
           size = size ∙ c.size;
-          order = omega (arith, c.order);
           near = h;
           plain = λ k a b. ⊎_elim (λ (l : i ≤ k). plain k l b) (λ (l : k < i). c.plain k a l) (le_or_lt i k);
-          counts = ap characters more ∙ characters-append (part x at i) (take n (drop i x)) ∙ omega (arith, c.counts);
-          copied =
-              rw (s, more) (f ∙ ap (λ (y : List ℕ). y ++ take n (drop i x)) c.copied
-              ∙ append_assoc (take len old) (part x at i) (take n (drop i x)));
+          counts = ap characters more ∙ characters-append (take i x) (take n (drop i x)) ∙ omega (arith, c.counts);
+          copied = f ∙ ap (λ (y : List ℕ). y ++ take n (drop i x)) c.copied ∙ sym more;
         }
 
-    -- the bytes that follow
-    pub copying_join : (new : List ℕ) (to w : ℕ) → Copying x i stop (len + (i - at)) mid new to w → Copying x at stop len old new to (width + w)
-    copying_join new to w d =
-        let s : i + (to - i) ≡ to = omega (arith, d.order) in
-        subst (λ (e : ℕ). Copying x at stop len old new e (width + w)) s
-        (copying_more (to - i) (width + w) new (omega (arith, d.near)) d.size (λ k a b. d.plain k a (omega (arith, d.order)))
-        (omega (arith, d.counts)) d.copied)
+    -- the bytes that follow, in what is left of the room
+    module _ (inside : length x ≤ length old) (part : List ℕ) (size : length part ≡ length (take (length mid - i) (drop i mid))) where
+      abbrev left : List ℕ
+      left = take (length x - i) (drop i x)
+
+      abbrev put : List ℕ
+      put = take i mid ++ (part ++ drop (length mid - i) (drop i mid))
+
+      there : i ≤ length mid
+      there = omega (arith, c.size, c.near, inside)
+
+      left-is : left ≡ drop i x
+      left-is = take_all (length x - i) (drop i x) (omega (arith, length-drop i x))
+
+      room-size : length put ≡ length mid
+      room-size =
+          let d = length-drop i mid in
+          simp (length-append, length-drop)
+          (omega (arith, size, there, length-take-le i mid there, length-take-le (length mid - i) (drop i mid) (omega (arith, d)), d))
+
+      on-there : (n w : ℕ) → n ≤ length left → NoLineEnd left 0 n → w ≡ characters (take n left) → take n part ≡ take n left
+          → Copying x old put (i + n) (width + w)
+      on-there n w h plain e f =
+          let k : length (take i mid) ≡ i = length-take-le i mid there in
+          let d : drop (length mid - i) (drop i mid) ≡ [] = drop_of_length-le (drop i mid) (omega (arith, length-drop i mid)) in
+          copying_more n (width + w) put (omega (arith, c.near, h, ap length left-is, length-drop i x)) room-size
+          (plain_there x i n (subst (λ (y : List ℕ). NoLineEnd y 0 n) left-is plain))
+          (ap (λ (m : ℕ). width + m) (e ∙ ap (λ (y : List ℕ). characters (take n y)) left-is))
+          (rw (d, append-nil)
+          (ap (λ (m : ℕ). take (m + n) (take i mid ++ part)) (sym k) ∙ take-append-add (take i mid) part n
+          ∙ ap (λ (y : List ℕ). take i mid ++ y) (f ∙ ap (take n) left-is)))
+
+      pub copying_block : (w : ℕ) → 8 ≤ length left → NoLineEnd left 0 8 → w ≡ characters (take 8 left) → take 8 part ≡ take 8 left
+          → Copying x old put (i + 8) (width + w)
+      copying_block w = on-there 8 w
+
+      pub copying_join : (n w : ℕ) → Copying left (take (length mid - i) (drop i mid)) part n w → Copying x old put (i + n) (width + w)
+      copying_join n w d = on-there n w d.near d.plain (sym d.counts) d.copied
 
     -- one byte more
-    module _ (w : ℕ) (h : i < stop) (inside : stop ≤ length x) (fits : len + (stop - at) ≤ length old) (n : get_or x i 0 ≡ 0x0A → ⊥) where
-      on : w ≡ width + adds (get_or x i 0) → Copying x at stop len old (set mid (len + (i - at)) (get_or x i 0)) (i + 1) w
+    module _ (w : ℕ) (h : i < length x) (inside : length x ≤ length old) (n : get_or x i 0 ≡ 0x0A → ⊥) where
+      on : w ≡ width + adds (get_or x i 0) → Copying x old (set mid i (get_or x i 0)) (i + 1) w
       on e =
-          let one = take-one x i (omega arith) in
-          copying_more 1 w (set mid (len + (i - at)) (get_or x i 0)) (omega arith) (length-set mid (len + (i - at)) (get_or x i 0))
+          let one = take-one x i h in
+          copying_more 1 w (set mid i (get_or x i 0)) (omega arith) (length-set mid i (get_or x i 0))
           (λ k a b f. n (ap (λ (j : ℕ). get_or x j 0) (omega arith) ∙ f))
           (rw one (omega (arith, count_one (get_or x i 0))))
-          (rw (one, add-one (len + (i - at))) (take-suc-set mid (len + (i - at)) (get_or x i 0) (omega (arith, c.size, c.order))))
+          (rw (one, add-one i) (take-suc-set mid i (get_or x i 0) (omega (arith, c.size))))
 
-      pub copying_one : w ≡ width + 1 → {r : Bool} → r ≡ not (continues (get_or x i 0)) → r ≡ true → Copying x at stop len old (set mid (len + (i - at)) (get_or x i 0)) (i + 1) w
+      pub copying_one : w ≡ width + 1 → {r : Bool} → r ≡ not (continues (get_or x i 0)) → r ≡ true → Copying x old (set mid i (get_or x i 0)) (i + 1) w
       copying_one e f t = on (omega (arith, adds_start (get_or x i 0) f t))
 
-      pub copying_none : w ≡ width → {r : Bool} → r ≡ not (continues (get_or x i 0)) → r ≡ false → Copying x at stop len old (set mid (len + (i - at)) (get_or x i 0)) (i + 1) w
+      pub copying_none : w ≡ width → {r : Bool} → r ≡ not (continues (get_or x i 0)) → r ≡ false → Copying x old (set mid i (get_or x i 0)) (i + 1) w
       copying_none e f t = on (omega (arith, adds_more (get_or x i 0) f t))
 
 -- Eight bytes
 
 -- without a line end, byte by byte
-pub plain-part : (s : List ℕ) (at n : ℕ) → ((k : ℕ) → k < n → eqb (get_or s (at + k) 0) 0x0A ≡ false) → NoLineEnd s at (at + n)
-plain-part s at n h k a b e =
-    let q : at + (k - at) ≡ k = omega arith in
-    eqb-false _ 0x0A (rw q at (h (k - at) (omega arith))) e
+pub plain-part : (s : List ℕ) (n : ℕ) → ((k : ℕ) → k < n → eqb (get_or s (0 + k) 0) 0x0A ≡ false) → NoLineEnd s 0 n
+plain-part s n h k a b e = let z : 0 + k ≡ k = omega arith in eqb-false _ 0x0A (rw z at (h k b)) e
 
--- one byte more
-take_more : (s : List ℕ) (at i : ℕ) → at + i < length s → take (i + 1) (drop at s) ≡ take i (drop at s) ++ get_or s (at + i) 0 ∷ []
-take_more s at i h =
-    take-add i 1 (drop at s) ∙ ap (λ (l : List ℕ). take i (drop at s) ++ take 1 l) (drop-drop i at s)
-    ∙ ap (λ (l : List ℕ). take i (drop at s) ++ l) (take-one s (at + i) h)
-
--- the first bytes of a block stand in a room
-pub record Block (x : List ℕ) (at len : ℕ) (old new : List ℕ) (i : ℕ) : Type 0 where
-  pub size : length new ≡ length old
-  pub copied : take (len + i) new ≡ take len old ++ take i (drop at x)
-
-module _ (x : List ℕ) (at len : ℕ) (old : List ℕ) where
-  block-first : at < length x → len < length old → Block x at len old (set old len (get_or x at 0)) 1
-  block-first h k = record {
-    size = length-set old len (get_or x at 0);
-    copied = rw (take-one x at h, add-one len) (take-suc-set old len (get_or x at 0) k);
-  }
-
-  block_more : (new : List ℕ) (i : ℕ) → at + i < length x → len + i < length old → Block x at len old new i
-      → Block x at len old (set new (len + i) (get_or x (at + i) 0)) (suc i)
-  block_more new i h k b =
-      let s : len + suc i ≡ suc (len + i) = omega arith in
-      let more : take (suc i) (drop at x) ≡ take i (drop at x) ++ get_or x (at + i) 0 ∷ [] = rw (← add-one i) (take_more x at i h) in
-      record {
-        size = length-set new (len + i) (get_or x (at + i) 0) ∙ b.size;
-        copied =
-            rw (s, take-suc-set new (len + i) (get_or x (at + i) 0) (omega (arith, b.size)), more, b.copied)
-            (append_assoc (take len old) (take i (drop at x)) (get_or x (at + i) 0 ∷ []));
-      }
-
+module _ (x old : List ℕ) where
   -- the room after one byte of a block, and after each byte more
   abbrev pub stored : ℕ → List ℕ
-  stored zero = set old len (get_or x at 0)
-  stored (suc i) = set (stored i) (len + suc i) (get_or x (at + suc i) 0)
+  stored zero = set old 0 (get_or x 0 0)
+  stored (suc i) = set (stored i) (suc i) (get_or x (suc i) 0)
 
-  pub stored-block : (i : ℕ) → at + i < length x → len + i < length old → Block x at len old (stored i) (suc i)
-  stored-block zero h k = block-first (omega arith) (omega arith)
-  stored-block (suc i) h k = block_more (stored i) (suc i) h k (stored-block i (omega arith) (omega arith))
-
-  -- the next byte's place is in the room
-  pub stored-below : (i : ℕ) → at + i < length x → len + suc i < length old → len + suc i < length (stored i)
-  stored-below i h k = omega (arith, (stored-block i h (omega arith)).size)
+  -- the first bytes of a block stand in a room
+  pub stored-block : (i : ℕ) → i < length x → i < length old → (length (stored i) ≡ length old) × (take (suc i) (stored i) ≡ take (suc i) x)
+  stored-block zero h k = (length-set old 0 (get_or x 0 0), take-suc-set old 0 (get_or x 0 0) k ∙ sym (take-suc x 0 0 h))
+  stored-block (suc i) h k =
+      let b = stored-block i (omega arith) (omega arith) in (
+        length-set (stored i) (suc i) (get_or x (suc i) 0) ∙ b.0,
+        take-suc-set (stored i) (suc i) (get_or x (suc i) 0) (omega (arith, b.0))
+            ∙ ap (λ (y : List ℕ). y ++ get_or x (suc i) 0 ∷ []) b.1 ∙ sym (take-suc x (suc i) 0 h),
+      )
 
 -- Whole words
 
--- where a word goes on across a place that is no space's end, no more of a run is whole than before it
-pub cut_back : (x : List ℕ) (far to : ℕ) → to < length x → is_line_end_or_space (get_or x to 0) ≡ false → (get_or x (to - 1) 0 ≡ 0x20 → ⊥)
-    → ((k : ℕ) → to < k → k ≤ far → NoWordCut x k → ⊥) → (k : ℕ) → to - 1 < k → k ≤ far → NoWordCut x k → ⊥
-cut_back x far to h e n last k a b w =
-    ⊎_elim (λ (l : k ≤ to). n (subst (NoWordCut x) (omega arith) w h e)) (λ (l : to < k). last k l b w) (le_or_lt k to)
-
-module _ (x : List ℕ) (at far to width : ℕ) (order : at ≤ to) (near : to ≤ far) (counts : characters (part x at to) ≡ width)
-    (last : (k : ℕ) → to < k → k ≤ far → NoWordCut x k → ⊥) where
-  -- the last byte counts as it adds
-  pub counts_back : at < to → to ≤ length x → characters (part x at (to - 1)) + adds (get_or x (to - 1) 0) ≡ width
-  counts_back h k =
-      let s : to - 1 + 1 ≡ to = omega arith in
-      let one = take-one x (to - 1) (omega arith) in
-      let cut : part x at to ≡ part x at (to - 1) ++ get_or x (to - 1) 0 ∷ [] =
-      ap (λ (e : ℕ). part x at e) (sym s) ∙ part-more x at (to - 1) (omega arith) 1 ∙ ap (λ (l : List ℕ). part x at (to - 1) ++ l) one in
-      omega (arith, counts, ap characters cut, characters-append (part x at (to - 1)) (get_or x (to - 1) 0 ∷ []), count_one (get_or x (to - 1) 0))
-
+module _ (x : List ℕ) (far width : ℕ) (counts : characters (take far x) ≡ width) where
   -- a run that cuts no word
-  pub whole-end : length x ≤ to → Whole x at far to width
-  whole-end h = record { order = order; near = near; counts = counts; whole = λ _ k. absurd (omega arith); last = last }
+  pub whole-end : length x ≤ far → Whole x far far width
+  whole-end h = record { near = omega arith; counts = counts; whole = λ _ k. absurd (omega arith); last = λ k a b. absurd (omega arith) }
 
-  pub whole-stop : is_line_end_or_space (get_or x to 0) ≡ true → Whole x at far to width
-  whole-stop e = record { order = order; near = near; counts = counts; whole = λ _ _ f. absurd (false≢true (sym f ∙ e)); last = last }
+  pub whole-stop : is_line_end_or_space (get_or x far 0) ≡ true → Whole x far far width
+  whole-stop e = record { near = omega arith; counts = counts; whole = λ _ _ f. absurd (false≢true (sym f ∙ e)); last = λ k a b. absurd (omega arith) }
 
-  pub whole_space : get_or x (to - 1) 0 ≡ 0x20 → Whole x at far to width
-  whole_space e = record { order = order; near = near; counts = counts; whole = λ _ _ _. e; last = last }
+  -- where a word goes on across the end of a run, and no byte from a place on is a space, no more of the run is whole
+  module _ (h : far < length x) (e : is_line_end_or_space (get_or x far 0) ≡ false) (plain : NoLineEnd x 0 far) (to : ℕ)
+      (n : (j : ℕ) → to ≤ j → j < far → get_or (take far x) j 0 ≡ 0x20 → ⊥) where
+    cut : (k : ℕ) → to < k → k ≤ far → NoWordCut x k → ⊥
+    cut k a b w =
+        no-space (k - 1) (omega arith) (omega arith)
+        (w (omega arith)
+        (⊎_elim
+        (λ (l : far ≤ k). let q : far ≡ k = omega arith in subst (λ (j : ℕ). is_line_end_or_space (get_or x j 0) ≡ false) q e)
+        (λ (l : k < far). neither_ends (get_or x k 0) (plain k (omega arith) l) (no-space k (omega arith) l))
+        (le_or_lt far k)))
+      where
+        no-space : (j : ℕ) → to ≤ j → j < far → get_or x j 0 ≡ 0x20 → ⊥
+        no-space j a b f = n j a b (get_or-take far x j 0 b ∙ f)
 
-  -- no word at all
-  pub whole-none : to ≤ at → Whole x at far to width
-  whole-none h = record { order = order; near = near; counts = counts; whole = λ k. absurd (omega arith); last = last }
+    module _ (k : to ≤ far) (s : ℕ) (f : s ≡ characters (take (length (take far x) - to) (drop to (take far x)))) where
+      -- the run's width is that of the words and that of the rest
+      pub both : characters (take to x) + s ≡ width
+      both =
+          let z : take (length (take far x) - to) (drop to (take far x)) ≡ drop to (take far x) =
+          take_all (length (take far x) - to) (drop to (take far x)) (omega (arith, length-drop to (take far x))) in
+          ap (λ (m : ℕ). characters (take to x) + m) (f ∙ ap characters z)
+          ∙ sym (characters-append (take to x) (drop to (take far x)))
+          ∙ ap (λ (y : List ℕ). characters (y ++ drop to (take far x))) (sym (take-take to far x k))
+          ∙ ap characters (take-append-drop to (take far x)) ∙ counts
+
+      pub whole_space : get_or (take far x) (to - 1) 0 ≡ 0x20 → 0 < to → Whole x far to (width - s)
+      whole_space g l = record {
+        near = k;
+        counts = omega (arith, both);
+        whole = λ _ _ _. sym (get_or-take far x (to - 1) 0 (omega arith)) ∙ g;
+        last = cut;
+      }
+
+    -- no word at all
+    pub whole-none : to ≡ 0 → Whole x far 0 0
+    whole-none z = record { near = omega arith; counts = refl; whole = λ q. absurd (omega arith); last = λ k a. cut k (omega arith) }
 
 -- A run
 
-module _ (x : List ℕ) (at most len : ℕ) (old : List ℕ) where
-  -- none, where the room is full or the body at its end
-  pub copies_none : ((k : ℕ) → at < k → k ≤ length x → len + (k - at) ≤ length old → ⊥) → Copies x at most len old old at 0
-  copies_none full =
-      let z : at - at ≡ 0 = omega arith in
+-- where the bytes that follow stopped at a line end, so did all
+pub stopped_join : (x : List ℕ) (i n : ℕ) → Stopped (take (length x - i) (drop i x)) n → Stopped x (i + n)
+stopped_join x i n s h =
+    let e : take (length x - i) (drop i x) ≡ drop i x = take_all (length x - i) (drop i x) (omega (arith, length-drop i x)) in
+    sym (get_or-drop i x n 0) ∙ ap (λ (y : List ℕ). get_or y n 0) (sym e) ∙ s (omega (arith, ap length e, length-drop i x))
+
+-- what was copied of the first bytes of a text was copied of the text
+pub line_of : (x old new : List ℕ) (n len width : ℕ) → n ≤ length x → Copying (take n x) old new len width
+    → (len ≤ n) × (characters (take len x) ≡ width) × NoLineEnd x 0 len
+line_of x old new n len width h c =
+    let k : len ≤ n = omega (arith, c.near, length-take-le n x h) in
+    (k, ap characters (sym (take-take len n x k)) ∙ c.counts, λ j a b e. c.plain j a b (get_or-take n x j 0 (omega (arith, b, k)) ∙ e))
+
+module _ (x : List ℕ) (most : ℕ) (old new : List ℕ) (n far width : ℕ) (near : n ≤ most) (inside : n ≤ length x) (fits : n ≤ length old)
+    (most-is : (k : ℕ) → k ≤ most → k ≤ length x → k ≤ length old → k ≤ n) where
+  -- the whole words of what was copied
+  pub copies_whole : (len w : ℕ) → Copying (take n x) old new far width → Stopped (take n x) far → Whole x far len w → Copies x most old new len w
+  copies_whole len w c stopped v =
+      let l = line_of x old new n far width inside c in
       record {
-        order = omega arith;
-        near = omega arith;
-        within = λ h. absurd (omega arith);
-        fits = λ h. absurd (omega arith);
-        stays = refl;
-        copied = rw (z, add-zero, append-nil) refl;
-        counts = rw z refl;
-        plain = λ k a b e. omega arith;
-        whole = λ h. absurd (omega arith);
-        last = λ k a _ c d _ _. full k a c d;
+        words = record {
+          near = omega (arith, v.near, l.0);
+          within = omega (arith, v.near, l.0);
+          fits = omega (arith, v.near, l.0);
+          counts = v.counts;
+          plain = λ k a b. l.2 k a (omega (arith, v.near));
+          whole = v.whole;
+          last = λ k a b d r p q.
+              ⊎_elim (λ (g : k ≤ far). v.last k a g q)
+              (λ (g : far < k).
+              let h : far < n = omega (arith, most-is k b d r) in
+              p far (omega arith) g (sym (get_or-take n x far 0 h) ∙ stopped (omega (arith, h, length-take-le n x inside))))
+              (le_or_lt k far);
+        };
+        copied = sym (take-take len far new v.near) ∙ ap (take len) (c.copied ∙ take-take far n x l.0) ∙ take-take len far x v.near;
       }
 
-  -- the whole words of what was copied
-  pub copies_whole : (new : List ℕ) (stop far width to w : ℕ) → len ≤ length old → stop ≤ at + most → stop ≤ length x → len + (stop - at) ≤ length old
-      → ((k : ℕ) → k ≤ at + most → k ≤ length x → len + (k - at) ≤ length old → k ≤ stop)
-      → Copying x at stop len old new far width → Stopped x stop far → Whole x at far to w → Copies x at most len old new to w
-  copies_whole new stop far width to w h near inside fits most-is c stopped v = record {
-    order = v.order;
-    near = omega (arith, v.near, c.near);
-    within = λ k. omega (arith, v.near, c.near);
-    fits = λ k. omega (arith, v.near, c.near, c.order);
-    stays = ap (λ (n : ℕ). take n new) y ∙ there at (omega arith) c.order ∙ rw (z, append-nil) refl;
-    copied = there to v.order v.near;
-    counts = v.counts;
-    plain = λ k a b. c.plain k a (omega (arith, v.near));
-    whole = v.whole;
-    last = λ k a b d e p q.
-        ⊎_elim (λ (l : k ≤ far). v.last k a l q) (λ (l : far < k). p far c.order l (stopped (omega (arith, most-is k b d e)))) (le_or_lt k far);
+-- what stands after a text in its room
+module _ (x : List ℕ) (most : ℕ) (n : GName) (old : List ℕ) (len : ℕ) (h : len ≤ length old) (part : List ℕ)
+    (size : length part ≡ length (take (length old - len) (drop len old))) (k w : ℕ) (c : Copies x most (take (length old - len) (drop len old)) part k w) where
+  free-size : length (take (length old - len) (drop len old)) ≡ length old - len
+  free-size = length-take-le (length old - len) (drop len old) (omega (arith, length-drop len old))
+
+  pub puts_run : lent n (take len old ++ (part ++ drop (length old - len) (drop len old))) (len + k) ≡ with_bytes (take k x) (lent n old len)
+  puts_run =
+      let s : length (take len old) ≡ len = length-take-le len old h in
+      let d : drop (length old - len) (drop len old) ≡ [] = drop_of_length-le (drop len old) (omega (arith, length-drop len old)) in
+      let z : length (take len old ++ part) ≡ length old = length-append (take len old) part ∙ omega (arith, s, size, free-size, h) in
+      let t : length (take k x) ≡ k = length-take-le k x c.words.within in
+      let f : take (len + k) (take len old ++ part) ≡ take len old ++ take k x =
+      ap (λ (m : ℕ). take (m + k) (take len old ++ part)) (sym s) ∙ take-append-add (take len old) part k ∙ ap (λ (y : List ℕ). take len old ++ y) c.copied in
+      rw (d, append-nil)
+      (lent_wrote (lent n old len) n old (take len old ++ part) (λ m. extended m (take k x)) len (len + k) refl z
+      (wrote old (take len old ++ part) (take k x) len k t z (omega (arith, c.words.fits, free-size, h)) f))
+
+  pub follows_run : Follows x most (lent n old len) k w
+  follows_run = record {
+    near = c.words.near;
+    within = c.words.within;
+    counts = c.words.counts;
+    words = λ o e.
+        let g = seen_given (lent n old len) n old o len refl e in
+        let q : length (take (length old - len) (drop len old)) ≡ length old - length o = free-size ∙ omega (arith, length-take-le len old h, ap length g.1) in
+        (omega (arith, length-take-le len old h, ap length g.1), subst (λ (m : ℕ). Words x most m k w) q c.words);
   }
-    where
-      z : at - at ≡ 0
-      z = omega arith
 
-      y : len ≡ len + (at - at)
-      y = omega arith
+-- what stands there then, where a text did
+pub run_shown : (x : List ℕ) (most : ℕ) (v new : Lent) (k w : ℕ) → Follows x most v k w → new ≡ with_bytes (take k x) v
+    → (out : List ℕ) → v.shown ≡ gives out → new.shown ≡ gives (out ++ take k x)
+unfolding ◌>>=◌
+run_shown x most v new k w c e out s =
+    let f = c.words out s in
+    ap (λ (u : Lent). u.shown) e ∙ ap (λ (r : Result (List ℕ)). r >>= extended v.size (take k x)) s
+    ∙ extended_in v.size (take k x) out (omega (arith, f.0, f.1.fits, length-take-le k x c.within))
 
-      there : (e : ℕ) → at ≤ e → e ≤ far → take (len + (e - at)) new ≡ take len old ++ part x at e
-      there e a b = copied_part x old new len at far e h a b c.copied
+-- a text that was not refused is within its room
+pub given_in : (room : List ℕ) (len : ℕ) → Given (seen room len) → len ≤ length room
+given_in room len g =
+    ⊎_elim (λ (h : len ≤ length room). h) (λ (h : length room < len). absurd (subst Given (seen-out room len h) g)) (le_or_lt len (length room))
+
+-- none, where it was refused
+pub follows_none : (x : List ℕ) (most : ℕ) (v : Lent) → v.shown ≡ refused 13 0 → Follows x most v 0 0
+follows_none x most v e = record { near = omega arith; within = omega arith; counts = refl; words = λ o f. absurd (refused-gives (sym e ∙ f)) }

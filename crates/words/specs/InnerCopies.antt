@@ -1,6 +1,7 @@
 -- What copying a run of words promises; no rule of 01 stands here.
-use Rattle.std.specs.Prelude.{ℕ, ◌+◌, ◌-◌, ◌≤◌, ◌<◌, ◌≡◌, false, List, ◌++◌, length, take, get_or}
-use Rattle.base.specs.Bytes.{part}
+use Rattle.std.specs.Prelude.{ℕ, ◌-◌, ◌≤◌, ◌<◌, ◌≡◌, false, List, length, take, get_or}
+use Rattle.base.specs.Result.{gives}
+use Rattle.room.specs.Lent.{Lent}
 use Rattle.utf8.specs.Utf8.{characters}
 use Rattle.splitter.specs.Split.{is_line_end_or_space}
 
@@ -12,37 +13,44 @@ NoLineEnd x at to = (k : ℕ) → at ≤ k → k < to → get_or x k 0 ≡ 0x0A 
 abbrev pub NoWordCut : List ℕ → ℕ → Type 0
 NoWordCut x to = to < length x → is_line_end_or_space (get_or x to 0) ≡ false → get_or x (to - 1) 0 ≡ 0x20
 
--- The bytes from `at` up to `to`, at most up to `stop`, were copied after the first `len` of a room; none is a line end.
-pub record Copying (x : List ℕ) (at stop len : ℕ) (old new : List ℕ) (to width : ℕ) : Type 0 where
+-- The first bytes of a text x were copied; none is a line end, and `width` is the number of their characters.
+pub record Copying (x old new : List ℕ) (len width : ℕ) : Type 0 where
   pub size : length new ≡ length old
-  pub order : at ≤ to
-  pub near : to ≤ stop
-  pub plain : NoLineEnd x at to
-  pub counts : characters (part x at to) ≡ width
-  pub copied : take (len + (to - at)) new ≡ take len old ++ part x at to
+  pub near : len ≤ length x
+  pub plain : NoLineEnd x 0 len
+  pub counts : characters (take len x) ≡ width
+  pub copied : take len new ≡ take len x
 
--- it was copied up to a line end, if not up to `stop`
-abbrev pub Stopped : List ℕ → ℕ → ℕ → Type 0
-Stopped x stop to = to < stop → get_or x to 0 ≡ 0x0A
+-- they were copied up to a line end, if not all
+abbrev pub Stopped : List ℕ → ℕ → Type 0
+Stopped x len = len < length x → get_or x len 0 ≡ 0x0A
 
--- A run from `at` up to `far` without the word that it cuts, if it cuts one; no more of it is without.
-pub record Whole (x : List ℕ) (at far to width : ℕ) : Type 0 where
-  pub order : at ≤ to
-  pub near : to ≤ far
-  pub counts : characters (part x at to) ≡ width
-  pub whole : at < to → NoWordCut x to
-  pub last : (k : ℕ) → to < k → k ≤ far → NoWordCut x k → ⊥
+-- The first bytes of a text up to `far` without the word that they cut, if they cut one; no more of them are without.
+pub record Whole (x : List ℕ) (far len width : ℕ) : Type 0 where
+  pub near : len ≤ far
+  pub counts : characters (take len x) ≡ width
+  pub whole : 0 < len → NoWordCut x len
+  pub last : (k : ℕ) → len < k → k ≤ far → NoWordCut x k → ⊥
 
--- The bytes from `at` up to `to`, at most `most`, were copied after the first `len` of a room, which stay; `width` is the number of their
--- characters. They are words and spaces of one line, and no more would be. Free are the bytes of the room past those.
-pub record Copies (x : List ℕ) (at most len : ℕ) (old new : List ℕ) (to width : ℕ) : Type 0 where
-  pub order : at ≤ to
-  pub near : to ≤ at + most
-  pub within : at < to → to ≤ length x
-  pub fits : at < to → len + (to - at) ≤ length old
-  pub stays : take len new ≡ take len old
-  pub copied : take (len + (to - at)) new ≡ take len old ++ part x at to
-  pub counts : characters (part x at to) ≡ width
-  pub plain : NoLineEnd x at to
-  pub whole : at < to → NoWordCut x to
-  pub last : (k : ℕ) → to < k → k ≤ at + most → k ≤ length x → len + (k - at) ≤ length old → NoLineEnd x at k → NoWordCut x k → ⊥
+-- The first bytes of a text x, at most `most` and at most `room`, are words and spaces of one line, and no more would be; `width` is the number of
+-- their characters.
+pub record Words (x : List ℕ) (most room len width : ℕ) : Type 0 where
+  pub near : len ≤ most
+  pub within : len ≤ length x
+  pub fits : len ≤ room
+  pub counts : characters (take len x) ≡ width
+  pub plain : NoLineEnd x 0 len
+  pub whole : 0 < len → NoWordCut x len
+  pub last : (k : ℕ) → len < k → k ≤ most → k ≤ length x → k ≤ room → NoLineEnd x 0 k → NoWordCut x k → ⊥
+
+-- They were copied. Free are the bytes past those.
+pub record Copies (x : List ℕ) (most : ℕ) (old new : List ℕ) (len width : ℕ) : Type 0 where
+  pub words : Words x most (length old) len width
+  pub copied : take len new ≡ take len x
+
+-- They are such words where a text stands in a room with enough left; where it was refused, some that are within.
+pub record Follows (x : List ℕ) (most : ℕ) (v : Lent) (len width : ℕ) : Type 0 where
+  pub near : len ≤ most
+  pub within : len ≤ length x
+  pub counts : characters (take len x) ≡ width
+  pub words : (o : List ℕ) → v.shown ≡ gives o → (length o ≤ v.size) × Words x most (v.size - length o) len width

@@ -2,16 +2,18 @@
 
 #![tactic(auto)]
 
-ghost use Rattle.std.specs.Prelude.{◌≡◌, false, ◌++◌, ◌+◌, ◌-◌, ◌<◌, ◌≤◌, length, take, drop};
-ghost use Rattle.base.specs.Bytes.{part};
+ghost use Rattle.std.specs.Prelude.{◌≡◌, false, ◌≤◌, length, take};
 ghost use Rattle.utf8.specs.Utf8.{characters};
+ghost use Rattle.room.specs.Lent.{text_of, with_bytes};
 ghost use Rattle.splitter.specs.Split.{is_line_end_or_space};
-ghost use Rattle.words.specs.InnerCopies.{NoLineEnd, Copying, Stopped, Whole, Copies};
+ghost use Rattle.words.specs.InnerCopies.{NoLineEnd, Copying, Stopped, Whole, Copies, Follows};
 
-// Where a run ends, and its width.
+use room::Text;
+
+// How many bytes a run has, and its width.
 #[derive(Clone, Copy)]
 pub struct Run {
-    pub to: usize,
+    pub len: usize,
     pub width: usize,
 }
 
@@ -25,133 +27,133 @@ fn ends_word(x: u8) -> bool
 // The three functions below take eight bytes at a time: loops of a fixed number of turns without a way out, and a copy that reads all before
 // it writes. A compiler turns each into a few instructions.
 
-// Whether a line end stands among the 8 bytes at a place.
-fn has_line_end(s: &[u8], at: usize) -> bool
-    requires { at + 8 ≤ length s.now }
-    ensures { result ≡ false → NoLineEnd s.now at (at + 8) }
+// Whether a line end stands among the first 8 bytes of a text.
+fn has_line_end(text: &[u8]) -> bool
+    requires { 8 ≤ length text.now }
+    ensures { result ≡ false → NoLineEnd text.now 0 8 }
 {
-    base::any(&s[at..at + 8], |x| x == b'\n')
+    base::any(&text[..8], |x| x == b'\n')
 }
 
-// How many of the 8 bytes at a place start a character.
-fn count(s: &[u8], at: usize) -> u8
-    requires { at + 8 ≤ length s.now }
-    ensures { result ≡ characters (take 8 (drop at s.now)) }
+// How many of the first 8 bytes of a text start a character.
+fn count(text: &[u8]) -> u8
+    requires { 8 ≤ length text.now }
+    ensures { result ≡ characters (take 8 text.now) }
 {
-    base::few(&s[at..at + 8], &utf8::starts_character)
+    base::few(&text[..8], &utf8::starts_character)
 }
 
-// Copies the 8 bytes at a place of a body into a room after the first `len` bytes.
-fn copy_block(room: &mut [u8], len: usize, body: &[u8], at: usize)
-    requires { (at + 8 ≤ length body.now) × (len + 8 ≤ length room.old) }
-    ensures { take (len + 8) room.new ≡ take len room.old ++ take 8 (drop at body.now) }
+// Copies the first 8 bytes of a text.
+fn copy_block(free: &mut [u8], text: &[u8])
+    requires { (8 ≤ length text.now) × (8 ≤ length free.old) }
+    ensures { take 8 free.new ≡ take 8 text.now }
 {
     // the library's `copy_from_slice` of 8 bytes, and a loop over them, are slower
-    let a = body[at];
-    let b = body[at + 1];
-    let c = body[at + 2];
-    let d = body[at + 3];
-    let e = body[at + 4];
-    let f = body[at + 5];
-    let g = body[at + 6];
-    let h = body[at + 7];
-    room[len] = a;
-    room[len + 1] = b;
-    room[len + 2] = c;
-    room[len + 3] = d;
-    room[len + 4] = e;
-    room[len + 5] = f;
-    room[len + 6] = g;
-    room[len + 7] = h;
+    let a = text[0];
+    let b = text[1];
+    let c = text[2];
+    let d = text[3];
+    let e = text[4];
+    let f = text[5];
+    let g = text[6];
+    let h = text[7];
+    free[0] = a;
+    free[1] = b;
+    free[2] = c;
+    free[3] = d;
+    free[4] = e;
+    free[5] = f;
+    free[6] = g;
+    free[7] = h;
 }
 
-// Copies whole blocks of 8 bytes from `at` on, up to one with a line end or with `stop` in it.
-fn copy_blocks(room: &mut [u8], len: usize, body: &[u8], at: usize, stop: usize) -> Run
-    requires { (at ≤ stop) × (stop ≤ length body.now) × (len + (stop - at) ≤ length room.old) }
-    ensures { Copying body.now at stop len room.old room.new result.to result.width }
+// Copies whole blocks of 8 bytes, up to one with a line end in it.
+fn copy_blocks(free: &mut [u8], text: &[u8]) -> Run
+    requires { length text.now ≤ length free.old }
+    ensures { Copying text.now free.old free.new result.len result.width }
 {
-    let mut to = at;
+    let mut len = 0;
     let mut width: usize = 0;
-    while 8 <= stop - to {
-        if has_line_end(body, to) {
-            return Run { to, width };
+    while 8 <= text.len() - len {
+        let block = &text[len..];
+        if has_line_end(block) {
+            break;
         }
-        copy_block(room, len + (to - at), body, to);
-        width += usize::from(count(body, to));
-        to += 8;
+        copy_block(&mut free[len..], block);
+        width += usize::from(count(block));
+        len += 8;
     }
-    Run { to, width }
+    Run { len, width }
 }
 
-// Copies bytes one by one from `at` on, up to a line end or `stop`.
-fn copy_bytes(room: &mut [u8], len: usize, body: &[u8], at: usize, stop: usize) -> Run
-    requires { (at ≤ stop) × (stop ≤ length body.now) × (len + (stop - at) ≤ length room.old) }
-    ensures copying { Copying body.now at stop len room.old room.new result.to result.width }
-    ensures stopped { Stopped body.now stop result.to }
+// Copies bytes one by one, up to a line end.
+fn copy_bytes(free: &mut [u8], text: &[u8]) -> Run
+    requires { length text.now ≤ length free.old }
+    ensures copying { Copying text.now free.old free.new result.len result.width }
+    ensures stopped { Stopped text.now result.len }
 {
-    let mut to = at;
     let mut width: usize = 0;
-    while to < stop {
-        let x = body[to];
+    for len in 0..text.len() {
+        let x = text[len];
         if x == b'\n' {
-            return Run { to, width };
+            return Run { len, width };
         }
-        room[len + (to - at)] = x;
+        free[len] = x;
         if utf8::starts_character(x) {
             width += 1;
         }
-        to += 1;
     }
-    Run { to, width }
-}
-
-// Copies the bytes from `at` on, up to a line end or `stop`: blocks, and then what is left.
-fn copy_line(room: &mut [u8], len: usize, body: &[u8], at: usize, stop: usize) -> Run
-    requires { (at ≤ stop) × (stop ≤ length body.now) × (len + (stop - at) ≤ length room.old) }
-    ensures copying { Copying body.now at stop len room.old room.new result.to result.width }
-    ensures stopped { Stopped body.now stop result.to }
-{
-    let blocks = copy_blocks(room, len, body, at, stop);
-    let middle = blocks.to;
-    let rest = copy_bytes(room, len + (middle - at), body, middle, stop);
     Run {
-        to: rest.to,
-        width: blocks.width + rest.width,
+        len: text.len(),
+        width,
     }
 }
 
 // A run without the word that it cuts in two, if it does: back to the last space.
-fn whole_words(body: &[u8], at: usize, run: Run) -> Run
-    requires { (at ≤ run.to) × (run.to ≤ length body.now) × (characters (part body.now at run.to) ≡ run.width) × NoLineEnd body.now at run.to }
-    ensures { Whole body.now at run.to result.to result.width }
+fn whole_words(text: &[u8], run: Run) -> Run
+    requires { (run.len ≤ length text.now) × (characters (take run.len text.now) ≡ run.width) × NoLineEnd text.now 0 run.len }
+    ensures { Whole text.now run.len result.len result.width }
 {
-    let mut to = run.to;
-    let mut width = run.width;
-    if body.len() <= to || ends_word(body[to]) {
+    if text.len() <= run.len || ends_word(text[run.len]) {
         return run;
     }
-    while at < to {
-        let x = body[to - 1];
-        if x == b' ' {
-            return Run { to, width };
-        }
-        if utf8::starts_character(x) {
-            width -= 1;
-        }
-        to -= 1;
+    let line = &text[..run.len];
+    match line.iter().rposition(|x| *x == b' ') {
+        Some(i) => Run {
+            len: i + 1,
+            width: run.width - utf8::count(&line[i + 1..]),
+        },
+        None => Run { len: 0, width: 0 },
     }
-    Run { to, width }
 }
 
-// Copies words and spaces from a place of a body on, outside ticks, into a room after the first `len` bytes: as many as end by a line end,
-// within `most` bytes and within the room. Bytes past those may be written too.
-pub fn copy_run(room: &mut [u8], len: usize, body: &[u8], at: usize, most: usize) -> Run
-    ensures { Copies body.now at most len room.old room.new result.to result.width }
+// Copies the words and spaces at the start of a text, outside ticks, into what is free of a room: as many as end by a line end, within `most`
+// bytes and within the room. Bytes past those may be written too.
+pub fn copy_run(free: &mut [u8], text: &[u8], most: usize) -> Run
+    ensures { Copies text.now most free.old free.new result.len result.width }
 {
-    if room.len() <= len || body.len() <= at {
-        return Run { to: at, width: 0 };
+    let n = most.min(free.len()).min(text.len());
+    let line = &text[..n];
+    let blocks = copy_blocks(free, line);
+    let bytes = copy_bytes(&mut free[blocks.len..], &line[blocks.len..]);
+    let run = Run {
+        len: blocks.len + bytes.len,
+        width: blocks.width + bytes.width,
+    };
+    whole_words(text, run)
+}
+
+// The same after what is written in a room; where the room is too small already, none.
+pub fn put_run(t: &mut Text, text: &[u8], most: usize) -> Run
+    ensures puts { text_of t.new ≡ with_bytes (take result.len text.now) (text_of t.old) }
+    ensures run { Follows text.now most (text_of t.old) result.len result.width }
+{
+    if t.is_full() {
+        return Run { len: 0, width: 0 };
     }
-    let n = most.min(room.len() - len).min(body.len() - at);
-    let run = copy_line(room, len, body, at, at + n);
-    whole_words(body, at, run)
+    let len = t.len;
+    let room = &mut *t.room;
+    let run = copy_run(&mut room[len..], text, most);
+    t.len = len + run.len;
+    run
 }

@@ -218,7 +218,8 @@ module _ {room : List ℕ} {n : ℕ} {st : Style} {k : ℕ} {after : List ℕ} (
         g.3 ∙ ap (λ (x : List ℕ). kept room (gives x)) f,
       )
 
-pub empty-call : {room : List ℕ} {n : ℕ} {st : Style} {r : Answer ℕ Refusal} {after : List ℕ} → Bytes room → Wrote room n st [] r after → EmptyCall room n st r after
+pub empty-call : {room : List ℕ} {n : ℕ} {st : Style} {r : Answer ℕ Refusal} {after : List ℕ} → Bytes room → Wrote room n st [] r after
+    → EmptyCall room n st r after
 empty-call {room} {n} {st} {r} {after} h w = record {
   nothing = λ k e. call-nothing h (subst (λ (q : Answer ℕ Refusal). Wrote room n st [] q after) e w);
   one_record = λ k e. call_record h (subst (λ (q : Answer ℕ Refusal). Wrote room n st [] q after) e w);

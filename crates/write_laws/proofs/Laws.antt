@@ -3,8 +3,8 @@ use Rattle.write_laws.proofs.Names.{ℕ, ◌+◌, ◌-◌, ◌≤◌, ◌≡◌,
 use Rattle.write_laws.proofs.Names.{leb, length, take, drop, length-append, length-drop, take-append_seam, drop-append-add, drop-drop, arith, le-leb}
 use Rattle.write_laws.proofs.Names.{leb-true, le-ltb, when◌then◌else◌, Result, gives, refused, measured, ◌>>=◌, if_true, if_false, and_left, and_right}
 use Rattle.write_laws.proofs.Names.{and_both, not-passed, bind_same, bind_gives, gives_same, refused-gives, if_gives, open_blocks, short, Style}
-use Rattle.write_laws.proofs.Names.{Refusal, written, writes, so_far, fit, answered, kept, Answer, Ok, Err, writes_all, joined_texts, AllUtf8, none, some, Wrote}
-use Rattle.write_laws.proofs.Names.{Calls, one, more}
+use Rattle.write_laws.proofs.Names.{Refusal, written, writes, so_far, fit, answered, kept, Answer, Ok, Err, writes_all, joined_texts, AllUtf8, none, some}
+use Rattle.write_laws.proofs.Names.{Wrote, Calls, one, more}
 use Rattle.utf8.specs.Utf8.{utf8}
 use Rattle.utf8.proofs.Text.{valid_append, valid_both}
 use Rattle.buffer.proofs.Answering.{SoFar, follows_same, so_far-given, so_far-on}

@@ -1,6 +1,7 @@
 -- What two calls of `write_str` in a row answer and leave. Assumes nothing.
 use Rattle.write_laws.proofs.Names.{ℕ, ◌≡◌, refl, sym, ap, ap₂, ◌∙◌, subst, List, [], ◌∷◌, length, Result, gives, refused, measured, ◌>>=◌}
-use Rattle.write_laws.proofs.Names.{refused-gives, Style, Refusal, writes, answered, kept, Answer, Ok, Err, or_unchanged, writes_all, room_after_all, Wrote, AsJoined}
+use Rattle.write_laws.proofs.Names.{refused-gives, Style, Refusal, writes, answered, kept, Answer, Ok, Err, or_unchanged, writes_all}
+use Rattle.write_laws.proofs.Names.{room_after_all, Wrote, AsJoined}
 use Rattle.write_laws.proofs.Laws.{call-given, second_call, two_calls, first-refused}
 
 -- what `write_two` promises, but for its names

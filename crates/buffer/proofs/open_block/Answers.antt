@@ -7,12 +7,14 @@ use Rattle.buffer.proofs.open_block.Goals as goal
 pub returns-in_err-blocks : goal.returns-in_err-blocks
 unfolding opens_block
 returns-in_err-blocks c =
-    follows-exit (c.args.room.now) c.from_residual.result _ c.from_residual.ensures.1 (so_far-refused (c.args.room.now) c.args.len _ c.so_far.ensures c.in_err-blocks.was)
+    follows-exit (c.args.room.now) c.from_residual.result _ c.from_residual.ensures.1
+    (so_far-refused (c.args.room.now) c.args.len _ c.so_far.ensures c.in_err-blocks.was)
 
 pub returns-in_err-open : goal.returns-in_err-open
 returns-in_err-open c =
     let s = so_far_accepted c.so_far.ensures c.in_ok-blocks.was in
-    follows-exit (c.args.room.now) c.from_residual-in_err-open.result _ c.from_residual-in_err-open.ensures.1 (opens_refused s c.args.b (verdict_refused _ c.open.ensures.opened c.in_err-open.was))
+    follows-exit (c.args.room.now) c.from_residual-in_err-open.result _ c.from_residual-in_err-open.ensures.1
+    (opens_refused s c.args.b (verdict_refused _ c.open.ensures.opened c.in_err-open.was))
 
 pub returns : goal.returns
 returns c =

@@ -12,7 +12,9 @@ returns-in_err-so_far c =
 
 pub returns-then-not-valid : goal.returns-then-not-valid
 returns-then-not-valid c =
-    follows-refused (c.args.room.now) (refusal.NotUtf8 0) (writes-not (so_far_accepted c.so_far.ensures c.in_ok-so_far.was) c.args.style (c.args.text.now) (sym c.if-not-valid.ensures))
+    let a = c.args in
+    let s = so_far_accepted c.so_far.ensures c.in_ok-so_far.was in
+    follows-refused (a.room.now) (refusal.NotUtf8 0) (writes-not s a.style (a.text.now) (sym c.if-not-valid.ensures))
 
 pub slice_bounds-last_text-end : goal.slice_bounds-last_text-end
 slice_bounds-last_text-end c = (so_far_accepted c.so_far.ensures c.in_ok-so_far.was).inside

@@ -7,15 +7,15 @@ pub returns-in_err-check : goal.returns-in_err-check
 returns-in_err-check c =
     let a = c.args in
     let p = err_from_is_err_and c.from_residual.result c.from_residual.ensures.1 in
-    let j = joins-refused (a.added.now) (made_of a.em (a.added.now)) (a.room.now) a.len a.depth _ c.check.ensures c.in_err-check.was in
+    let j = joins-refused (a.added.now) (made_of a.form (a.added.now)) (a.room.now) a.len a.depth _ c.check.ensures c.in_err-check.was in
     rw (p.1, p.2) (record { numbers = joins_numbers j; does = λ _. j })
 
-pub returns-then-em : goal.returns-then-em
-returns-then-em c =
-    let j = joins_made c.if-em.true (joins_added (verdict_gives [] c.check.ensures c.in_ok-check.was) c.put_em_doc.ensures) in
+pub returns-in-EmDoc : goal.returns-in-EmDoc
+returns-in-EmDoc c =
+    let j = joins_made c.in-EmDoc.is (joins_added (verdict_gives [] c.check.ensures c.in_ok-check.was) c.put_em_doc.ensures) in
     record { numbers = joins_numbers j; does = λ _. j }
 
-pub returns : goal.returns
-returns c =
-    let j = joins_made c.if-em.false (joins_added (verdict_gives [] c.check.ensures c.in_ok-check.was) c.put_doc.ensures) in
+pub returns-in-Doc : goal.returns-in-Doc
+returns-in-Doc c =
+    let j = joins_made c.in-Doc.is (joins_added (verdict_gives [] c.check.ensures c.in_ok-check.was) c.put_doc.ensures) in
     record { numbers = joins_numbers j; does = λ _. j }

@@ -10,28 +10,28 @@ use Rattle.buffer_doc.proofs.put_doc.Goals as goal
 pub returns-then-depth-ge-MAX_OPEN : goal.returns-then-depth-ge-MAX_OPEN
 returns-then-depth-ge-MAX_OPEN c = adds_shut c.requires.0 (c.args.added.now) c.if-depth-ge-MAX_OPEN.true
 
-pub too_deep-deep-requires : goal.too_deep-deep-requires
+pub too_deep-requires : goal.too_deep-requires
 unfolding open_blocks
-too_deep-deep-requires c = ((check-gives (c.args.added.now) [] c.requires.1).1, omega arith, omega arith)
+too_deep-requires c = ((check-gives (c.args.added.now) [] c.requires.1).1, omega arith, omega arith)
 
-pub returns-then-deep-added : goal.returns-then-deep-added
-returns-then-deep-added c =
+pub returns-in-Some : goal.returns-in-Some
+returns-in-Some c =
     let a = c.args in
     let pre = c.requires in
-    adds-deep pre.0 (a.added.now) c.if-depth-ge-MAX_OPEN.false (a.len + 6 + c.too_deep-deep.result)
-    (λ stack e. subst (λ (p : ℕ). reads p 0 stack (a.added.now) ≡ refused 7 (a.len + 6 + c.too_deep-deep.result)) (add-zero (a.len + 6))
-    (nests_deep c.too_deep-deep.ensures (a.len + 6) stack e c.if-deep-added.true))
+    adds-deep pre.0 (a.added.now) c.if-depth-ge-MAX_OPEN.false (a.len + 6 + c.in-Some.deep)
+    (λ stack e. subst (λ (p : ℕ). reads p 0 stack (a.added.now) ≡ refused 7 (a.len + 6 + c.in-Some.deep)) (add-zero (a.len + 6))
+    (nests_deep c.too_deep.ensures (a.len + 6) stack e c.in-Some.is))
 
 pub returns-then-not-has_room : goal.returns-then-not-has_room
 returns-then-not-has_room c =
-    let if2 = c.if-deep-added in
-    let too_deep = c.too_deep-deep in
+    let none = c.in_default.is in
+    let too_deep = c.too_deep in
     let if1 = c.if-depth-ge-MAX_OPEN in
     let a = c.args in
     let pre = c.requires in
     adds_full pre.0 (a.added.now) if1.false
     (λ stack e. subst (λ (p : ℕ). reads p 0 stack (a.added.now) ≡ gives stack) (add-zero (a.len + 6))
-    (nests_given too_deep.ensures (a.len + 6) stack e if2.false)) (a.len + 12 + length (a.added.now))
+    (nests_given too_deep.ensures (a.len + 6) stack e none)) (a.len + 12 + length (a.added.now))
     (omega (arith, length-around block.InlineBlock (a.added.now))) (sym c.has_room.ensures ∙ c.if-not-has_room.true)
 
 pub returns : goal.returns
@@ -40,8 +40,8 @@ returns c =
     let copy-from-slice = c.copy_from_slice in
     let if3 = c.if-not-has_room in
     let has_room = c.has_room in
-    let if2 = c.if-deep-added in
-    let too_deep = c.too_deep-deep in
+    let none = c.in_default.is in
+    let too_deep = c.too_deep in
     let if1 = c.if-depth-ge-MAX_OPEN in
     let a = c.args in
     let p = c.requires in
@@ -57,9 +57,9 @@ returns c =
     let mid = copy-from-slice.new.room in
     adds-written p.0 added if1.false
     (λ stack e.
-    subst (λ (p : ℕ). reads p 0 stack added ≡ gives stack) (add-zero (a.len + 6)) (nests_given too_deep.ensures (a.len + 6) stack e if2.false))
+    subst (λ (p : ℕ). reads p 0 stack added ≡ gives stack) (add-zero (a.len + 6)) (nests_given too_deep.ensures (a.len + 6) stack e none))
     (a.len + 12 + length added) (omega (arith, length-around block.InlineBlock added)) _ (sym e ∙ y)
     (copied_then room mid _ a.len (a.len + 6 + length added) (b ++ added) (end block.InlineBlock) (omega (arith, h))
-    (copied_then room c.set_start.new.room _ a.len (a.len + 6) b added (omega (arith, h))
-    (c.set_start.ensures ∙ overwritten_fits room a.len b (omega (arith, h))) (omega arith) copy-from-slice.ensures) (omega arith)
-    c.set_end.ensures)
+    (copied_then room c.set_block.new.room _ a.len (a.len + 6) b added (omega (arith, h))
+    (rw c.start_kind.ensures at c.set_block.ensures ∙ overwritten_fits room a.len b (omega (arith, h))) (omega arith) copy-from-slice.ensures) (omega arith)
+    (rw c.end_kind.ensures at c.set_block-2.ensures))

@@ -40,4 +40,4 @@ returns c =
     (omega (arith, length-around block.InlineBlock x, length-text style.Emphasis t)) _ (sym e ∙ y)
     (copied_then room put-title.new.room _ a.len (a.len + 12 + length t) (b ++ x) (end block.InlineBlock)
     (omega (arith, h, l, length-end block.InlineBlock)) put-title.ensures (omega (arith, l))
-    c.set_end.ensures)
+    (rw c.end_kind.ensures at c.set_block.ensures))

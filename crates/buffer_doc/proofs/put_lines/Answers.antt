@@ -19,27 +19,27 @@ returns-then-depth-ge31 c =
     adds-deep pre.0 (titled (a.added.now) a.line a.next) c.if-depth-ge-MAX_OPEN.false (a.len + 6 + a.line)
     (λ stack e. titled_shut pre.1 (a.len + 6) stack (omega (arith, c.if-depth-ge31.true)))
 
-pub returns-then-deep-added : goal.returns-then-deep-added
-returns-then-deep-added c =
+pub returns-in-Some : goal.returns-in-Some
+returns-in-Some c =
     let if1 = c.if-depth-ge-MAX_OPEN in
     let a = c.args in
     let pre = c.requires in
-    let q : a.len + 6 + 11 + c.too_deep-deep.result ≡ a.len + 17 + c.too_deep-deep.result = omega arith in
-    adds-deep pre.0 (titled (a.added.now) a.line a.next) if1.false (a.len + 17 + c.too_deep-deep.result)
-    (λ stack e. titled-deep pre.1 (a.len + 6) stack c.too_deep-deep.ensures (omega (arith, c.if-depth-ge31.false)) (omega arith)
-    c.if-deep-added.true ∙ ap (λ (p : ℕ). refused 7 p) q)
+    let q : a.len + 6 + 11 + c.in-Some.deep ≡ a.len + 17 + c.in-Some.deep = omega arith in
+    adds-deep pre.0 (titled (a.added.now) a.line a.next) if1.false (a.len + 17 + c.in-Some.deep)
+    (λ stack e. titled-deep pre.1 (a.len + 6) stack c.too_deep.ensures (omega (arith, c.if-depth-ge31.false)) (omega arith)
+    c.in-Some.is ∙ ap (λ (p : ℕ). refused 7 p) q)
 
 pub returns-then-not-has_room : goal.returns-then-not-has_room
 returns-then-not-has_room c =
-    let if3 = c.if-deep-added in
-    let too_deep = c.too_deep-deep in
+    let none = c.in_default.is in
+    let too_deep = c.too_deep in
     let if2 = c.if-depth-ge31 in
     let if1 = c.if-depth-ge-MAX_OPEN in
     let a = c.args in
     let pre = c.requires in
     let x = titled (a.added.now) a.line a.next in
     adds_full pre.0 x if1.false
-    (λ stack e. titled-given pre.1 (a.len + 6) stack too_deep.ensures (omega (arith, if2.false)) (omega arith) if3.false)
+    (λ stack e. titled-given pre.1 (a.len + 6) stack too_deep.ensures (omega (arith, if2.false)) (omega arith) none)
     (a.len + 29 + length (a.added.now)) (omega (arith, length-around block.InlineBlock x, length-titled pre.1))
     (sym c.has_room.ensures ∙ c.if-not-has_room.true)
 
@@ -48,8 +48,8 @@ returns c =
     let put-title = c.put_title in
     let if4 = c.if-not-has_room in
     let has_room = c.has_room in
-    let if3 = c.if-deep-added in
-    let too_deep = c.too_deep-deep in
+    let none = c.in_default.is in
+    let too_deep = c.too_deep in
     let if2 = c.if-depth-ge31 in
     let if1 = c.if-depth-ge-MAX_OPEN in
     let a = c.args in
@@ -60,7 +60,7 @@ returns c =
     let b = start block.InlineBlock in
     let t = text style.Emphasis (part s 6 a.line) in
     adds-written pre.0 x if1.false
-    (λ stack e. titled-given l (a.len + 6) stack too_deep.ensures (omega (arith, if2.false)) (omega arith) if3.false) (a.len + 29 + length s)
+    (λ stack e. titled-given l (a.len + 6) stack too_deep.ensures (omega (arith, if2.false)) (omega arith) none) (a.len + 29 + length s)
     (omega (arith, length-around block.InlineBlock x, length-titled l)) _ (sym has_room.ensures ∙ if4.false)
     (pasted_then (a.room.now) put-title.new.room _ a.len (a.len + 6 + a.line) (b ++ t)
     (section (a.next - a.line - 1) (part s (a.line + 1) (length s))) pre.0.inside put-title.ensures

@@ -9,9 +9,8 @@ use Rattle.console.proofs.render_console.Goals as goal
 pub returns : goal.returns
 returns c =
     let clear-after = c.clear_after in
-    let after-rendered = c in
-    let s = after-rendered.rendered-answer in
-    let a = after-rendered.args in
+    let s = c.rendered-answer in
+    let a = c.args in
     let answer =
     standing-measured s.new.room s.result (console a.set (length a.room.now) a.document.now) s.ensures.same
     s.ensures.fits in

@@ -35,7 +35,8 @@ loop-at-init c = (
 pub returns-then-room-m : goal.returns-then-room-m
 returns-then-room-m c =
     let s = c.loop-at in
-    stands-refused c.args.document.now c.args.set c.args.tab.0 _ s.room refusal.NoRoom (stand_over _ _ _ _ s.room s.margins s.m s.at s.invariant.0 c.if-room-m.true)
+    stands-refused c.args.document.now c.args.set c.args.tab.0 _ s.room refusal.NoRoom
+    (stand_over _ _ _ _ s.room s.margins s.m s.at s.invariant.0 c.if-room-m.true)
 
 less : (c : After-whole_at-h) → length c.args.document.now - c.whole_at-h.result.next < length c.args.document.now - c.loop-at.at
 less c =

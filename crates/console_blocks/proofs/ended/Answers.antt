@@ -19,34 +19,39 @@ pub returns-in-Section4-clause-mark_after : goal.returns-in-Section4-clause-mark
 unfolding ended
 returns-in-Section4-clause-mark_after c = λ fits.
     rw c.in-Section4.is
-    (changed c.args.room.now c.args.margins.now _ c.args.m _ _ (λ s. outdent (length c.args.room.now) (with_lay (λ l. with_gap false l.gap l) s)) (λ s. refl)
+    (changed c.args.room.now c.args.margins.now _ c.args.m _ _
+    (λ s. outdent (length c.args.room.now) (with_lay (λ l. with_gap false l.gap l) s)) (λ s. refl)
     (λ x. rw c.pop.ensures))
 
 pub returns-in-ItemBody-clause-mark_after : goal.returns-in-ItemBody-clause-mark_after
 unfolding ended
 returns-in-ItemBody-clause-mark_after c = λ fits.
     rw c.in-ItemBody.is
-    (changed c.args.room.now c.args.margins.now _ c.args.m _ _ (λ s. outdent (length c.args.room.now) (with_lay (with_gutter false) s)) (λ s. refl) (λ x. rw c.pop.ensures))
+    (changed c.args.room.now c.args.margins.now _ c.args.m _ _ (λ s. outdent (length c.args.room.now) (with_lay (with_gutter false) s)) (λ s. refl)
+    (λ x. rw c.pop.ensures))
 
 pub returns-then-m-clause-mark_after : goal.returns-then-m-clause-mark_after
 unfolding ended when◌then◌else◌
 returns-then-m-clause-mark_after c = λ fits.
     rw c.in-Block.is
     (changed c.args.room.now c.args.margins.now _ c.args.m _ _
-    (λ s. outdent (length c.args.room.now) (when s.lay.passing then with_lay (with_gap false false) s else with_lay with_blank s)) (λ s. refl) (λ x. rw (c.if-m.true, c.pop.ensures)))
+    (λ s. outdent (length c.args.room.now) (when s.lay.passing then with_lay (with_gap false false) s else with_lay with_blank s)) (λ s. refl)
+    (λ x. rw (c.if-m.true, c.pop.ensures)))
 
 pub returns-else-m-clause-mark_after : goal.returns-else-m-clause-mark_after
 unfolding ended when◌then◌else◌
 returns-else-m-clause-mark_after c = λ fits.
     rw c.in-Block.is
     (changed c.args.room.now c.args.margins.now _ c.args.m _ _
-    (λ s. outdent (length c.args.room.now) (when s.lay.passing then with_lay (with_gap false false) s else with_lay with_blank s)) (λ s. refl) (λ x. rw (c.if-m.false, c.pop.ensures)))
+    (λ s. outdent (length c.args.room.now) (when s.lay.passing then with_lay (with_gap false false) s else with_lay with_blank s)) (λ s. refl)
+    (λ x. rw (c.if-m.false, c.pop.ensures)))
 
 pub returns-in-InlineBlock-clause-mark_after : goal.returns-in-InlineBlock-clause-mark_after
 unfolding ended
 returns-in-InlineBlock-clause-mark_after c = λ fits.
     rw c.in-InlineBlock.is
-    (changed c.args.room.now c.args.margins.now _ c.args.m _ _ (λ s. outdent (length c.args.room.now) (with_lay (λ l. with_skip (skip_end block.InlineBlock l.skip) l) s)) (λ s. refl)
+    (changed c.args.room.now c.args.margins.now _ c.args.m _ _
+    (λ s. outdent (length c.args.room.now) (with_lay (λ l. with_skip (skip_end block.InlineBlock l.skip) l) s)) (λ s. refl)
     (λ x. rw (c.pop-in-InlineBlock.ensures, c.pop.ensures)))
 
 pub returns-in-InlineBlock-clause-moved : goal.returns-in-InlineBlock-clause-moved

@@ -29,7 +29,8 @@ pub returns-then-gap-clause-mark_after : goal.returns-then-gap-clause-mark_after
 unfolding started when◌then◌else◌
 returns-then-gap-clause-mark_after c = λ fit.
     rw (c.in-Section4.is, c.if-gap.true)
-    (changed c.args.room.now c.args.margins.now _ c.args.m _ _ (λ s. indent (length c.args.room.now) 4 (with_lay (λ l. with_gap true l.passing (with_newline l)) s)) (λ s. refl)
+    (changed c.args.room.now c.args.margins.now _ c.args.m _ _
+    (λ s. indent (length c.args.room.now) 4 (with_lay (λ l. with_gap true l.passing (with_newline l)) s)) (λ s. refl)
     (λ x. rw (c.push-then-gap.ensures.pushes fit.slot (omega (arith, fit.margin)))))
 
 pub returns-else-gap-clause-mark_after : goal.returns-else-gap-clause-mark_after
@@ -50,7 +51,8 @@ pub returns-in-ItemBody-clause-mark_after : goal.returns-in-ItemBody-clause-mark
 unfolding started
 returns-in-ItemBody-clause-mark_after c = λ fit.
     rw c.in-ItemBody.is
-    (changed c.args.room.now c.args.margins.now _ c.args.m _ _ (λ s. indent (length c.args.room.now) (c.args.tab.0 + 2) (with_lay (with_gutter true) s)) (λ s. refl)
+    (changed c.args.room.now c.args.margins.now _ c.args.m _ _
+    (λ s. indent (length c.args.room.now) (c.args.tab.0 + 2) (with_lay (with_gutter true) s)) (λ s. refl)
     (λ x.
     let t = c.plus.ensures in
     let e : c.plus.result.0 ≡ c.args.tab.0 + 2 = t.result_value (omega (arith, fit.margin)) in

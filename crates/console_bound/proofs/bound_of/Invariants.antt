@@ -1,11 +1,8 @@
-use Rattle.console_bound.proofs.Names.{◌-◌, length}
+use Rattle.records.specs.Listed.{left}
 use Rattle.console_bound.proofs.Counts.{Counted}
 use Rattle.console_bound.proofs.bound_of.Given as goal
 
--- The loop: so many bytes of text and so many TermRef starts and ends stand before `at`, and the others from there on.
--- What falls: the bytes from `at` on.
-abbrev pub invariant-loop-at : goal.invariant-loop-at
-invariant-loop-at l = Counted l.document l.at l.bytes l.refs
-
-abbrev pub decreases-loop-at : goal.decreases-loop-at
-decreases-loop-at l = length l.document - l.at
+-- So many bytes of text and so many TermRef starts and ends stand before the records that are left, and the others in these.
+-- The records that are left fall.
+abbrev pub invariant-loop-r : goal.invariant-loop-r
+invariant-loop-r l = Counted l.document (left l.r-iterator) l.bytes l.refs

@@ -2,7 +2,8 @@ use Rattle.std.proofs.Common.{◌+◌, ◌-◌, length, replicate, sym, ◌∙�
 use Rattle.console_rules.specs.Console.{with_column, pad_gutter}
 use Rattle.console_chunks.proofs.Pages.{wrote, agree, idle}
 use Rattle.console_chunks.proofs.Chunks.{gap_no, gap_near, gap_wide, gap_due, near_column}
-use Rattle.console_chunks.proofs.pad_gutter.Goals.{else-m-via-then-m+then-m-ge-MAX_TABSTOP+else-padded-lt2, else-m-via-then-m+else-m-ge-MAX_TABSTOP, else-m-via-else-m}
+use Rattle.console_chunks.proofs.pad_gutter.Goals.{else-m-via-then-m+then-m-ge-MAX_TABSTOP+else-padded-lt2}
+use Rattle.console_chunks.proofs.pad_gutter.Goals.{else-m-via-then-m+else-m-ge-MAX_TABSTOP, else-m-via-else-m}
 use Rattle.console_chunks.proofs.pad_gutter.Goals as goal
 
 pub returns-then-padded-lt2 : goal.returns-then-padded-lt2

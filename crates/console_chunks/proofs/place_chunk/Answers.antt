@@ -5,9 +5,8 @@ use Rattle.console_chunks.proofs.place_chunk.Goals as goal
 
 pub returns-then-m-eq0 : goal.returns-then-m-eq0
 returns-then-m-eq0 c =
-    let after-if1 = c in
-    let if1 = after-if1.if-m-eq0 in
-    let a = after-if1.args in
+    let if1 = c.if-m-eq0 in
+    let a = c.args in
     let p = c.put_chunk.ensures in record {
       result_after = (λ fits kept.
           raw-first a.room.now kept a.m a.margin.0 a.at a.text.now a.width.0 (measure_of a.set) a.set _ if1.true
@@ -18,16 +17,13 @@ returns-then-m-eq0 c =
 pub returns-then-is_space : goal.returns-then-is_space
 returns-then-is_space c =
     let f = c.fold_line-f in
-    let after-if2 = c in
-    let if2 = after-if2.if-folds_at in
-    let folds-at = after-if2.folds_at in
-    let measure-of = after-if2.measure_of in
-    let after-due-blank = after-if2 in
-    let b = after-due-blank.due_blank-b in
-    let d = after-due-blank.due_line-a in
-    let after-if1 = after-due-blank in
-    let if1 = after-if1.if-m-eq0 in
-    let a = after-if1.args in
+    let if2 = c.if-folds_at in
+    let folds-at = c.folds_at in
+    let measure-of = c.measure_of in
+    let b = c.due_blank-b in
+    let d = c.due_line-a in
+    let if1 = c.if-m-eq0 in
+    let a = c.args in
     let folds = sym (ap (λ n. ltb a.set.width (b.result.lay.column.0 + n)) measure-of.ensures) in record {
       result_after = (λ fits kept.
           raw-next a.room.now kept a.m a.margin.0 a.at a.text.now a.width.0 (measure_of a.set) a.set _ _ _ _ _ if1.false
@@ -42,19 +38,15 @@ pub returns-then-folds_at : goal.returns-then-folds_at
 returns-then-folds_at c =
     let q = c.put_chunk-then-folds_at in
     let if3 = c.if-is_space in
-    let after-is-space = c in
-    let is-space = after-is-space.is_space in
-    let f = after-is-space.fold_line-f in
-    let if2 = after-is-space.if-folds_at in
-    let after-folds-at = after-is-space in
-    let folds-at = after-folds-at.folds_at in
-    let measure-of = after-folds-at.measure_of in
-    let after-due-blank = after-folds-at in
-    let b = after-due-blank.due_blank-b in
-    let d = after-due-blank.due_line-a in
-    let after-if1 = after-due-blank in
-    let if1 = after-if1.if-m-eq0 in
-    let a = after-if1.args in
+    let is-space = c.is_space in
+    let f = c.fold_line-f in
+    let if2 = c.if-folds_at in
+    let folds-at = c.folds_at in
+    let measure-of = c.measure_of in
+    let b = c.due_blank-b in
+    let d = c.due_line-a in
+    let if1 = c.if-m-eq0 in
+    let a = c.args in
     let folds = sym (ap (λ n. ltb a.set.width (b.result.lay.column.0 + n)) measure-of.ensures) in record {
       result_after = (λ fits kept.
           raw-next a.room.now kept a.m a.margin.0 a.at a.text.now a.width.0 (measure_of a.set) a.set _ _ _ _ _ if1.false
@@ -72,14 +64,11 @@ returns c =
     let q = c.put_chunk-2 in
     let if2 = c.if-folds_at in
     let folds-at = c.folds_at in
-    let after-measure-of = c in
-    let measure-of = after-measure-of.measure_of in
-    let after-due-blank = after-measure-of in
-    let b = after-due-blank.due_blank-b in
-    let d = after-due-blank.due_line-a in
-    let after-if1 = after-due-blank in
-    let if1 = after-if1.if-m-eq0 in
-    let a = after-if1.args in
+    let measure-of = c.measure_of in
+    let b = c.due_blank-b in
+    let d = c.due_line-a in
+    let if1 = c.if-m-eq0 in
+    let a = c.args in
     let folds = sym (ap (λ n. ltb a.set.width (b.result.lay.column.0 + n)) measure-of.ensures) in record {
       result_after = (λ fits kept.
           raw-next a.room.now kept a.m a.margin.0 a.at a.text.now a.width.0 (measure_of a.set) a.set _ _ _ _ _ if1.false

@@ -12,9 +12,8 @@ returns-then-room-m c =
 
 pub returns-then-missing-gt-MAX_MISSING : goal.returns-then-missing-gt-MAX_MISSING
 returns-then-missing-gt-MAX_MISSING c =
-    let after-missing-to = c in
-    let missing-to = after-missing-to.missing_to-missing in
-    let a = after-missing-to.args in record {
+    let missing-to = c.missing_to-missing in
+    let a = c.args in record {
       result_after = (λ fits kept.
           deep a.room.now kept a.m a.margin.0 a.at a.text.now a.width.0 _ missing-to.ensures c.if-missing-gt-MAX_MISSING.true
           c.if-room-m.false);
@@ -24,13 +23,11 @@ returns-then-missing-gt-MAX_MISSING c =
 pub returns : goal.returns
 returns c =
     let h = c.place_here in
-    let after-pad-gutter = c in
-    let g = after-pad-gutter.pad_gutter-b in
-    let r = after-pad-gutter.reach_margin-a in
-    let after-if1 = after-pad-gutter in
-    let if1 = after-if1.if-missing-gt-MAX_MISSING in
-    let miss = after-if1.missing_to-missing in
-    let a = after-if1.args in record {
+    let g = c.pad_gutter-b in
+    let r = c.reach_margin-a in
+    let if1 = c.if-missing-gt-MAX_MISSING in
+    let miss = c.missing_to-missing in
+    let a = c.args in record {
       result_after = (λ fits kept.
           put-done a.room.now kept a.m a.margin.0 a.at a.text.now a.width.0 miss.result.0 _ _ _ _ _ r.auto.room g.auto.room
           miss.ensures if1.false (r.ensures.by_index kept) (g.ensures.result_after (omega (arith, r.ensures.near.0)) kept)

@@ -8,9 +8,8 @@ pub returns : goal.returns
 unfolding reach
 returns c =
     let put-spaces = c.put_spaces in
-    let after-missing-to = c in
-    let missing-to = after-missing-to.missing_to in
-    let a = after-missing-to.args in
+    let missing-to = c.missing_to in
+    let a = c.args in
     let n = length a.room.now in
     let e = c.at_column-lay.ensures in
     let s = put-spaces.ensures in

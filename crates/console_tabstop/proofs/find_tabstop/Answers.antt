@@ -16,11 +16,10 @@ read c = c.whole_raw_at-h.ensures (sym c.fits_at.ensures ∙ c.if-not-fits_at.fa
 
 pub loop-at-preserved : goal.loop-at-preserved
 loop-at-preserved c =
-    let w = c in
-    let l = w.loop-at in
+    let l = c.loop-at in
     let later = sym c.settles.ensures ∙ c.if-settles.false in
-    on-next _ _ _ l.at (terms_of l.t) l.invariant (head_of w.whole_raw_at-h.result) (read (goal.at.loop-at-preserved c).After-whole_raw_at-h) w.loop-at-test.true later _
-    c.term_on-t.ensures
+    on-next _ _ _ l.at (terms_of l.t) l.invariant (head_of c.whole_raw_at-h.result)
+    (read (goal.at.loop-at-preserved c).After-whole_raw_at-h) c.loop-at-test.true later _ c.term_on-t.ensures
 
 pub returns-then-not-fits_at : goal.returns-then-not-fits_at
 unfolding tabstop settled_at
@@ -34,10 +33,11 @@ returns-then-not-fits_at c =
 pub returns-then-settles : goal.returns-then-settles
 unfolding tabstop settled_at
 returns-then-settles c =
-    let w = c in
-    let l = w.loop-at in
+    let l = c.loop-at in
     let here = sym c.settles.ensures ∙ c.if-settles.true in
-    let e = on-settled _ _ _ l.at (terms_of l.t) l.invariant (head_of w.whole_raw_at-h.result) (read (goal.at.returns-then-settles c).After-whole_raw_at-h) w.loop-at-test.true here in record {
+    let e =
+    on-settled _ _ _ l.at (terms_of l.t) l.invariant (head_of c.whole_raw_at-h.result)
+    (read (goal.at.returns-then-settles c).After-whole_raw_at-h) c.loop-at-test.true here in record {
       tabstop = (e.0, omega arith);
       settled = e.1;
     }

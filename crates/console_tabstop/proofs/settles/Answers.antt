@@ -7,12 +7,12 @@ use Rattle.records.specs.declared.Block.TheVariants as block
 use Rattle.records.proofs.Codes.{end-by-code, no-end-code}
 use Rattle.console_tabstop.proofs.settles.Goals as goal
 
-pub returns-then-code-eq516 : goal.returns-then-code-eq516
-returns-then-code-eq516 c =
+pub returns-then-code-eq-TERM_END : goal.returns-then-code-eq-TERM_END
+returns-then-code-eq-TERM_END c =
     let a = c.args in
-    ap (λ (b : Bool). b && eqb a.t.counted 24) (sym (ap (is_end 4) (end-by-code a.code block.ItemTerm c.if-code-eq516.true)))
+    ap (λ (b : Bool). b && eqb a.t.counted 24) (sym (ap (is_end 4) (end-by-code a.code block.ItemTerm c.if-code-eq-TERM_END.true)))
 
-pub returns-else-code-eq516 : goal.returns-else-code-eq516
-returns-else-code-eq516 c =
+pub returns-else-code-eq-TERM_END : goal.returns-else-code-eq-TERM_END
+returns-else-code-eq-TERM_END c =
     let a = c.args in
-    ne_eqb _ _ c.if-code-eq516.false ∙ ap (λ (b : Bool). b && eqb a.t.counted 24) (sym (no-end-code a.code 4 c.if-code-eq516.false))
+    ne_eqb _ _ c.if-code-eq-TERM_END.false ∙ ap (λ (b : Bool). b && eqb a.t.counted 24) (sym (no-end-code a.code 4 c.if-code-eq-TERM_END.false))

@@ -13,18 +13,18 @@ use Rattle.console_tabstop.proofs.Scans.{text-counted, term-passed}
 use Rattle.console_tabstop.proofs.term_on.Goals.{else-t-eq1-via-then-t-eq1+else-is_text, else-t-eq1-via-else-t-eq1}
 use Rattle.console_tabstop.proofs.term_on.Goals as goal
 
-pub returns-then-code-eq260 : goal.returns-then-code-eq260
+pub returns-then-code-eq-TERM_START : goal.returns-then-code-eq-TERM_START
 unfolding term
-returns-then-code-eq260 c =
+returns-then-code-eq-TERM_START c =
     let a = c.args in
-    let k = start-by-code a.code block.ItemTerm c.if-code-eq260.true in
+    let k = start-by-code a.code block.ItemTerm c.if-code-eq-TERM_START.true in
     c.term_start.ensures ∙ sym (ap (λ (k : Kind). term k a.body.now (terms_of a.t)) k)
 
-pub returns-then-code-eq516 : goal.returns-then-code-eq516
+pub returns-then-code-eq-TERM_END : goal.returns-then-code-eq-TERM_END
 unfolding term
-returns-then-code-eq516 c =
+returns-then-code-eq-TERM_END c =
     let a = c.args in
-    let k = end-by-code a.code block.ItemTerm c.if-code-eq516.true in
+    let k = end-by-code a.code block.ItemTerm c.if-code-eq-TERM_END.true in
     c.term_end.ensures ∙ sym (ap (λ (k : Kind). term k a.body.now (terms_of a.t)) k)
 
 pub overflow_add-r : goal.overflow_add-r
@@ -41,7 +41,8 @@ returns-then-is_text c =
 pub returns-else-t-eq1 : goal.returns-else-t-eq1
 returns-else-t-eq1 c =
     let a = c.args in
-    term-passed a.body.now (terms_of a.t) (kind_of a.code) (no-start-code a.code 4 c.if-code-eq260.false) (no-end-code a.code 4 c.if-code-eq516.false)
+    term-passed a.body.now (terms_of a.t) (kind_of a.code) (no-start-code a.code 4 c.if-code-eq-TERM_START.false)
+    (no-end-code a.code 4 c.if-code-eq-TERM_END.false)
     (elim c.else-t-eq1.branch [
       | else-t-eq1-via-then-t-eq1+else-is_text w ↦ (λ e. absurd (false≢true (sym (sym w.is_text.ensures ∙ w.if-is_text.false) ∙ e)))
       | else-t-eq1-via-else-t-eq1 w ↦ (λ e. ne_eqb _ _ w.if-t-eq1.false)

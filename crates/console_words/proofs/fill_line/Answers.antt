@@ -1,56 +1,45 @@
 use Prim.Native.Nat.{◌+◌, ◌-◌, ◌≤◌}
 use native.Mathlib.Omega.{arith}
 use borrow.Author.Rules.{rules}
-use Rattle.words.proofs.Copying.{part-narrow}
-use Rattle.console_words.specs.InnerAdvance.{LineAdvance}
-use Rattle.console_words.proofs.Advance.{onward_run}
+use lib.ListN.{length, take, drop}
+use Rattle.room.specs.Lent.{text_of}
+use Rattle.words.proofs.Copying.{given_in, narrow}
+use Rattle.console_words.proofs.Advance.{run_on}
 use Rattle.console_words.proofs.fill_line.Goals.{After-copy_run-run}
 use Rattle.console_words.proofs.fill_line.Goals as goal
 
--- the in which a run is copied, and what the function began with
+pub slice_bounds-copy_run-count : goal.slice_bounds-copy_run-count
+slice_bounds-copy_run-count c = given_in _ c.loop-at.t.len c.loop-at.invariant.there.inside
 
--- the column after a run is no further on than the width
-narrow : (r : After-copy_run-run)
-    → let l = r.loop-at in let a = r.args in l.column.0 + r.copy_run-run.result.width ≤ a.set.width
-narrow r =
-    let e = r.copy_run-run.ensures in
-    let if1 = r.if-set-column in
-    let l = r.loop-at in
-    let a = r.args in
-    omega (arith, e.near, e.counts, part-narrow a.body.now l.at r.copy_run-run.result.to, if1.false)
-
--- a run more
-ran : (r : After-copy_run-run)
-    → let l = r.loop-at in
-    let a = r.args in
-    let w = r.copy_run-run.result in
-    LineAdvance a.set a.body.now a.room.now a.len.0 a.column.0 a.from r.copy_run-run.new.room
-    (l.len.0 + (w.to - l.at)) (l.column.0 + w.width) w.to
-ran r =
-    let run = r.copy_run-run in
-    let if1 = r.if-set-column in
-    let l = r.loop-at in
-    let a = r.args in
-    onward_run a.set a.body.now a.room.now a.len.0 a.column.0 a.from l.room l.len.0 l.column.0 l.at l.invariant
-    run.new.room (a.set.width - l.column.0) run.result.to run.result.width run.ensures run.auto.room (omega (arith, if1.false))
-
-pub overflow_add-wider : goal.overflow_add-wider
-overflow_add-wider c =
-    let f = narrow (goal.at.overflow_add-wider c).After-copy_run-run in
+pub slice_bounds-copy_run-start : goal.slice_bounds-copy_run-start
+slice_bounds-copy_run-start c =
+    let h = given_in _ c.loop-at.t.len c.loop-at.invariant.there.inside in
     search rules
 
-pub returns-then-run-n : goal.returns-then-run-n
-returns-then-run-n c = ran (goal.at.returns-then-run-n c).After-copy_run-run
+-- the column after a run is no further on than the width
+pub overflow_add-column : goal.overflow_add-column
+overflow_add-column c =
+    let w = c.copy_run-run.ensures.words in
+    let x = c.args.body.now in
+    let at = c.loop-at.at in
+    let f : c.loop-at.column.0 + c.copy_run-run.result.width ≤ c.args.set.width =
+    omega (arith, w.near, w.counts, narrow (take (length x - at) (drop at x)) c.copy_run-run.result.len, c.if-set-column.false) in
+    search rules
 
-pub loop-at-smaller : goal.loop-at-smaller
-loop-at-smaller c =
-    let r = c in
-    let e = r.copy_run-run.ensures in
-    let l = r.loop-at in
-    let a = r.args in
-    let n = part-narrow a.body.now l.at r.copy_run-run.result.to in
-    let further : l.at + 1 ≤ r.copy_run-run.result.to = omega (arith, e.order, e.counts, n, c.if-run-n.false) in
-    omega (arith, further, e.within (omega arith))
+pub returns-then-run : goal.returns-then-run
+returns-then-run c =
+    let r = c.copy_run-run in
+    let l = c.loop-at in
+    let a = c.args in
+    run_on a.set a.body.now (text_of a.t.now) a.column.0 a.from l.t.room.ghost_name l.t.room.now l.t.len l.column.0 l.at l.invariant
+    (given_in _ l.t.len l.invariant.there.inside) (omega arith) r.new.free r.auto.free (a.set.width - l.column.0) r.result.len r.result.width r.ensures
+    (omega (arith, c.if-set-column.false))
 
 pub loop-at-preserved : goal.loop-at-preserved
-loop-at-preserved c = ran (goal.at.loop-at-preserved c).After-copy_run-run
+loop-at-preserved c =
+    let r = c.copy_run-run in
+    let l = c.loop-at in
+    let a = c.args in
+    run_on a.set a.body.now (text_of a.t.now) a.column.0 a.from l.t.room.ghost_name l.t.room.now l.t.len l.column.0 l.at l.invariant
+    (given_in _ l.t.len l.invariant.there.inside) (omega arith) r.new.free r.auto.free (a.set.width - l.column.0) r.result.len r.result.width r.ensures
+    (omega (arith, c.if-set-column.false))

@@ -1,5 +1,5 @@
-use Rattle.draft.proofs.Names.{ℕ, closes_block}
-use Rattle.draft.proofs.Calls.{calls-exit, call-refused, call-on}
+use Rattle.draft.proofs.Names.{closes_block}
+use Rattle.draft.proofs.Calls.{calls-exit, call-refused}
 use Rattle.draft.proofs.close_block.Goals as goal
 
 pub returns-in_err-e : goal.returns-in_err-e
@@ -7,6 +7,3 @@ unfolding closes_block
 returns-in_err-e c =
     let s = c.settled.ensures in
     calls-exit c.from_residual.result _ c.from_residual.ensures.1 (call-refused (c.args.room.now) c.args.d.length _ c.in_err-e.was s.numbers s.does)
-
-pub returns : goal.returns
-returns c = call-on (λ (n : ℕ). closes_block (c.args.room.now) n c.args.b) c.in_ok-e.was c.settled.ensures.does c.add_end.ensures

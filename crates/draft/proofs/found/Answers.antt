@@ -1,13 +1,16 @@
-use Rattle.draft.proofs.Holding.{found_0, found_next, found_done}
+use Rattle.draft.proofs.Names.{ap, ◌∙◌, rules}
+use Rattle.records.specs.Listed.{left}
+use Rattle.draft.proofs.Holding.{built_0, built_inside, built_next, built_done}
 use Rattle.draft.proofs.found.Goals as goal
 
-pub loop-at-init : goal.loop-at-init
-loop-at-init c = found_0 c.requires
+pub loop-r-init : goal.loop-r-init
+loop-r-init c = built_0 c.requires (ap left c.into_iter-r-iterator.ensures.into_iter_gives ∙ c.of-r-items.ensures)
 
-pub loop-at-preserved : goal.loop-at-preserved
-loop-at-preserved c =
-    let loop = c.loop-at in
-    found_next loop.invariant c.record_at-h.ensures c.loop-at-test.true c.after_record-d.ensures
+pub overflow_add-r : goal.overflow_add-r
+overflow_add-r c = let h = built_inside c.loop-r.invariant c.in-Some.ensures.steps in search (rules, h)
+
+pub loop-r-preserved : goal.loop-r-preserved
+loop-r-preserved c = built_next c.loop-r.invariant c.in-Some.ensures.steps c.after_record-d.ensures
 
 pub returns : goal.returns
-returns c = found_done c.loop-at.invariant c.loop-at-test.false
+returns c = built_done c.loop-r.invariant c.in-None.ensures.steps.0

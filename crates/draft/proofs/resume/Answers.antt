@@ -11,11 +11,10 @@ slice_bounds-found-end c = sym (length-take-le c.args.len (c.args.room.now) (so_
 pub found-requires : goal.found-requires
 found-requires c = so_far-document (so_far_accepted c.so_far.ensures c.in_ok-so_far.was)
 
-pub returns-in_err-so_far : goal.returns-in_err-so_far
-returns-in_err-so_far c =
+pub returns-in_err-so_far-clause-numbers : goal.returns-in_err-so_far-clause-numbers
+returns-in_err-so_far-clause-numbers c =
     let p = err_from_is_err_and c.from_residual.result c.from_residual.ensures.1 in
-    let e = answered-refused c.so_far.ensures c.in_err-so_far.was in
-    rw (p.1, p.2) (record { numbers = low-number (low_so_far (c.args.room.now) c.args.len) e; does = e })
+    rw (p.1, p.2) (low-number (low_so_far (c.args.room.now) c.args.len) (answered-refused c.so_far.ensures c.in_err-so_far.was))
 
-pub returns : goal.returns
-returns c = record { numbers = tt; does = resumed_next (so_far_accepted c.so_far.ensures c.in_ok-so_far.was) c.found.ensures }
+pub returns-clause-does : goal.returns-clause-does
+returns-clause-does c = resumed_next (so_far_accepted c.so_far.ensures c.in_ok-so_far.was) c.found.ensures

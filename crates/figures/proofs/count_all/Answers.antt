@@ -9,12 +9,12 @@ returns-then-not-fits_at c =
     let cut = sym c.fits_at.ensures ∙ c.if-not-fits_at.true in
     from_cut s l.at l.f c.loop-at-test.true cut ∙ l.invariant.4
 
-pub returns-then-two-ne768 : goal.returns-then-two-ne768
-returns-then-two-ne768 c =
+pub returns-then-two-ne-DOCUMENT : goal.returns-then-two-ne-DOCUMENT
+returns-then-two-ne-DOCUMENT c =
     let s = c.args.bundle.now in
     let l = c.loop-at in
     let fit = sym c.fits_at.ensures ∙ c.if-not-fits_at.false in
-    from-other s l.at l.f c.loop-at-test.true fit _ c.two.ensures.0 c.if-two-ne768.true ∙ l.invariant.4
+    from-other s l.at l.f c.loop-at-test.true fit _ c.two.ensures.0 c.if-two-ne-DOCUMENT.true ∙ l.invariant.4
 
 pub slice_bounds-with_document-end : goal.slice_bounds-with_document-end
 slice_bounds-with_document-end c =
@@ -34,7 +34,7 @@ loop-at-preserved c =
     let fit = sym fits ∙ c.if-not-fits_at.false in
     let two = c.two.ensures.0 in
     let four = c.four.ensures.0 in
-    let is = c.if-two-ne768.false in (
+    let is = c.if-two-ne-DOCUMENT.false in (
       next-inside s l.at l.f more fit _ two _ four,
       omega (arith, w.auto.room, l.invariant.1),
       omega (arith, w.ensures.bounded.0, l.invariant.2),

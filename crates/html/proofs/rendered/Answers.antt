@@ -4,9 +4,6 @@ use Rattle.document.proofs.Walks.{verdict_gives, verdict_refused}
 use Rattle.html.proofs.Whole.{html-refused, html_accepted}
 use Rattle.html.proofs.rendered.Goals as goal
 
-pub walk-requires : goal.walk-requires
-walk-requires c = verdict_gives [] c.check.ensures c.in_ok-check.was
-
 pub returns-in_err-check-clause-text : goal.returns-in_err-check-clause-text
 returns-in_err-check-clause-text c =
     let p = err_from_is_err_and c.from_residual.result c.from_residual.ensures.1 in

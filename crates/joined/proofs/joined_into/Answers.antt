@@ -1,16 +1,26 @@
 use Rattle.std.proofs.lemmas.Result.{err_from_is_err_and}
-use Rattle.joined.proofs.Names.{◌∙◌, [], verdict_gives, verdict_refused}
+use Rattle.joined.proofs.Names.{rules, sym, ap, ◌∙◌, ◌≡◌, [], List, ℕ, seen, verdict_gives, verdict_refused}
+use Rattle.room.specs.Lent.{Lent, with_bytes}
+use Rattle.room.proofs.Lents.{same_room}
 use Rattle.joined.proofs.Answering.{join-refused, join-parts}
 use Rattle.joined.proofs.joined_into.Goals as goal
 
 pub returns-clause-text : goal.returns-clause-text
 returns-clause-text c =
-    let e = verdict_gives [] c.check.ensures c.in_ok-check.was in
+    let v = verdict_gives [] c.check.ensures c.in_ok-check.was in
+    let one = c.put_four.new.t in
+    let two = c.put_bodies.new.t in
+    let three = c.put_heads.new.t in
+    let t = c.new-t.ensures in
+    let p = c.put_four.ensures ∙ ap (with_bytes _) t in
+    let name =
+    (same_room _ _ _ _ c.put_heads.ensures).0 ∙ (same_room _ _ _ _ c.put_bodies.ensures).0 ∙ (same_room _ _ _ _ c.put_four.ensures).0
+    ∙ ap (λ (v : Lent). v.name) t in
+    let back : _ ≡ c.finish-end.new.self.0 = search (rules, sym name) in
     c.answer.ensures.text
-    ∙ join-parts _ c.args.room.now c.put_four-text.new.room c.put_bodies-heads.new.room c.put_heads-end.new.room c.set_four.new.room
-    c.put_four-text.result c.put_bodies-heads.result c.put_heads-end.result c.saturating_sub.result e c.put_four-text.auto.room
-    c.put_bodies-heads.auto.room c.put_heads-end.auto.room c.set_four.auto.room c.put_four-text.ensures c.put_bodies-heads.ensures
-    c.put_heads-end.ensures c.set_four.ensures c.saturating_sub.ensures
+    ∙ join-parts c.args.document.now _ c.set_four.new.room _ c.finish-end.result _ one two three c.saturating_sub.result v p c.put_bodies.ensures
+    c.put_heads.ensures (ap (λ (r : List ℕ). seen r c.finish-end.result) back ∙ c.finish-end.ensures) c.set_four.auto.room (search rules)
+    c.set_four.ensures c.saturating_sub.ensures
 
 pub returns-in_err-check-clause-text : goal.returns-in_err-check-clause-text
 returns-in_err-check-clause-text c =

@@ -1,12 +1,9 @@
-use Rattle.joined.proofs.Names.{◌-◌, length}
-use Rattle.joined.proofs.Placing.{Placing}
+use Rattle.joined.proofs.Names.{◌≡◌}
+use Rattle.joined_rules.specs.Places.{place_from, place_in}
+use Rattle.joined_check.specs.Listed.{left}
 use Rattle.joined.proofs.place_in.Given as goal
 
--- The loop over the records: the record at `q` stands at `at` in the document, and from there on the rules find what they find from the start. The bytes
--- from `q` on fall.
-
-abbrev pub invariant-loop-q : goal.invariant-loop-q
-invariant-loop-q l = Placing l.joined l.p l.q l.at
-
-abbrev pub decreases-loop-q : goal.decreases-loop-q
-decreases-loop-q l = length l.joined - l.q
+-- Invariant: the first record that is left stands at `at` in the document, and from there on the rules find what they find from the start.
+-- What falls: the records that are left, which the iterator counts.
+abbrev pub invariant-loop-s : goal.invariant-loop-s
+invariant-loop-s l = (l.end ≡ l.s-iterator.at) × (place_from l.s-iterator.at l.at (left l.s-iterator) l.p ≡ place_in l.joined l.p)

@@ -1,12 +1,10 @@
-use Rattle.joined.proofs.Names.{◌-◌, length, tokens_from, joined, document_text}
+use Rattle.joined.proofs.Names.{joined, document_text}
+use Rattle.records.specs.Listed.{left}
+use Rattle.room.specs.Lent.{text_of}
 use Rattle.joined.proofs.Writing.{Putting}
 use Rattle.joined.proofs.put_bodies.Given as goal
 
--- The loop over the records: the text up to the record at `at` was written, and the rest of it is left to write.
--- The bytes from `at` on fall.
-
-abbrev pub invariant-loop-at : goal.invariant-loop-at
-invariant-loop-at l = Putting l.initial.room l.len (document_text l.document) (joined (tokens_from l.document l.at)) l.room l.to
-
-abbrev pub decreases-loop-at : goal.decreases-loop-at
-decreases-loop-at l = length l.document - l.at
+-- Invariant: the bodies of the records that are left are left to write.
+-- What falls: the records that are left, which the iterator counts.
+abbrev pub invariant-loop-r : goal.invariant-loop-r
+invariant-loop-r l = Putting (document_text l.document) (text_of l.initial.t) (joined (left l.r-iterator)) (text_of l.t)

@@ -1,15 +1,9 @@
-use Rattle.joined.proofs.Names.{◌-◌, length, drop, size, cut, concat, heads_of}
-use Rattle.joined.proofs.Writing.{Putting}
-use Rattle.joined.proofs.Writing.{Going}
+use Rattle.records.specs.Listed.{left}
+use Rattle.room.specs.Lent.{text_of}
+use Rattle.joined.proofs.Writing.{Heading}
 use Rattle.joined.proofs.put_heads.Given as goal
 
--- The loop over the records: the first bytes of those up to `at` were written, the rest of them is left to write, and the document is accepted from
--- `at` on. The bytes from `at` on fall.
-
-abbrev pub invariant-loop-at : goal.invariant-loop-at
-invariant-loop-at l =
-    Going l.document l.at
-    × Putting l.initial.room l.len (concat (heads_of l.document)) (concat (cut size 0 (drop l.at l.document))) l.room l.to
-
-abbrev pub decreases-loop-at : goal.decreases-loop-at
-decreases-loop-at l = length l.document - l.at
+-- Invariant: the first bytes of the records that are left are left to write.
+-- What falls: the records that are left, which the iterator counts.
+abbrev pub invariant-loop-r : goal.invariant-loop-r
+invariant-loop-r l = Heading l.document (text_of l.initial.t) (left l.r-iterator) (text_of l.t)

@@ -1,15 +1,9 @@
-use Rattle.joined.proofs.Names.{◌-◌, length, unjoined}
-use Rattle.joined.proofs.Writing.{Putting}
-use Rattle.joined.proofs.Writing.{Sharing, unjoined_from}
+use Rattle.room.specs.Lent.{text_of}
+use Rattle.joined_check.specs.Listed.{left}
+use Rattle.joined.proofs.Writing.{Sharing}
 use Rattle.joined.proofs.put_records.Given as goal
 
--- The loop over the records: those before `at` were written with their shares of the text, and the others, for which some text is left, are left to write.
--- The bytes from `at` on fall.
-
-abbrev pub invariant-loop-at : goal.invariant-loop-at
-invariant-loop-at l =
-    Sharing l.joined l.text l.at
-    × Putting l.initial.room l.len (unjoined l.joined) (unjoined_from l.joined l.text l.at) l.room l.reached
-
-abbrev pub decreases-loop-at : goal.decreases-loop-at
-decreases-loop-at l = length l.joined - l.at
+-- Invariant: some text is left for the records that are left, which are left to write with their shares of it.
+-- What falls: the records that are left, which the iterator counts.
+abbrev pub invariant-loop-s : goal.invariant-loop-s
+invariant-loop-s l = Sharing l.joined (text_of l.initial.t) l.text (left l.s-iterator) (text_of l.t)

@@ -12,7 +12,7 @@ pub returns-in-Unknown : goal.returns-in-Unknown
 returns-in-Unknown c = share_unknown c.args.at c.args.size _ _ c.in-Unknown.is
 
 pub returns-in-Text : goal.returns-in-Text
-returns-in-Text c = c.share.ensures c.args.blocks.now ∙ share-text c.args.at c.args.size _ _ c.in-Text.is
+returns-in-Text c = c.check_share.ensures c.args.blocks.now ∙ share-text c.args.at c.args.size _ _ c.in-Text.is
 
 pub returns-else-size-gt0 : goal.returns-else-size-gt0
 returns-else-size-gt0 c = c.open.ensures.opened ∙ share-start c.args.at c.args.size _ _ c.in-Start.is c.if-size-gt0.false

@@ -1,24 +1,26 @@
-use Rattle.manpage.proofs.Names.{refl, between}
-use Rattle.manpage.proofs.Capturing.{valid_texts, argument-text, argument-none}
+use Rattle.manpage.proofs.Names.{refl, sym, ap, ◌∙◌, [], ◌∷◌, piece, Composed, left, pushed, payload_same, piece-put, pushed_then, pushed-same}
+use Rattle.manpage.proofs.Names.{upper, heading_text}
+use Rattle.roff_escape.specs.declared.escape.Escape.TheVariants as mode
+use Rattle.manpage.proofs.Capturing.{heading_valid, argument_text, argument_none, upper_nothing}
+use Rattle.manpage.proofs.Casing.{left-none}
 use Rattle.manpage.proofs.put_argument.Goals as goal
 
-pub returns-then-b : goal.returns-then-b
-returns-then-b c =
-    let i = c in
-    let a = i.args in
-    let s = c.push-a in
-    let g = c.put_captured-b in
-    argument-text (between (a.document.now) a.from a.to) (a.room.now) s.new.room g.new.room a.m s.result _ s.auto.room s.ensures
-    g.ensures.text g.ensures.line refl g.result.some g.ensures.some (valid_texts a.to _ i.requires.1) c.if-b.true
+pub returns-then-put_captured : goal.returns-then-put_captured
+returns-then-put_captured c =
+    let ts = left c.args.records in
+    let x = heading_text ts in
+    let m = c.push.new.self in
+    let g = c.put_captured.ensures in
+    pushed-same _ _ _ _ (sym (argument_text x (heading_valid ts c.requires) (sym g.some ∙ c.if-put_captured.true)))
+    (pushed_then _ _ _ _ _ c.push.ensures
+    (g.text ∙ payload_same _ _ (piece-put mode.Spaces (upper x) refl _)))
 
 pub returns : goal.returns
 returns c =
-    let q = c.push in
-    let if1 = c.if-b in
-    let after-put-captured = c in
-    let g = after-put-captured.put_captured-b in
-    let after_push = after-put-captured in
-    let s = after_push.push-a in
-    let a = after_push.args in
-    argument-none (between (a.document.now) a.from a.to) (a.room.now) s.new.room g.new.room a.m s.result _ s.auto.room s.ensures
-    g.ensures.text g.ensures.line refl g.result.some g.ensures.some if1.false q.new.room q.result g.auto.room q.ensures
+    let x = heading_text (left c.args.records) in
+    let m = c.push.new.self in
+    let g = c.put_captured.ensures in
+    let none = sym g.some ∙ c.if-put_captured.false in
+    let same = g.text ∙ left-none m _ (upper_nothing x none) in
+    pushed-same _ _ _ _ (sym (argument_none x none))
+    (pushed_then _ _ _ _ _ c.push.ensures (c.push-2.ensures ∙ ap (λ (v : Composed). pushed (piece mode.Spaces (0x22 ∷ 0x22 ∷ []) ∷ []) v) same))

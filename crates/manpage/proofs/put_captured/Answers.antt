@@ -1,78 +1,69 @@
-use Rattle.manpage.proofs.Names.{◌≡◌, sym, ap, ◌∙◌, true, not, ◌&&◌, ltb, upper, upper-none}
-use Rattle.manpage.proofs.Names.{escaped-end, is_text, between}
+use Rattle.manpage.proofs.Names.{◌≡◌, sym, ap, ◌∙◌, ◌++◌, List, ℕ, arith, left, length, upper, upper-none, with_escaped}
+use Rattle.manpage.proofs.Names.{heading_text, roff_of}
 use Rattle.roff_escape.specs.declared.escape.Escape.TheVariants as mode
-use Rattle.manpage.proofs.Capturing.{Again, captured_part, captured_some, holds_valid, passed_over, between_none, valid_next, captured_all}
-use Rattle.manpage.proofs.Casing.{further-out, escaped_cased, escaped_all, escaped-rest}
-use Rattle.manpage.proofs.put_captured.Goals.{After-record_at-h, Then-holds_text}
+use Rattle.manpage.proofs.Capturing.{heading-ends, upper-ends, upper_on, valid_own, valid_after, none_left, empty_on, captured_all, captured_some, not-empty}
+use Rattle.manpage.proofs.Capturing.{is_nothing, nothing_captured}
+use Rattle.manpage.proofs.Casing.{left-none, cased_then}
+use Rattle.manpage.proofs.put_captured.Goals.{After-escape_upper-rest}
 use Rattle.manpage.proofs.put_captured.Goals as goal
 
--- the function's start, seen from the loop
+-- what is left of a record's text, and then those after it, give the whole
+on : (c : After-escape_upper-rest)
+    → with_escaped mode.Spaces (upper c.escape_upper-rest.result.now ++ upper (heading_text (left c.next.new.self))) (roff_of c.escape_upper-rest.new.m)
+    ≡ with_escaped mode.Spaces (upper (heading_text (left c.args.records))) (roff_of c.args.m.now)
+on c =
+    let l = c.loop-r in
+    let goes = sym c.ends_heading.ensures ∙ c.if-ends_heading.false in
+    cased_then _ _ (upper (heading_text (left c.next.new.self))) _ _ c.escape_upper-rest.ensures
+    ∙ ap (λ (y : List ℕ). with_escaped mode.Spaces y (roff_of l.m))
+    (sym (upper_on c.in-Some.r c.in-Some.ensures.steps _ c.text_of-body.ensures l.invariant.2 goes))
+    ∙ l.invariant.0
 
--- the record at `at`
-again : (c : After-record_at-h)
-    → Again (c.args.document.now) c.loop-at.at c.record_at-h.result c.args.to
-again c = record {
-  reads = c.record_at-h.ensures;
-  low = c.loop-at-test.true;
-  high = c.requires.0;
-  valid = c.loop-at.invariant.2;
-}
+pub returns-then-ends_heading-clause-text : goal.returns-then-ends_heading-clause-text
+returns-then-ends_heading-clause-text c =
+    let l = c.loop-r in
+    let ends = sym c.ends_heading.ensures ∙ c.if-ends_heading.true in
+    sym (left-none l.m _ (upper-ends c.in-Some.r c.in-Some.ensures.steps ends)) ∙ l.invariant.0
 
--- it holds text
-holds : (c : Then-holds_text) → let h = c.record_at-h.result in is_text h.kind && ltb h.start h.stop ≡ true
-holds c = sym c.holds_text.ensures ∙ c.if-holds_text.true
+pub returns-then-ends_heading-clause-some : goal.returns-then-ends_heading-clause-some
+returns-then-ends_heading-clause-some c =
+    let ends = sym c.ends_heading.ensures ∙ c.if-ends_heading.true in
+    captured_all c.loop-r.some _ _ (heading-ends c.in-Some.r c.in-Some.ensures.steps ends) c.loop-r.invariant.1
 
-pub escape_upper-a-requires : goal.escape_upper-a-requires
-escape_upper-a-requires c =
-    holds_valid (again (goal.at.escape_upper-a-requires c).After-record_at-h) (holds (goal.at.escape_upper-a-requires c).Then-holds_text)
+pub escape_upper-rest-requires : goal.escape_upper-rest-requires
+escape_upper-rest-requires c = valid_own c.in-Some.r c.in-Some.ensures.steps _ c.text_of-body.ensures c.loop-r.invariant.2
 
-pub put_mapped-line-requires : goal.put_mapped-line-requires
-put_mapped-line-requires c =
-    let u = c in
-    let r = u in
-    (u.escape_upper-a.ensures.valid, r.requires.0, valid_next (again (goal.at.put_mapped-line-requires c).After-record_at-h))
+pub put_mapped-requires : goal.put_mapped-requires
+put_mapped-requires c = (c.escape_upper-rest.ensures.valid, valid_after c.in-Some.r c.in-Some.ensures.steps c.loop-r.invariant.2)
 
--- all of it was ASCII
-pub loop-at-preserved-else-a-body : goal.loop-at-preserved-else-a-body
-loop-at-preserved-else-a-body c =
-    let t = c in
-    let l = t.loop-at in
-    let g = again (goal.at.loop-at-preserved-else-a-body c).After-record_at-h in
-    let u = c.escape_upper-a in
-    let h = holds (goal.at.loop-at-preserved-else-a-body c).Then-holds_text in
-    let p = escaped_cased _ _ (further-out (captured_part g h) l.invariant.0) u.auto.room u.ensures in
-    (escaped_all _ _ _ c.if-a-body.false p, sym (captured_some g h l.some) ∙ l.invariant.1, valid_next g)
+pub returns-then-not-is_empty-clause-text : goal.returns-then-not-is_empty-clause-text
+returns-then-not-is_empty-clause-text c = c.put_mapped.ensures ∙ on (goal.at.returns-then-not-is_empty-clause-text c).After-escape_upper-rest
 
-pub loop-at-preserved : goal.loop-at-preserved
-loop-at-preserved c =
-    let i = c.loop-at.invariant in
-    let g = again (goal.at.loop-at-preserved c).After-record_at-h in
-    let e = passed_over g (sym c.holds_text.ensures ∙ c.if-holds_text.false) in
-    (rw (← e) i.0, rw (← e) i.1, valid_next g)
+pub returns-then-not-is_empty-clause-some : goal.returns-then-not-is_empty-clause-some
+returns-then-not-is_empty-clause-some c =
+    let l = c.loop-r in
+    let goes = sym c.ends_heading.ensures ∙ c.if-ends_heading.false in
+    let some = not-empty c.escape_upper-rest.result.now (sym c.is_empty.ensures ∙ c.if-not-is_empty.true) in
+    captured_some l.some (length c.text_of-body.result.now) _ (heading_text (left c.next.new.self)) _ (omega (arith, some, c.escape_upper-rest.ensures.short))
+    (empty_on c.in-Some.r c.in-Some.ensures.steps _ c.text_of-body.ensures l.some goes) l.invariant.1
 
--- from the first byte beyond ASCII on, all goes out by the table
-pub returns-then-a-body : goal.returns-then-a-body
-returns-then-a-body c =
-    let t = c in
-    let l = t.loop-at in
-    let g = again (goal.at.returns-then-a-body c).After-record_at-h in
-    let u = c.escape_upper-a in
-    let w = c.put_mapped-line in
-    let p = escaped_cased _ _ (further-out (captured_part g (holds (goal.at.returns-then-a-body c).Then-holds_text)) l.invariant.0) u.auto.room u.ensures in
-    let e = escaped-rest w.new.room w.result.len p w.auto.room w.ensures.text w.ensures.line in record {
-      text = e.0;
-      line = e.1;
-      some = ap not (sym (captured_some g (holds (goal.at.returns-then-a-body c).Then-holds_text) l.some) ∙ l.invariant.1);
-    }
+pub loop-r-preserved : goal.loop-r-preserved
+loop-r-preserved c =
+    let l = c.loop-r in
+    let goes = sym c.ends_heading.ensures ∙ c.if-ends_heading.false in
+    let q = upper (heading_text (left c.next.new.self)) in
+    let none = is_nothing c.escape_upper-rest.result.now (sym c.is_empty.ensures ∙ c.if-not-is_empty.false) in
+    let some = empty_on c.in-Some.r c.in-Some.ensures.steps _ c.text_of-body.ensures l.some goes in (
+      ap (λ (y : List ℕ). with_escaped mode.Spaces (y ++ q) (roff_of c.escape_upper-rest.new.m)) (sym (ap upper none ∙ upper-none))
+          ∙ on (goal.at.loop-r-preserved c).After-escape_upper-rest,
+      rw c.is_empty-in-Some.ensures (sym some ∙ l.invariant.1),
+      valid_after c.in-Some.r c.in-Some.ensures.steps l.invariant.2,
+    )
 
-pub returns : goal.returns
-returns c =
-    let a = c.args in
-    let l = c.loop-at in
-    let z = between_none (a.document.now) l.at a.to c.loop-at-test.false in
-    let x = upper (between (a.document.now) a.from a.to) in
-    let e = escaped-end mode.Spaces a.start x (a.room.now) a.len l.invariant.0 (ap upper z ∙ upper-none) in record {
-      text = e.0;
-      line = e.1;
-      some = captured_all l.some _ _ z l.invariant.1;
-    }
+pub returns-clause-text : goal.returns-clause-text
+returns-clause-text c =
+    let l = c.loop-r in
+    sym (left-none l.m _ (none_left _ c.in_default.ensures.steps.0)) ∙ l.invariant.0
+
+pub returns-clause-some : goal.returns-clause-some
+returns-clause-some c = captured_all c.loop-r.some _ _ (ap heading_text c.in_default.ensures.steps.0 ∙ nothing_captured) c.loop-r.invariant.1

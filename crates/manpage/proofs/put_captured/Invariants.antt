@@ -1,17 +1,16 @@
-use Rattle.manpage.proofs.Names.{◌≡◌, true, not, ◌&&◌, ◌-◌, tokens_from, empty, upper, Escaped}
-use Rattle.manpage.proofs.Names.{texts_valid, between}
+use Rattle.manpage.proofs.Names.{◌≡◌, true, not, ◌&&◌, length, left, empty, upper, roff_of, with_escaped, heading_text, texts_valid}
 use Rattle.roff_escape.specs.declared.escape.Escape.TheVariants as mode
 use Rattle.manpage.proofs.put_captured.Given as goal
 
--- Invariant: of the text between the places that from `at` on is left, and whether any was met; from `at` on text is UTF-8.
--- What falls: what is left up to the second place.
+-- Invariant: the text of the records that are left, after what went out, is all that was to go out, and is UTF-8; and whether there was any so far.
+-- What falls: the records that are left.
 
-abbrev pub invariant-loop-at : goal.invariant-loop-at
-invariant-loop-at l =
-    Escaped mode.Spaces l.start (upper (between l.document l.from l.to)) l.initial.room l.len l.room l.n l.fresh
-    (upper (between l.document l.at l.to))
-    × (not l.some && empty (between l.document l.at l.to) ≡ empty (between l.document l.from l.to))
-    × (texts_valid (tokens_from l.document l.at) ≡ true)
+abbrev pub invariant-loop-r : goal.invariant-loop-r
+invariant-loop-r l =
+    (with_escaped mode.Spaces (upper (heading_text (left l.after))) (roff_of l.m)
+    ≡ with_escaped mode.Spaces (upper (heading_text (left l.records))) (roff_of l.fn.m))
+    × (not l.some && empty (heading_text (left l.after)) ≡ empty (heading_text (left l.records)))
+    × (texts_valid (left l.after) ≡ true)
 
-abbrev pub decreases-loop-at : goal.decreases-loop-at
-decreases-loop-at l = l.to - l.at
+abbrev pub decreases-loop-r : goal.decreases-loop-r
+decreases-loop-r l = length (left l.after)

@@ -1,67 +1,41 @@
-use Rattle.manpage.proofs.Names.{◌≡◌, refl, sym, ap, ◌∙◌, true, ◌&&◌, ◌++◌, ltb, drop, upper, upper-none}
-use Rattle.manpage.proofs.Names.{escaped-start, escaped-part, escaped-end, is_text, between}
+use Rattle.manpage.proofs.Names.{refl, sym, ap, ◌∙◌, left, upper, Composed, with_escaped}
+use Rattle.manpage.proofs.Names.{heading_text}
 use Rattle.roff_escape.specs.declared.escape.Escape.TheVariants as mode
-use Rattle.manpage.proofs.Capturing.{Again, captured_part, holds_valid, passed_over, between_none, valid_next}
-use Rattle.manpage.proofs.Casing.{escaped-rest}
-use Rattle.manpage.proofs.put_mapped.Goals.{After-record_at-h, Then-holds_text}
+use Rattle.manpage.proofs.Capturing.{upper-ends, upper_on, valid_own, valid_after, none_left}
+use Rattle.manpage.proofs.Casing.{left-none, left_more, then-left}
 use Rattle.manpage.proofs.put_mapped.Goals as goal
 
--- the function's start, seen from the loop
-
--- the record at `at`
-again : (c : After-record_at-h)
-    → Again (c.args.document.now) c.loop-at.at c.record_at-h.result c.args.to
-again c = record {
-  reads = c.record_at-h.ensures;
-  low = c.loop-at-test.true;
-  high = c.requires.1;
-  valid = c.loop-at.invariant.1;
-}
-
--- it holds text
-holds : (c : Then-holds_text) → let h = c.record_at-h.result in is_text h.kind && ltb h.start h.stop ≡ true
-holds c = sym c.holds_text.ensures ∙ c.if-holds_text.true
-
-pub escape_cased-line-requires : goal.escape_cased-line-requires
-escape_cased-line-requires c =
-    let t = c in
-    let l = t in
-    let b = l in
-    let at = goal.at.escape_cased-line-requires c in
-    ((b.from_column-characters.ensures, b.to_column-capitals.ensures), holds_valid (again at.After-record_at-h) (holds at.Then-holds_text))
-
-pub loop-at-preserved-then-holds_text : goal.loop-at-preserved-then-holds_text
-loop-at-preserved-then-holds_text c =
-    let t = c in
-    let l = t in
-    let g = again (goal.at.loop-at-preserved-then-holds_text c).After-record_at-h in
-    let w = c.escape_cased-line in
-    let a = l.args in
-    let x = upper (between (a.document.now) a.from a.to) in
-    let y = captured_part g (holds (goal.at.loop-at-preserved-then-holds_text c).Then-holds_text) in
-    rw w.ensures.line (
-      escaped-part mode.Spaces _ x _ _ l.loop-at.invariant.0 _ _ y w.new.room w.result.len w.auto.room w.ensures.text,
-      valid_next g,
+pub loop-r-init : goal.loop-r-init
+loop-r-init c =
+    let h = upper (heading_text (left c.args.records)) in
+    rw c.into_iter-r-iterator.ensures.into_iter_gives (
+      ap (λ (p : Composed). with_escaped mode.Spaces h p) c.escape_mapped.ensures ∙ then-left _ (upper c.args.rest.now) h _ refl,
+      c.requires.1,
     )
 
-pub loop-at-preserved : goal.loop-at-preserved
-loop-at-preserved c =
-    let i = c.loop-at.invariant in
-    let g = again (goal.at.loop-at-preserved c).After-record_at-h in
-    (rw (← (passed_over g (sym c.holds_text.ensures ∙ c.if-holds_text.false))) i.0, valid_next g)
+pub returns-then-ends_heading : goal.returns-then-ends_heading
+returns-then-ends_heading c =
+    let l = c.loop-r in
+    let ends = sym c.ends_heading.ensures ∙ c.if-ends_heading.true in
+    sym (left-none l.m _ (upper-ends c.in-Some.r c.in-Some.ensures.steps ends)) ∙ l.invariant.0
+
+pub escape_cased-requires : goal.escape_cased-requires
+escape_cased-requires c = (
+  (c.from_column-characters.ensures, c.to_column-capitals.ensures),
+  valid_own c.in-Some.r c.in-Some.ensures.steps _ c.text_of.ensures c.loop-r.invariant.1,
+)
+
+pub loop-r-preserved : goal.loop-r-preserved
+loop-r-preserved c =
+    let l = c.loop-r in
+    let r = c.in-Some.r in
+    let first = c.in-Some.ensures.steps in
+    let on = sym c.ends_heading.ensures ∙ c.if-ends_heading.false in (
+      left_more _ _ _ _ _ _ _ c.escape_cased.ensures (upper_on r first _ c.text_of.ensures l.invariant.1 on) l.invariant.0,
+      valid_after r first l.invariant.1,
+    )
 
 pub returns : goal.returns
 returns c =
-    let l = c.loop-at in
-    let g = c.escape_mapped-first in
-    let a = c.args in
-    let x = upper (drop a.i (a.bytes.now)) in
-    let y = upper (between (a.document.now) a.from a.to) in
-    let f = escaped-part mode.Spaces a.start (x ++ y) (a.room.now) a.len (escaped-start mode.Spaces a.start (x ++ y) (a.room.now) a.len)
-    x y refl g.new.room g.result.len g.auto.room g.ensures.text in
-    let z = ap upper (between_none (a.document.now) l.at a.to c.loop-at-test.false) ∙ upper-none in
-    let e = escaped-end mode.Spaces _ y _ _ l.invariant.0 z in
-    let told = escaped-rest l.room l.n f l.invariant.0.size (rw (← g.ensures.line) e.0) (rw (← g.ensures.line) e.1) in record {
-      text = told.0;
-      line = told.1;
-    }
+    let l = c.loop-r in
+    sym (left-none l.m _ (none_left _ c.in-None.ensures.steps.0)) ∙ l.invariant.0

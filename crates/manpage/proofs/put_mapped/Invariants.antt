@@ -1,16 +1,11 @@
-use Rattle.manpage.proofs.Names.{◌≡◌, true, ◌-◌, tokens_from, upper, Escaped}
-use Rattle.manpage.proofs.Names.{texts_valid, between}
+use Rattle.manpage.proofs.Names.{◌≡◌, ◌++◌, true, left, upper, roff_of, with_escaped, heading_text, texts_valid}
 use Rattle.roff_escape.specs.declared.escape.Escape.TheVariants as mode
 use Rattle.manpage.proofs.put_mapped.Given as goal
 
--- Invariant: of the text between the places that from `at` on is left; from `at` on text is UTF-8.
--- What falls: what is left up to the second place.
+-- The text of the records that are left, after what went out, is all that was to go out, and is UTF-8.
 
-abbrev pub invariant-loop-at : goal.invariant-loop-at
-invariant-loop-at l =
-    Escaped mode.Spaces l.initial.fresh (upper (between l.document l.from l.to)) l.initial.room l.initial.n l.room l.n l.fresh
-    (upper (between l.document l.at l.to))
-    × (texts_valid (tokens_from l.document l.at) ≡ true)
-
-abbrev pub decreases-loop-at : goal.decreases-loop-at
-decreases-loop-at l = l.to - l.at
+abbrev pub invariant-loop-r : goal.invariant-loop-r
+invariant-loop-r l =
+    (with_escaped mode.Spaces (upper (heading_text (left l.r-iterator))) (roff_of l.m)
+    ≡ with_escaped mode.Spaces (upper l.rest ++ upper (heading_text (left l.records))) (roff_of l.fn.m))
+    × (texts_valid (left l.r-iterator) ≡ true)

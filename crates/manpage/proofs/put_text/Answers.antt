@@ -1,14 +1,10 @@
-use Rattle.manpage.proofs.Names.{sym, ap, ◌∙◌, Bool, part, Font, text, pushed_then, pushed-same, font_of}
+use Rattle.manpage.proofs.Names.{sym, ap₂, Composed, part, Font, text, pushed_then, pushed-same}
 use Rattle.manpage.proofs.put_text.Goals as goal
 
 pub returns : goal.returns
 returns c =
-    let after-put-subsection = c in
-    let s = after-put-subsection.put_subsection-a in
-    let a = after-put-subsection.args in
-    let x = part (a.document.now) a.from a.to in
-    pushed_then s.auto.room s.ensures
-    (pushed-same
-    (ap (λ (b : Bool). text b (font_of a.style) x) (sym s.ensures.strip)
-    ∙ ap (λ (f : Font). text s.result.strip f x) (sym c.font_of.ensures))
-    c.text.ensures)
+    let a = c.args in
+    let x = part a.document.now a.from a.to in
+    let s = c.put_subsection.ensures in
+    pushed_then _ _ _ _ _ s
+    (pushed-same _ _ _ _ (ap₂ (λ (m : Composed) (f : Font). text m.strip f x) (sym s) (sym c.font_of.ensures)) c.text.ensures)

@@ -1,98 +1,53 @@
-use Rattle.manpage.proofs.Names.{◌≡◌, arith, not, refl, sym, ap, ◌∙◌, [], ℕ, length, extended, preamble, is_term_ref}
-use Rattle.refusal.specs.declared.Refusal.TheVariants as refusal
-use Rattle.std.specs.Prelude.{is_some, unwrap_or}
-use Rattle.manpage.proofs.Blocks.{opened-on, opened-from, shut-on, shut-from}
-use Rattle.manpage.proofs.Walking.{by_captured, begins-at, same-from}
-use Rattle.manpage.proofs.Walking.{on-start, Taken, taken, on_unknown, on-started, on-ended, on-text, on_captured}
-use Rattle.manpage.proofs.Walking.{refused_11, refused_13, answer-refused, done}
-use Rattle.manpage.proofs.walk.Goals.{After-record_at-h}
+use Rattle.manpage.proofs.Names.{◌>>=◌, ◌<◌, ◌^◌, arith, rules, not, sym, ap, ◌∙◌, length, is_term_ref}
+use Rattle.manpage.proofs.Walking.{on_start, on_unknown, on_started, on_ended, on_text, on_captured, places, refused_11, refused_13, done, inside}
 use Rattle.manpage.proofs.walk.Goals as goal
 
--- the record at `at`
-here : (c : After-record_at-h)
-    → let l = c.loop-room in
-    Taken (length c.put_preamble-m.new.room) (c.args.document.now) l.room l.m (is_some l.captured) c.unwrap_or-from.result l.at c.record_at-h.result
-here c =
-    taken c.loop-room.invariant c.record_at-h.ensures c.if-document-at.false
-    c.unwrap_or-from.result (c.unwrap_or-from.ensures ∙ begins-at c.loop-room.captured c.loop-room.at)
+pub loop-records-init : goal.loop-records-init
+loop-records-init c = on_start c.args.document.now c.args.m.now c.of-records.result c.requires.valid c.of-records.ensures c.requires.begun
 
--- where what is captured began, it began after this record too
-began : (c : After-record_at-h) → unwrap_or c.loop-room.captured c.unwrap_or-from.result ≡ c.unwrap_or-from.result
-began c = rw c.unwrap_or-from.ensures (same-from c.loop-room.captured c.loop-room.at)
+pub returns-then-is_full-clause-text : goal.returns-then-is_full-clause-text
+unfolding ◌>>=◌
+returns-then-is_full-clause-text c = refused_13 c.loop-records.invariant (c.is_full.ensures.full c.if-is_full.true)
 
-pub loop-room-init : goal.loop-room-init
-loop-room-init c =
-    let g = c.put_preamble-m in
-    on-start (length g.new.room) (c.args.document.now) g.new.room g.result c.requires refl
-    (g.ensures.text ∙ ap (λ (n : ℕ). extended n preamble []) (sym g.auto.room)) g.ensures.flags
+pub returns-in_default-clause-text : goal.returns-in_default-clause-text
+unfolding ◌>>=◌
+returns-in_default-clause-text c = done c.loop-records.invariant c.in_default.ensures.steps.0 (inside _ _ (c.is_full.ensures.given c.if-is_full.false))
 
-pub loop-room-preserved-then-is_none : goal.loop-room-preserved-then-is_none
-loop-room-preserved-then-is_none c =
-    let g = c.put_text-m in
-    let r = (goal.at.loop-room-preserved-then-is_none c).After-record_at-h in
-    by_captured c.loop-room.captured _ _ (began r)
-    (on-text (here r) g.new.room g.result g.auto.room c.in-Text.is (c.is_none.ensures ∙ ap not c.if-is_none.true) g.ensures)
+pub returns-then-is_term_ref-clause-text : goal.returns-then-is_term_ref-clause-text
+unfolding ◌>>=◌
+returns-then-is_term_ref-clause-text c =
+    refused_11 c.loop-records.invariant c.in-Some.r c.next.new.self c.in-Some.ensures.steps
+    (inside _ _ (c.is_full.ensures.given c.if-is_full.false)) (sym c.is_term_ref.ensures ∙ c.if-is_term_ref.true)
 
-pub loop-room-preserved-else-is_none : goal.loop-room-preserved-else-is_none
-loop-room-preserved-else-is_none c =
-    let r = (goal.at.loop-room-preserved-else-is_none c).After-record_at-h in
-    by_captured c.loop-room.captured _ _ (began r) (on_captured (here r) c.in-Text.is (c.is_none.ensures ∙ ap not c.if-is_none.false))
+pub overflow_add-r : goal.overflow_add-r
+overflow_add-r c =
+    let small : length c.args.document.now < 2 ^ 64 = search rules in
+    omega (arith, (places c.loop-records.invariant c.in-Some.r c.next.new.self c.in-Some.ensures.steps).0)
 
-pub loop-room-preserved-in-Start : goal.loop-room-preserved-in-Start
-loop-room-preserved-in-Start c =
-    let g = c.started-m in
-    let k = c.in-Start.is in
-    let n = sym (ap is_term_ref k) ∙ sym c.is_term_ref.ensures ∙ c.if-is_term_ref.false in
-    let r = (goal.at.loop-room-preserved-in-Start c).After-record_at-h in
-    let o = c.opens_capture-captured in
-    let was = c.loop-room.captured in
-    rw o.ensures
-    (by_captured _ _ _ (opened-from _ was _ (began r))
-    (on-started (here r) g.new.room g.result g.auto.room _ k n (opened-on _ was _) g.ensures))
+pub loop-records-preserved-then-is_none : goal.loop-records-preserved-then-is_none
+loop-records-preserved-then-is_none c =
+    on_text c.loop-records.invariant c.in-Some.r c.next.new.self c.in-Some.ensures.steps c.put_text.new.m c.in-Text.is
+    (c.is_none.ensures ∙ ap not c.if-is_none.true) c.put_text.ensures
 
-pub ended-m-requires : goal.ended-m-requires
-ended-m-requires c =
-    let t = here (goal.at.ended-m-requires c).After-record_at-h in
-    (omega (arith, t.inside), t.behind)
+pub loop-records-preserved-else-is_none : goal.loop-records-preserved-else-is_none
+loop-records-preserved-else-is_none c = on_captured c.loop-records.invariant c.in-Some.r c.next.new.self c.in-Some.ensures.steps c.in-Text.is
+    (c.is_none.ensures ∙ ap not c.if-is_none.false)
 
-pub loop-room-preserved-in-End : goal.loop-room-preserved-in-End
-loop-room-preserved-in-End c =
-    let g = c.ended-m in
-    let k = c.in-End.is in
-    let n = sym (ap is_term_ref k) ∙ sym c.is_term_ref.ensures ∙ c.if-is_term_ref.false in
-    let r = (goal.at.loop-room-preserved-in-End c).After-record_at-h in
-    let o = c.ends_capture-captured in
-    let was = c.loop-room.captured in
-    rw o.ensures
-    (by_captured _ _ _ (shut-from _ was _ (began r))
-    (on-ended (here r) g.new.room g.result g.auto.room _ k n (shut-on _ was) g.ensures))
+pub loop-records-preserved-in-Start : goal.loop-records-preserved-in-Start
+loop-records-preserved-in-Start c =
+    let n = sym (ap is_term_ref c.in-Start.is) ∙ sym c.is_term_ref.ensures ∙ c.if-is_term_ref.false in
+    rw (c.opens_capture-captured.ensures, c.unwrap_or-from.ensures)
+    (on_started c.loop-records.invariant c.in-Some.r c.next.new.self c.in-Some.ensures.steps c.started.new.m c.in-Start.is n c.started.ensures)
 
-pub loop-room-preserved : goal.loop-room-preserved
-loop-room-preserved c =
-    let r = (goal.at.loop-room-preserved c).After-record_at-h in
-    by_captured c.loop-room.captured _ _ (began r) (on_unknown (here r) c.in-Unknown.is)
+pub ended-requires : goal.ended-requires
+ended-requires c = rw c.unwrap_or-from.ensures c.loop-records.invariant.holds.valid
 
-pub returns-then-room-m : goal.returns-then-room-m
-returns-then-room-m c =
-    let l = c.loop-room in
-    let w = answer-refused _ _ l.room refusal.NoRoom (refused_13 l.invariant c.if-room-m.true) _ c.put_preamble-m.auto.room in record {
-      text = w.stands;
-      inside = w.inside;
-    }
+pub loop-records-preserved-in-End : goal.loop-records-preserved-in-End
+loop-records-preserved-in-End c =
+    let n = sym (ap is_term_ref c.in-End.is) ∙ sym c.is_term_ref.ensures ∙ c.if-is_term_ref.false in
+    let told = rw c.unwrap_or-from.ensures at c.ended.ensures in
+    rw c.ends_capture-captured.ensures
+    (on_ended c.loop-records.invariant c.in-Some.r c.next.new.self c.in-Some.ensures.steps c.ended.new.m c.in-End.is n told)
 
-pub returns-then-document-at : goal.returns-then-document-at
-returns-then-document-at c =
-    let w = done c.loop-room.invariant c.if-document-at.true c.if-room-m.false _ c.put_preamble-m.auto.room in record {
-      text = w.stands;
-      inside = w.inside;
-    }
-
-pub returns-then-is_term_ref : goal.returns-then-is_term_ref
-returns-then-is_term_ref c =
-    let l = c.loop-room in
-    let e = sym c.is_term_ref.ensures ∙ c.if-is_term_ref.true in
-    let h = here (goal.at.returns-then-is_term_ref c).After-record_at-h in
-    let w = answer-refused _ _ l.room (refusal.NoForm l.at) (refused_11 h c.if-room-m.false e) _ c.put_preamble-m.auto.room in record {
-      text = w.stands;
-      inside = w.inside;
-    }
+pub loop-records-preserved : goal.loop-records-preserved
+loop-records-preserved c = on_unknown c.loop-records.invariant c.in-Some.r c.next.new.self c.in-Some.ensures.steps c.in-Unknown.is

@@ -1,13 +1,13 @@
-use Rattle.manpage.proofs.Names.{◌-◌, length}
-use Rattle.std.specs.Prelude.{is_some, unwrap_or}
+use Rattle.manpage.proofs.Names.{length, left, roff_of}
 use Rattle.manpage.proofs.Walking.{On}
 use Rattle.manpage.proofs.walk.Given as goal
 
--- Invariant: what stands in the room, and the rules run from `at` on, give the whole text; captured is the text from the place in `captured` to `at`.
--- What falls: what is left of the document.
+-- Invariant: what was written, and the rules run over the records that are left, give the whole text; what is captured is the text of the records from
+-- those in `captured` on.
+-- What falls: the records that are left.
 
-abbrev pub invariant-loop-room : goal.invariant-loop-room
-invariant-loop-room l = On (length l.initial.room) l.document l.room l.m (is_some l.captured) (unwrap_or l.captured l.at) l.at
+abbrev pub invariant-loop-records : goal.invariant-loop-records
+invariant-loop-records l = On (roff_of l.fn.m) l.document l.m l.captured l.records
 
-abbrev pub decreases-loop-room : goal.decreases-loop-room
-decreases-loop-room l = length l.document - l.at
+abbrev pub decreases-loop-records : goal.decreases-loop-records
+decreases-loop-records l = length (left l.records)

@@ -1,20 +1,19 @@
-use Rattle.markdown.proofs.Names.{◌≡◌, ◌+◌, ◌-◌, length}
+use Rattle.markdown.proofs.Names.{◌+◌, ◌-◌, length}
+use Rattle.records.specs.Listed.{left}
 use Rattle.markdown.proofs.Walked.{On, InBody}
 use Rattle.markdown.proofs.walk.Given as goal
 
--- The chunks of a body: the room keeps its length, and what is shown and the chunks from the cursor on, with the end of the body and the
--- records after it, give the whole. What is left of the body falls.
+-- The chunks of a body: what stands there and the chunks from the cursor on, with the end of the body and the records after it, give the
+-- whole. What is left of the body falls.
 abbrev pub invariant-chunks : goal.invariant-chunks
-invariant-chunks l =
-    (length l.room ≡ length l.initial.room)
-    × InBody (length l.initial.room) l.full l.document l.room l.at l.len l.lay l.body l.cursor
+invariant-chunks l = InBody l.initial.t.room.ghost_name (length l.fn.room) l.full l.document l.t (left l.records) l.lay l.body l.cursor
 
 abbrev pub decreases-chunks : goal.decreases-chunks
 decreases-chunks l = length l.body + 1 - l.cursor.at
 
--- The records: what is shown and the records from `at` on give the whole. What is left of the document falls.
+-- The records: what stands there and the records that are left give the whole. The records that are left become fewer.
 abbrev pub invariant-records : goal.invariant-records
-invariant-records l = On (length l.initial.room) l.full l.document l.room l.at l.len l.lay
+invariant-records l = On l.initial.t.room.ghost_name (length l.fn.room) l.full l.document l.t (left l.records) l.lay
 
 abbrev pub decreases-records : goal.decreases-records
-decreases-records l = length l.document - l.at
+decreases-records l = length (left l.records)

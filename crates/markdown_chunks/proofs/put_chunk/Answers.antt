@@ -1,8 +1,21 @@
-use Rattle.markdown_chunks.proofs.Texts.{by_rule, piece_break}
+use mathlib.Core.Path.{refl}
+use Rattle.base.specs.Choice.{when◌then◌else◌}
+use Rattle.utf8.specs.Utf8.{bytes, encode}
+use Rattle.room.proofs.Lents.{with_same}
+use Rattle.markdown_chunks.proofs.Texts.{piece-paragraph, piece_break}
+use Rattle.markdown_chunks.proofs.put_chunk.Goals.{then-l, else-l}
 use Rattle.markdown_chunks.proofs.put_chunk.Goals as goal
 
+pub returns-after-l : goal.returns-after-l
+unfolding bytes encode when◌then◌else◌
+returns-after-l c =
+    piece-paragraph c.args.l.now c.args.body.now c.args.piece _ _ c.in-Paragraph.is
+    (with_same _ _ _ _
+    (elim c.if-l.branch [
+      | then-l w ↦ rw (w.if-l.true, w.put_all-is) refl
+      | else-l w ↦ rw (w.if-l.false, w.put_all-is) refl
+    ])
+    c.put_all.ensures)
+
 pub returns-in-LineBreak : goal.returns-in-LineBreak
-returns-in-LineBreak c =
-    let a = c.args in
-    by_rule _ _ _ _ _ _ (piece_break _ a.l.now a.body.now a.piece c.in-LineBreak.is)
-    c.put.ensures
+returns-in-LineBreak c = piece_break c.args.l.now c.args.body.now c.args.piece _ _ c.in-LineBreak.is c.put.ensures

@@ -1,27 +1,32 @@
+use mathlib.Core.Path.{ap, ◌∙◌}
 use native.Mathlib.Omega.{arith}
-use Rattle.html_rules.proofs.Writes.{wrote_same}
+use Rattle.base.specs.Choice.{when◌then◌else◌}
+use Rattle.utf8.specs.Utf8.{bytes, encode}
+use Rattle.room.specs.Lent.{text_of}
+use Rattle.markdown_marks.proofs.Texts.{no_bytes}
 use Rattle.markdown_chunks.proofs.Texts.{raw-ticked, raw-code, raw_word}
+use Rattle.markdown_chunks.proofs.put_raw.Goals.{then-not-l, else-not-l, then-l, else-l}
 use Rattle.markdown_chunks.proofs.put_raw.Goals as goal
 
 pub returns-in-1000001 : goal.returns-in-1000001
-returns-in-1000001 c =
-    let a = c.args in
-    let d = c.separate-n in
-    raw-ticked _ _ _ _ _ _ _ _ d.auto.room a.l.now a.text.now a.width
-    c.in-1000001.is d.ensures c.put_line.ensures
+returns-in-1000001 c = raw-ticked _ _ _ c.args.l.now c.args.text.now c.args.width c.in-1000001.is c.separate.ensures c.put_line.ensures
 
-pub returns-in-1000000 : goal.returns-in-1000000
-returns-in-1000000 c =
-    let a = c.args in
-    let p = c.put_all-n in
-    raw-code _ _ _ _ _ _ _ _ p.auto.room a.l.now a.text.now a.width
-    c.in-1000000.is
-    (wrote_same _ _ _ _ _ _ _ c.begins.ensures p.ensures) c.put_line-in-1000000.ensures
+pub returns-after-not-l : goal.returns-after-not-l
+unfolding bytes encode when◌then◌else◌
+returns-after-not-l c =
+    raw-code _ _ _ c.args.l.now c.args.text.now c.args.width c.in-1000000.is
+    (elim c.if-not-l.branch [
+      | then-not-l w ↦ ap text_of w.t-is ∙ rw w.if-not-l.true w.put_all.ensures
+      | else-not-l w ↦ ap text_of w.t-is ∙ rw w.if-not-l.false (no_bytes c.args.t.now)
+    ])
+    c.put_line-in-1000000.ensures
 
-pub returns-in_default : goal.returns-in_default
-returns-in_default c =
-    let a = c.args in
-    let p = c.put_all-n-in_default in
-    raw_word _ _ _ _ _ _ _ _ p.auto.room a.l.now a.text.now a.width
-    (omega arith) (omega arith)
-    (wrote_same _ _ _ _ _ _ _ c.stops.ensures p.ensures) c.put_word.ensures
+pub returns-after-l : goal.returns-after-l
+unfolding bytes encode when◌then◌else◌
+returns-after-l c =
+    raw_word _ _ _ c.args.l.now c.args.text.now c.args.width (omega arith) (omega arith)
+    (elim c.if-l.branch [
+      | then-l w ↦ ap text_of w.t-is ∙ rw w.if-l.true w.put_all-then-l.ensures
+      | else-l w ↦ ap text_of w.t-is ∙ rw w.if-l.false (no_bytes c.args.t.now)
+    ])
+    c.put_word.ensures

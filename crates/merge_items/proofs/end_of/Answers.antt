@@ -1,18 +1,17 @@
 use Rattle.merge_items.proofs.Names.{sym, ◌∙◌, arith}
-use Rattle.merge_items.proofs.Finding.{deep-low, end_on, end-here, end-past}
+use Rattle.merge_items.proofs.Finding.{open_inside, open_here, open_next, open_end}
 use Rattle.merge_items.proofs.end_of.Goals as goal
 
-pub loop-at-preserved : goal.loop-at-preserved
-loop-at-preserved c =
-    let r = c.record_at-h.ensures in
-    let o = sym c.open_after.ensures ∙ c.in-Some.is in (
-      sym (end_on r c.loop-at-test.true _ o) ∙ c.loop-at.invariant.0,
-      omega (arith, deep-low _ _ _ o, r.low c.loop-at-test.true, r.order, c.loop-at.invariant.1),
-    )
+pub open_after-requires : goal.open_after-requires
+open_after-requires c = omega (arith, c.requires, (open_inside c.loop-r.invariant c.in-Some.ensures.steps).0)
+
+pub loop-r-preserved : goal.loop-r-preserved
+loop-r-preserved c = open_next c.loop-r.invariant c.in-Some.ensures.steps (sym c.open_after.ensures ∙ c.in-Some-open_after.is)
 
 pub returns-in_default : goal.returns-in_default
 returns-in_default c =
-    (sym (end-here c.record_at-h.ensures c.loop-at-test.true _ (sym c.open_after.ensures ∙ c.in_default.is)) ∙ c.loop-at.invariant.0, omega arith)
+    let e = c.in-Some.ensures.steps in
+    (open_here c.loop-r.invariant e (sym c.open_after.ensures ∙ c.in_default.is), (open_inside c.loop-r.invariant e).1)
 
 pub returns : goal.returns
-returns c = (sym (end-past _ _ _ c.loop-at-test.false) ∙ c.loop-at.invariant.0, omega arith)
+returns c = (open_end c.loop-r.invariant c.in-None.ensures.steps.0, omega arith)

@@ -1,14 +1,11 @@
-use Rattle.merge_items.proofs.Names.{◌≡◌, [], ◌-◌, length, ◌>>=◌, tokens_from, seen, extended, text_to}
+use Rattle.merge_items.proofs.Names.{◌≡◌, [], length, ◌>>=◌, tokens_from, seen, extended, text_to}
+use Rattle.records.specs.Listed.{left}
 use Rattle.merge_items.proofs.key_of.Given as goal
 
--- The key, with the text from a record on, is the whole text.
--- What is left of the document falls.
-
-abbrev pub invariant-loop-at : goal.invariant-loop-at
-invariant-loop-at l =
-    ((seen l.key l.len >>= extended (length l.initial.key) (text_to l.stop (tokens_from l.document l.at)))
+-- The key, with the text of the records that are left, is the whole text.
+-- The records that are left fall.
+abbrev pub invariant-loop-r : goal.invariant-loop-r
+invariant-loop-r l =
+    ((seen l.key l.len >>= extended (length l.initial.key) (text_to l.stop (left l.r-iterator)))
     ≡ extended (length l.initial.key) (text_to l.stop (tokens_from l.document l.from)) [])
     × (length l.key ≡ length l.initial.key)
-
-abbrev pub decreases-loop-at : goal.decreases-loop-at
-decreases-loop-at l = length l.document - l.at

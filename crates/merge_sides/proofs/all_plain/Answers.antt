@@ -1,14 +1,15 @@
-use Rattle.merge_sides.proofs.Names.{sym, ◌∙◌}
-use Rattle.merge_sides.proofs.Filling.{plain-on, plain_out, plain_end}
+use Rattle.merge_sides.proofs.Names.{◌∙◌, rules, plain}
+use borrow.Author.Tests.{tests}
+use Rattle.std.proofs.lemmas.Iterator.Consumers.{YieldsList-from_first}
+use Rattle.std.proofs.lemmas.Iterator.Search.{all_from_yields_List}
+use Rattle.records.specs.Records.{Token}
+use Rattle.records.specs.Listed.{token, left}
+use Rattle.merge_sides.proofs.Filling.{plain-all}
 use Rattle.merge_sides.proofs.all_plain.Goals as goal
 
-pub returns-then-not-is_plain : goal.returns-then-not-is_plain
-returns-then-not-is_plain c = plain_out c.record_at-h.ensures c.loop-at-test.true
-    (sym c.is_plain.ensures ∙ c.if-not-is_plain.true) ∙ c.loop-at.invariant
-
-pub loop-at-preserved : goal.loop-at-preserved
-loop-at-preserved c = plain-on c.record_at-h.ensures c.loop-at-test.true
-    (sym c.is_plain.ensures ∙ c.if-not-is_plain.false) ∙ c.loop-at.invariant
-
 pub returns : goal.returns
-returns c = plain_end _ _ c.loop-at-test.false ∙ c.loop-at.invariant
+returns c =
+    all_from_yields_List (λ (t : Token). plain t.kind) c.all.new.self _ c.all.result c.all.ensures.ran
+    (YieldsList-from_first token left {s = c.of.result} _ c.of.ensures)
+    (λ x b q k. search (rules, tests))
+    ∙ plain-all _

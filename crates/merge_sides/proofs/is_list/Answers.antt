@@ -3,8 +3,6 @@ use Rattle.merge_sides.proofs.Listing.{tells_yes, tells_no, stop-low, next_low, 
 use Rattle.merge_sides.proofs.Listing.{start-not, listing_0, past-not, stands-not, listing_next, listing_end}
 use Rattle.merge_sides.proofs.is_list.Goals as goal
 
--- the function's start, seen from the loop
-
 pub returns-then-document-lt12 : goal.returns-then-document-lt12
 returns-then-document-lt12 c = short-not _ c.if-document-lt12.true
 
@@ -16,15 +14,13 @@ loop-at-init c = listing_0 _ (omega (arith, c.if-document-lt12.false)) (sym c.st
 
 pub returns-then-last-p : goal.returns-then-last-p
 returns-then-last-p c =
-    let after-loop-test = c in
-    past-not after-loop-test.loop-at.invariant after-loop-test.requires _ c.item_at-p.ensures
-    after-loop-test.loop-at-test.true c.if-last-p.true
+    past-not c.loop-at.invariant c.requires _ c.item_at-p.ensures
+    c.loop-at-test.true c.if-last-p.true
 
 pub returns-then-not-stands : goal.returns-then-not-stands
 returns-then-not-stands c =
-    let after-item-at = c in
-    stands-not after-item-at.loop-at.invariant after-item-at.requires _ after-item-at.item_at-p.ensures
-    after-item-at.loop-at-test.true (tells_no c.stands.result c.stands.ensures c.if-not-stands.true)
+    stands-not c.loop-at.invariant c.requires _ c.item_at-p.ensures
+    c.loop-at-test.true (tells_no c.stands.result c.stands.ensures c.if-not-stands.true)
 
 pub loop-at-smaller : goal.loop-at-smaller
 loop-at-smaller c = let st = tells_yes c.stands.result c.stands.ensures c.if-not-stands.false in
@@ -32,9 +28,8 @@ loop-at-smaller c = let st = tells_yes c.stands.result c.stands.ensures c.if-not
 
 pub loop-at-preserved : goal.loop-at-preserved
 loop-at-preserved c =
-    let after-item-at = c in
-    listing_next after-item-at.loop-at.invariant after-item-at.requires _ after-item-at.item_at-p.ensures
-    after-item-at.loop-at-test.true (tells_yes c.stands.result c.stands.ensures c.if-not-stands.false)
+    listing_next c.loop-at.invariant c.requires _ c.item_at-p.ensures
+    c.loop-at-test.true (tells_yes c.stands.result c.stands.ensures c.if-not-stands.false)
     (omega (arith, c.if-last-p.false))
 
 pub returns : goal.returns

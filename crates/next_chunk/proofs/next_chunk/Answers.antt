@@ -3,15 +3,11 @@ use Rattle.next_chunk.proofs.next_chunk.Goals as goal
 
 pub returns-in-Some : goal.returns-in-Some
 returns-in-Some c =
+    let a = c.args in
     let s = c.step_at-step in
-    let after-code-of = c in
-    let code_of_lem = after-code-of.code_of-code in
-    let a = after-code-of.args in
-    next_taken a.body.now a.at a.ticks _ code_of_lem.ensures s.result s.ensures.chunk c.in-Some.is _
-    c.hand.ensures
+    next_taken a.body.now a.at a.ticks _ c.code_of-code.ensures s.result s.ensures.chunk c.in-Some.is _ c.hand.ensures
 
 pub returns-in-None : goal.returns-in-None
 returns-in-None c =
     let a = c.args in
-    let s = c.step_at-step in
-    next-done a.body.now a.at a.ticks _ c.code_of-code.ensures s.result s.ensures.chunk c.in-None.is
+    let s = c.step_at-step in next-done a.body.now a.at a.ticks _ c.code_of-code.ensures s.result s.ensures.chunk c.in-None.is

@@ -1,26 +1,13 @@
-use Rattle.notes.proofs.Names.{sym, ◌∙◌}
-use Rattle.notes.proofs.Scans.{blank-end, blank-feed, blank_space, blank-other}
+use Rattle.std.proofs.Common.{rules, tests}
+use Rattle.std.proofs.lemmas.Iterator.{YieldsList-from_slice}
+use Rattle.std.proofs.lemmas.Iterator.Search.{find_from_yields_List}
+use Rattle.notes.proofs.Names.{drop}
+use Rattle.notes.proofs.Scans.{other, by_found}
 use Rattle.notes.proofs.blank_at.Goals as goal
 
-pub returns-then-s-i-eq10 : goal.returns-then-s-i-eq10
-returns-then-s-i-eq10 c =
-    let a = c.args in
-    let here = c.loop-i in
-    sym (blank-feed (a.s.now) here.i c.loop-i-test.true c.if-s-i-eq10.true) ∙ here.invariant
-
-pub returns-then-s-i-ne32 : goal.returns-then-s-i-ne32
-returns-then-s-i-ne32 c =
-    let a = c.args in
-    let here = c.loop-i in
-    let test = c.loop-i-test in
-    sym (blank-other (a.s.now) here.i test.true c.if-s-i-eq10.false c.if-s-i-ne32.true) ∙ here.invariant
-
-pub loop-i-preserved : goal.loop-i-preserved
-loop-i-preserved c =
-    let a = c.args in
-    let here = c.loop-i in
-    let test = c.loop-i-test in
-    sym (blank_space (a.s.now) here.i test.true c.if-s-i-ne32.false) ∙ here.invariant
-
 pub returns : goal.returns
-returns c = sym (blank-end (c.args.s.now) c.loop-i.i c.loop-i-test.false) ∙ c.loop-i.invariant
+returns c =
+    let rest = drop c.args.at c.args.s.now in
+    let found =
+    find_from_yields_List other _ _ _ c.find-other.ensures.ran (YieldsList-from_slice rest cc) (λ x b q k. search (rules, tests)) in
+    by_found c.find-other.result rest _ found (search rules)

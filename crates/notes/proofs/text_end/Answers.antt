@@ -1,33 +1,20 @@
-use Rattle.notes.proofs.Names.{◌≡◌, ℕ, length, subst, arith, sym, ap, ◌∙◌, Bool, not, ◌||◌, ◌+◌, drop, ordinary}
-use Rattle.notes.proofs.Scans.{going_feed, going_byte, ends_over, ends_feed}
-use Rattle.notes.proofs.text_end.Goals.{else-s-i-eq10, then-s-i-eq10+else-one+else-not-ordinary_at}
+use Rattle.notes.proofs.Names.{◌≡◌, ◌∙◌, ℕ, arith, length, subst, sym}
 use Rattle.notes.specs.InnerParts.{Ends}
+use Rattle.notes.proofs.Scans.{going_feed, going_byte, ends_over, ends_feed}
+use Rattle.notes.proofs.text_end.Goals.{else-s-i-eq10-via-then-s-i-eq10+else-is_last, else-s-i-eq10-via-else-s-i-eq10}
 use Rattle.notes.proofs.text_end.Goals as goal
 
-pub returns-then-one : goal.returns-then-one
-returns-then-one c =
-    let a = c.args in
-    let here = c.loop-i in
-    ends_feed (a.s.now) a.one a.at here.i here.invariant (omega arith) c.if-s-i-eq10.true
-    (ap (λ (t : Bool). t || not (ordinary (drop (here.i + 1) (a.s.now)))) c.if-one.true)
-
-pub returns-then-not-ordinary_at : goal.returns-then-not-ordinary_at
-returns-then-not-ordinary_at c =
-    let a = c.args in
-    let here = c.loop-i in
-    ends_feed (a.s.now) a.one a.at here.i here.invariant (omega arith) c.if-s-i-eq10.true
-    (ap (λ (t : Bool). t || not (ordinary (drop (here.i + 1) (a.s.now)))) c.if-one.false ∙ ap not
-    (sym c.ordinary_at.ensures) ∙ c.if-not-ordinary_at.true-raw)
+pub returns-then-is_last : goal.returns-then-is_last
+returns-then-is_last c =
+    ends_feed _ _ _ _ c.loop-i.invariant (omega arith) c.if-s-i-eq10.true (sym c.is_last.ensures ∙ c.if-is_last.true)
 
 pub loop-i-preserved : goal.loop-i-preserved
 loop-i-preserved c =
-    let a = c.args in
-    let here = c.loop-i in
-    elim c.if-s-i-eq10.branch [
-      | then-s-i-eq10+else-one+else-not-ordinary_at w ↦ going_feed (a.s.now) a.one a.at here.i here.invariant (omega arith) w.if-s-i-eq10.true
-          (ap (λ (t : Bool). t || not (ordinary (drop (here.i + 1) (a.s.now)))) w.if-one.false
-          ∙ ap not (sym w.ordinary_at.ensures ∙ w.if-not-ordinary_at.false))
-      | else-s-i-eq10 w ↦ going_byte (a.s.now) a.one a.at here.i here.invariant (omega arith) w.if-s-i-eq10.false
+    let i = c.loop-i.invariant in
+    elim c.else-s-i-eq10.branch [
+      | else-s-i-eq10-via-then-s-i-eq10+else-is_last w ↦
+          going_feed _ _ _ _ i (omega arith) w.if-s-i-eq10.true (sym w.is_last.ensures ∙ w.if-is_last.false)
+      | else-s-i-eq10-via-else-s-i-eq10 w ↦ going_byte _ _ _ _ i (omega arith) w.if-s-i-eq10.false
     ]
 
 pub returns : goal.returns

@@ -14,18 +14,17 @@ loop-i-preserved-then-s-i-lt128 c =
           reached_blank (a.s.now) a.a l.i l.n l.invariant (omega arith) c.if-s-i-lt128.true w.n-is (sym c.ascii_prints.ensures ∙ w.if-ascii_prints.false)
     ]
 
-pub returns-in_default : goal.returns-in_default
-returns-in_default c =
-    let a = c.args in
+pub returns-in_err-c : goal.returns-in_err-c
+returns-in_err-c c =
     let l = c.loop-i in
-    let e = sym c.decode.ensures ∙ c.in_default.is in
-    l.invariant.text ∙ (no_character (a.s.now) l.i e (omega arith))
+    let e = sym c.decode.ensures ∙ c.in_err-c.was in
+    rw c.from_residual.ensures (l.invariant.text ∙ no_character (c.args.s.now) l.i e (omega arith))
 
 pub loop-i-smaller-then-not-is_white : goal.loop-i-smaller-then-not-is_white
 loop-i-smaller-then-not-is_white c =
     let s = c.args.s.now in
     let l = c.loop-i in
-    let e = sym c.decode.ensures ∙ c.in-Some.is in
+    let e = sym c.decode.ensures ∙ c.in_ok-c.was in
     let r = read_character s l.i _ _ e in
     omega (arith, r.later, r.room)
 
@@ -33,7 +32,7 @@ pub loop-i-preserved-then-not-is_white : goal.loop-i-preserved-then-not-is_white
 loop-i-preserved-then-not-is_white c =
     let a = c.args in
     let l = c.loop-i in
-    let e = sym c.decode.ensures ∙ c.in-Some.is in
+    let e = sym c.decode.ensures ∙ c.in_ok-c.was in
     let r = read_character (a.s.now) l.i _ _ e in
     reached_one (a.s.now) a.a l.i l.n _ _ l.invariant r (sym c.is_white.ensures ∙ c.if-not-is_white.true)
 
@@ -41,7 +40,7 @@ pub loop-i-smaller : goal.loop-i-smaller
 loop-i-smaller c =
     let s = c.args.s.now in
     let l = c.loop-i in
-    let e = sym c.decode.ensures ∙ c.in-Some.is in
+    let e = sym c.decode.ensures ∙ c.in_ok-c.was in
     let r = read_character s l.i _ _ e in
     omega (arith, r.later, r.room)
 
@@ -49,6 +48,6 @@ pub loop-i-preserved : goal.loop-i-preserved
 loop-i-preserved c =
     let a = c.args in
     let l = c.loop-i in
-    let e = sym c.decode.ensures ∙ c.in-Some.is in
+    let e = sym c.decode.ensures ∙ c.in_ok-c.was in
     let r = read_character (a.s.now) l.i _ _ e in
     reached_white (a.s.now) a.a l.i l.n _ _ l.invariant r (sym c.is_white.ensures ∙ c.if-not-is_white.false)

@@ -1,16 +1,15 @@
-use Rattle.renderer.proofs.Answers.{form-out, form_in}
+use Rattle.renderer.proofs.Names.{◌∙◌, sym, ap}
+use Rattle.renderer.proofs.Answers.{then_no_form, refused_before}
+use Rattle.renderer.specs.Rendered.{standing}
 use Rattle.renderer.proofs.no_form.Goals as goal
-
-pub returns-then-room-len : goal.returns-then-room-len
-returns-then-room-len c =
-    let told = form-out c.args.room.now c.args.len c.args.at c.if-room-len.true in record {
-      text = told.0;
-      inside = told.1;
-    }
 
 pub returns : goal.returns
 returns c =
-    let told = form_in c.args.room.now c.args.len c.args.at c.if-room-len.false in record {
-      text = told.0;
-      inside = told.1;
-    }
+    let r = c.args.room.now in
+    record { text = then_no_form r c.args.at _ (sym (ap (standing r) c.in_ok-answer.was) ∙ c.answer.ensures.text); inside = tt }
+
+pub returns-in_err-answer : goal.returns-in_err-answer
+returns-in_err-answer c =
+    let r = c.args.room.now in
+    let told = refused_before r c.args.at _ _ c.from_residual.ensures.1 (sym (ap (standing r) c.in_err-answer.was) ∙ c.answer.ensures.text) in
+    record { text = told.0; inside = told.1 }

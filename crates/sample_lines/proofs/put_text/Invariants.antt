@@ -1,8 +1,9 @@
-use Rattle.sample_lines.proofs.Names.{◌≡◌, length, ◌>>=◌, seen, extended, text_from, written}
+use Rattle.sample_lines.proofs.Names.{text_from, written}
+use Rattle.room.specs.Lent.{text_of}
+use Rattle.sample_lines.proofs.Writing.{Putting}
 use Rattle.sample_lines.proofs.put_text.Given as goal
 
--- What stands in the room, and the text that is left, give what the whole text gives from the start.
+-- Invariant: the text that is left is left to write.
+-- What falls: the text that is left, which the iterator counts.
 abbrev pub invariant-loop-b : goal.invariant-loop-b
-invariant-loop-b l =
-    (seen l.room l.n >>= extended (length l.initial.room) (written 0 l.b-iterator.0.now))
-    ≡ (seen l.initial.room l.len >>= extended (length l.initial.room) (text_from l.line l.from))
+invariant-loop-b l = Putting (text_from l.line l.from) (text_of l.initial.t) (written 0 l.b-iterator.0.now) (text_of l.t)

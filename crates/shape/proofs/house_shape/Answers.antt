@@ -1,6 +1,5 @@
-use Rattle.shape.proofs.Names.{[], None, Some, gives, refused}
-use Rattle.document.proofs.Walks.{verdict_gives, verdict_refused}
-use Rattle.refusal.proofs.Exits.{answered-exit}
+use Rattle.shape.proofs.Names.{[], None, Some, gives}
+use Rattle.document.proofs.Walks.{verdict_gives}
 use Rattle.shape.proofs.Opened.{open_0}
 use Rattle.shape.proofs.Laws.{the_answer}
 use Rattle.shape.proofs.Accepted.{found_out, found_none}
@@ -21,8 +20,3 @@ returns-in-Ok c =
     let a = verdict_gives [] c.check.ensures c.in_ok-check.was in
     let s = c.args.document.now in
     the_answer s (gives None) (found_none s a c.parts.ensures c.in-Ok.is)
-
-pub returns-in_err-check : goal.returns-in_err-check
-returns-in_err-check c =
-    rw (answered-exit c.from_residual.result _ c.from_residual.ensures.1)
-    (the_answer c.args.document.now (refused _ _) (verdict_refused [] c.check.ensures c.in_err-check.was))

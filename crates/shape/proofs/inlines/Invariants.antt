@@ -1,12 +1,9 @@
-use Rattle.shape.proofs.Names.{ahead}
+use Rattle.records.specs.Listed.{left}
 use Rattle.shape.specs.InnerSteps as want
-use Rattle.shape.proofs.Loops.{Before}
+use Rattle.shape.proofs.Along.{Along}
 use Rattle.shape.proofs.inlines.Given as goal
 
--- The invariant: what is out of place from the start on is what is out of place from here on, in the blocks that are open.
--- What falls: the number of records left.
-abbrev pub invariant-loop-at : goal.invariant-loop-at
-invariant-loop-at l = Before l.document want.inlines want.inlines l.depth l.from l.inner l.at
-
-abbrev pub decreases-loop-at : goal.decreases-loop-at
-decreases-loop-at l = ahead l.document l.at
+-- What is out of place from the start on is what is out of place in the records that are left, in the blocks that are open.
+-- The records that are left fall.
+abbrev pub invariant-loop-r : goal.invariant-loop-r
+invariant-loop-r l = Along l.document want.inlines l.depth l.from l.inner (left l.r-iterator)

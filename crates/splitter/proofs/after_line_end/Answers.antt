@@ -29,60 +29,48 @@ no_space c =
 
 pub returns-then-code-tail : goal.returns-then-code-tail
 returns-then-code-tail c =
-    let t = c in
-    let s = t in
-    let p = t.strip_prefix-code in
+    let a = c.args in
+    let p = c.strip_prefix-code in
     c.found.ensures
-    ∙ after-code (s.args.body.now) (s.args.tail.now) s.args.start s.requires (p.result.now) _ p.ensures t.if-code-tail.true
-    c.line_end-to.ensures
+    ∙ after-code (a.body.now) (a.tail.now) a.start c.requires (p.result.now) _ p.ensures c.if-code-tail.true c.line_end-to.ensures
 
 pub returns-then-starts_with : goal.returns-then-starts_with
 returns-then-starts_with c =
-    let t = c in
-    let l = t in
-    let s = l in
+    let a = c.args in
+    let k = no_code (goal.at.returns-then-starts_with c).Else-code-tail in
     c.found-then-starts_with.ensures
-    ∙ after-ticks (s.args.body.now) (s.args.tail.now) s.args.start s.requires (no_code (goal.at.returns-then-starts_with c).Else-code-tail) (sym t.starts_with.ensures ∙ t.if-starts_with.true)
+    ∙ after-ticks (a.body.now) (a.tail.now) a.start c.requires k (sym c.starts_with.ensures ∙ c.if-starts_with.true)
 
 pub returns-then-starts_with-2 : goal.returns-then-starts_with-2
 returns-then-starts_with-2 c =
-    let t = c in
-    let l = t in
-    let s = l in
+    let a = c.args in
+    let at = goal.at.returns-then-starts_with-2 c in
     c.found-then-starts_with-2.ensures
-    ∙ after-four (s.args.body.now) (s.args.tail.now) s.args.start s.requires (no_code (goal.at.returns-then-starts_with-2 c).Else-code-tail) (no-ticks (goal.at.returns-then-starts_with-2 c).Else-starts_with)
-    (sym t.starts_with-2.ensures ∙ t.if-starts_with-2.true)
+    ∙ after-four (a.body.now) (a.tail.now) a.start c.requires (no_code at.Else-code-tail) (no-ticks at.Else-starts_with)
+    (sym c.starts_with-2.ensures ∙ c.if-starts_with-2.true)
 
 pub returns-then-second-tail : goal.returns-then-second-tail
 returns-then-second-tail c =
-    let t = c in
-    let l = t in
-    let k = l in
-    let s = l in
-    let p = t.strip_prefix-second in
+    let a = c.args in
+    let at = goal.at.returns-then-second-tail c in
+    let p = c.strip_prefix-second in
     c.found-then-second-tail.ensures
-    ∙ after_para (s.args.body.now) (s.args.tail.now) s.args.start s.requires (no_code (goal.at.returns-then-second-tail c).Else-code-tail) (no-ticks (goal.at.returns-then-second-tail c).Else-starts_with) (no-four (goal.at.returns-then-second-tail c).Else-starts_with-2)
-    (p.result.now) p.ensures t.if-second-tail.true
+    ∙ after_para (a.body.now) (a.tail.now) a.start c.requires (no_code at.Else-code-tail) (no-ticks at.Else-starts_with)
+    (no-four at.Else-starts_with-2) (p.result.now) p.ensures c.if-second-tail.true
 
 pub returns-then-spaced-tail : goal.returns-then-spaced-tail
 returns-then-spaced-tail c =
-    let t = c in
-    let l = t in
-    let k = l in
-    let j = k in
-    let s = l in
-    let p = t.strip_prefix-spaced in
+    let a = c.args in
+    let at = goal.at.returns-then-spaced-tail c in
+    let p = c.strip_prefix-spaced in
     c.found-then-spaced-tail.ensures
-    ∙ after_break (s.args.body.now) (s.args.tail.now) s.args.start s.requires (no_code (goal.at.returns-then-spaced-tail c).Else-code-tail) (no-ticks (goal.at.returns-then-spaced-tail c).Else-starts_with) (no-four (goal.at.returns-then-spaced-tail c).Else-starts_with-2)
-    (no_second (goal.at.returns-then-spaced-tail c).Else-second-tail) (p.result.now) p.ensures t.if-spaced-tail.true
+    ∙ after_break (a.body.now) (a.tail.now) a.start c.requires (no_code at.Else-code-tail) (no-ticks at.Else-starts_with)
+    (no-four at.Else-starts_with-2) (no_second at.Else-second-tail) (p.result.now) p.ensures c.if-spaced-tail.true
 
 pub returns : goal.returns
 returns c =
-    let l = c in
-    let k = l in
-    let j = k in
-    let i = j in
-    let s = l in
+    let a = c.args in
+    let at = goal.at.returns c in
     c.found-2.ensures
-    ∙ after_space (s.args.body.now) (s.args.tail.now) s.args.start s.requires (no_code (goal.at.returns c).Else-code-tail) (no-ticks (goal.at.returns c).Else-starts_with) (no-four (goal.at.returns c).Else-starts_with-2)
-    (no_second (goal.at.returns c).Else-second-tail) (no_space (goal.at.returns c).Else-spaced-tail)
+    ∙ after_space (a.body.now) (a.tail.now) a.start c.requires (no_code at.Else-code-tail) (no-ticks at.Else-starts_with)
+    (no-four at.Else-starts_with-2) (no_second at.Else-second-tail) (no_space at.Else-spaced-tail)

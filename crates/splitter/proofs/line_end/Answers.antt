@@ -1,23 +1,14 @@
-use Rattle.splitter.proofs.Names.{ap, arith, eq-eqb, ne_eqb, length, is_line_end}
-use Rattle.splitter.proofs.Before.{before-stop, before-go, before-none}
+use Rattle.std.proofs.Common.{rules, tests}
+use Rattle.std.proofs.lemmas.Iterator.{YieldsList-from_slice}
+use Rattle.std.proofs.lemmas.Iterator.Search.{position_from_yields_List}
+use Rattle.splitter.proofs.Names.{ap, ◌∙◌, ◌+◌, ℕ, List, length, is_line_end, line}
+use Rattle.splitter.proofs.Positions.{ends_where}
 use Rattle.splitter.proofs.line_end.Goals as goal
-
-pub returns-then-body-i-eq10 : goal.returns-then-body-i-eq10
-returns-then-body-i-eq10 c =
-    let t = c in
-    let l = t.loop-i in
-    let e = ap length (before-stop is_line_end (t.args.body.now) l.i t.loop-i-test.true (eq-eqb _ _ c.if-body-i-eq10.true)) in
-    omega (arith, l.invariant)
-
-pub loop-i-preserved : goal.loop-i-preserved
-loop-i-preserved c =
-    let t = c in
-    let l = t.loop-i in
-    let e = ap length (before-go is_line_end (t.args.body.now) l.i t.loop-i-test.true (ne_eqb _ _ c.if-body-i-eq10.false)) in
-    omega (arith, l.invariant)
 
 pub returns : goal.returns
 returns c =
-    let l = c.loop-i in
-    let e = ap length (before-none is_line_end (c.args.body.now) l.i c.loop-i-test.false) in
-    omega (arith, l.invariant)
+    let r = c.get_from-rest in
+    let rest = r.result.now in
+    let found =
+    position_from_yields_List is_line_end _ _ c.position.result c.position.ensures.ran (YieldsList-from_slice rest cc) (λ x b q k. search (rules, tests)) in
+    ap (λ (n : ℕ). c.args.at + n) (ends_where is_line_end rest c.unwrap_or.ensures found ∙ ap (λ (l : List ℕ). length (line l)) r.ensures)

@@ -1,15 +1,10 @@
 use Rattle.upper.proofs.Names.{sym, ap, ◌∙◌, arith, encode_all, read_character}
-use Rattle.upper.proofs.Names.{character_encoded}
-use Rattle.upper.proofs.Writing.{scalar_most}
 use Rattle.upper.proofs.Going.{going_more, going_none}
 use Rattle.upper.proofs.to_uppercase.Goals as goal
 
-pub maps_to-requires : goal.maps_to-requires
-maps_to-requires c = scalar_most _ (character_encoded c.args.text.now c.loop-len.next _ _ (sym c.decode.ensures ∙ c.in-Some.is)).0
-
 pub loop-len-smaller : goal.loop-len-smaller
 loop-len-smaller c =
-    let r = read_character c.args.text.now c.loop-len.next _ _ (sym c.decode.ensures ∙ c.in-Some.is) in
+    let r = read_character c.args.text.now c.loop-len.next _ _ (sym c.read.ensures ∙ c.in-Some.is) in
     omega (arith, r.later, r.room)
 
 pub loop-len-preserved : goal.loop-len-preserved
@@ -18,10 +13,10 @@ loop-len-preserved c =
     let w = c.put_all-len in (
       w.auto.out ∙ i.0,
       omega (arith, w.ensures.within),
-      λ q. going_more _ _ (i.2 q) (sym c.decode.ensures ∙ c.in-Some.is) w.ensures (ap encode_all (c.maps_to.ensures.characters q)),
+      λ q. going_more _ _ (i.2 q) (sym c.read.ensures ∙ c.in-Some.is) w.ensures (ap encode_all (c.maps_to.ensures q)),
     )
 
 pub returns-in_default : goal.returns-in_default
 returns-in_default c =
     let i = c.loop-len.invariant in
-    record { size = omega (arith, i.0, i.1); text = λ q. going_none _ _ (i.2 q) (sym c.decode.ensures ∙ c.in_default.is) }
+    record { size = omega (arith, i.0, i.1); text = λ q. going_none _ _ (i.2 q) (sym c.read.ensures ∙ c.in_default.is) }

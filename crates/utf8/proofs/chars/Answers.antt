@@ -1,26 +1,29 @@
-use Rattle.utf8.proofs.Names.{◌∙◌, refl, sym, arith}
-use Rattle.utf8.proofs.Laws.{Went, next_at, one_at, stop_at}
+use Rattle.utf8.proofs.Names.{◌∙◌, sym, ap, arith, utf8, length, length-drop}
+use Rattle.utf8.proofs.Laws.{Next, next_of, rest_is, ends_there}
 use Rattle.utf8.proofs.chars.Goals.{In-Some}
 use Rattle.utf8.proofs.chars.Goals as goal
 
--- past a character of more bytes
-step : (c : In-Some) → Went c.args.s.now c.loop-i.i c.in-Some.k
-step c = next_at c.args.s.now c.loop-i.i (omega arith) c.in-Some.ensures.1 (λ z. omega (arith, c.in-Some.ensures.0))
+-- past a character
+past : (c : In-Some) → Next c.loop-k.rest.now c.in-Some.k
+past c = next_of c.loop-k.rest.now c.in-Some.ensures.1 c.in-Some.ensures.0
 
-pub loop-i-preserved-then-s-i-lt128 : goal.loop-i-preserved-then-s-i-lt128
-loop-i-preserved-then-s-i-lt128 c =
-    let l = c.loop-i in
-    (omega arith, l.invariant.1 ∙ one_at _ l.i (omega arith) c.if-s-i-lt128.true)
+pub slice_bounds-rest-count : goal.slice_bounds-rest-count
+slice_bounds-rest-count c = (past c).room
 
-pub returns-in_default : goal.returns-in_default
-returns-in_default c =
-    let s = c.args.s.now in
-    stop_at s c.loop-i.i (omega arith) (sym c.in_default.ensures) refl ∙ sym c.loop-i.invariant.1
+pub slice_bounds-rest-start : goal.slice_bounds-rest-start
+slice_bounds-rest-start c = (past (goal.at.slice_bounds-rest-start c).In-Some).room
 
-pub overflow_add-i-else-s-i-lt128 : goal.overflow_add-i-else-s-i-lt128
-overflow_add-i-else-s-i-lt128 c = omega (arith, (step (goal.at.overflow_add-i-else-s-i-lt128 c).In-Some).within_s)
+pub loop-k-preserved : goal.loop-k-preserved
+loop-k-preserved c =
+    let t = c.loop-k.rest.now in
+    c.loop-k.invariant ∙ (past (goal.at.loop-k-preserved c).In-Some).rest ∙ ap utf8 (sym (rest_is c.in-Some.k t))
 
-pub loop-i-preserved : goal.loop-i-preserved
-loop-i-preserved c =
-    let went = step (goal.at.loop-i-preserved c).In-Some in
-    (went.within_s, c.loop-i.invariant.1 ∙ went.same)
+pub loop-k-smaller : goal.loop-k-smaller
+loop-k-smaller c =
+    let t = c.loop-k.rest.now in
+    let n = (past (goal.at.loop-k-smaller c).In-Some).room in
+    omega (arith, n, c.in-Some.ensures.0, ap length (rest_is c.in-Some.k t), length-drop c.in-Some.k t)
+
+pub returns : goal.returns
+returns c =
+    c.is_empty.ensures ∙ ends_there (c.loop-k.rest.now) c.in_default.ensures ∙ sym c.loop-k.invariant

@@ -1,10 +1,10 @@
-use Rattle.utf8.proofs.Names.{◌≡◌, ◌≤◌, ◌-◌, length, drop, utf8}
+use Rattle.utf8.proofs.Names.{◌≡◌, length, utf8}
 use Rattle.utf8.proofs.chars.Given as goal
 
--- The invariant: from a on the bytes are UTF-8 exactly where they are so from i on.
--- What falls: the bytes from i on.
-abbrev pub invariant-loop-i : goal.invariant-loop-i
-invariant-loop-i l = (l.i ≤ length l.s) × (utf8 (drop l.a l.s) ≡ utf8 (drop l.i l.s))
+-- The invariant: the text is UTF-8 exactly where the bytes that are left are.
+-- What falls: the bytes that are left.
+abbrev pub invariant-loop-k : goal.invariant-loop-k
+invariant-loop-k l = utf8 l.s ≡ utf8 l.rest
 
-abbrev pub decreases-loop-i : goal.decreases-loop-i
-decreases-loop-i l = length l.s - l.i
+abbrev pub decreases-loop-k : goal.decreases-loop-k
+decreases-loop-k l = length l.rest

@@ -5,7 +5,7 @@ use Rattle.utf8.proofs.fault.Goals as goal
 pub returns-then-asks : goal.returns-then-asks
 returns-then-asks c =
     let a = c.args in
-    fault_due a.r a.q a.p a.b c.asks.ensures c.if-asks.true c.low.ensures c.high.ensures c.outside.ensures
+    fault_due a.r a.q a.p a.b c.asks.ensures c.if-asks.true c.range_after-lo.ensures c.outside.ensures
 
 pub returns-then-b-ge128 : goal.returns-then-b-ge128
 returns-then-b-ge128 c =

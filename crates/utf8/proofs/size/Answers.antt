@@ -1,24 +1,22 @@
-use Rattle.utf8.proofs.Names.{◌∙◌, sym, refl, arith, if_true, if_false}
-use Rattle.utf8.proofs.Laws.{size-yes, due_1}
+use Rattle.utf8.proofs.Names.{◌∙◌, ap, arith, size_of}
+use Rattle.utf8.proofs.Laws.{size-empty, size-one, first_is, sized}
 use Rattle.utf8.proofs.size.Goals as goal
 
+pub returns-in_default : goal.returns-in_default
+returns-in_default c = size-empty (c.args.s.now) c.in_default.len_below
+
 pub returns-in-0-to-127 : goal.returns-in-0-to-127
-returns-in-0-to-127 c = (omega arith, size-yes c.args.s.now c.args.i _ c.requires (due_1 _ (omega arith)) refl refl)
+returns-in-0-to-127 c =
+    (omega arith, size-one _ _ (omega arith) ∙ ap size_of (first_is (c.args.s.now) c.in-len1-up.len_at_least))
 
-pub returns-then-two_at : goal.returns-then-two_at
-returns-then-two_at c = (omega arith, sym (if_true 2 0 c.if-two_at.true) ∙ c.two_at.ensures)
+pub returns-in-128-to-223 : goal.returns-in-128-to-223
+returns-in-128-to-223 c =
+    sized _ 2 (omega arith) (c.two.ensures ∙ ap size_of (first_is (c.args.s.now) c.in-len1-up.len_at_least)) c.then_some.ensures
 
-pub returns-else-two_at : goal.returns-else-two_at
-returns-else-two_at c = sym c.two_at.ensures ∙ if_false 2 0 c.if-two_at.false
+pub returns-in-224-to-239 : goal.returns-in-224-to-239
+returns-in-224-to-239 c =
+    sized _ 3 (omega arith) (c.three.ensures ∙ ap size_of (first_is (c.args.s.now) c.in-len1-up.len_at_least)) c.then_some-in-224-to-239.ensures
 
-pub returns-then-three_at : goal.returns-then-three_at
-returns-then-three_at c = (omega arith, sym (if_true 3 0 c.if-three_at.true) ∙ c.three_at.ensures)
-
-pub returns-else-three_at : goal.returns-else-three_at
-returns-else-three_at c = sym c.three_at.ensures ∙ if_false 3 0 c.if-three_at.false
-
-pub returns-then-four_at : goal.returns-then-four_at
-returns-then-four_at c = (omega arith, sym (if_true 4 0 c.if-four_at.true) ∙ c.four_at.ensures)
-
-pub returns-else-four_at : goal.returns-else-four_at
-returns-else-four_at c = sym c.four_at.ensures ∙ if_false 4 0 c.if-four_at.false
+pub returns-in_default-a : goal.returns-in_default-a
+returns-in_default-a c =
+    sized _ 4 (omega arith) (c.four.ensures ∙ ap size_of (first_is (c.args.s.now) c.in-len1-up.len_at_least)) c.then_some-in_default-a.ensures

@@ -1,12 +1,13 @@
-use Rattle.utf8.proofs.Names.{◌∙◌, sym}
+use Rattle.utf8.proofs.Names.{◌∙◌, sym, ap, utf8}
+use Rattle.utf8.proofs.Laws.{rest_is}
 use Rattle.utf8.proofs.Neighbours.{ascii_rest, ascii_all}
 use Rattle.utf8.proofs.valid_from.Goals as goal
 
 pub returns-then-s-lt35 : goal.returns-then-s-lt35
-returns-then-s-lt35 c = let b = c in c.chars.ensures ∙ sym (ascii_rest b.args.s.now b.args.from b.requires)
+returns-then-s-lt35 c =
+    let a = c.args in
+    c.chars.ensures ∙ ap utf8 (rest_is a.from (a.s.now)) ∙ sym (ascii_rest a.s.now a.from c.requires)
 
 pub returns-then-i-s : goal.returns-then-i-s
 returns-then-i-s c =
-    let p = c in
-    let b = p in
-    ascii_all b.args.s.now p.past_ascii-i.result p.past_ascii-i.ensures c.if-i-s.true
+    ascii_all c.args.s.now c.past_ascii-i.result c.past_ascii-i.ensures c.if-i-s.true

@@ -1,17 +1,18 @@
-use Rattle.white.proofs.Names.{◌∙◌, arith}
+use Rattle.white.proofs.Names.{◌∙◌, ◌-◌, arith, length, length-take-le}
 use Rattle.white.proofs.Trim.{left_fits, left-next, left-stop}
 use Rattle.white.proofs.trim_end.Goals as goal
 
-pub overflow_sub-e : goal.overflow_sub-e
-overflow_sub-e c = let l = c.loop-k in omega (arith, left_fits c.args.s.now l.e l.invariant.0 c.in-Some.ensures.0 c.in-Some.ensures.1)
+pub slice_bounds-text-count : goal.slice_bounds-text-count
+slice_bounds-text-count c = left_fits (c.loop-k.text.now) c.in-Some.ensures.0 c.in-Some.ensures.1
 
 pub loop-k-smaller : goal.loop-k-smaller
-loop-k-smaller c = let l = c.loop-k in omega (arith, c.in-Some.ensures.0, left_fits c.args.s.now l.e l.invariant.0 c.in-Some.ensures.0 c.in-Some.ensures.1)
+loop-k-smaller c =
+    let t = c.loop-k.text.now in
+    let fits = left_fits t c.in-Some.ensures.0 c.in-Some.ensures.1 in
+    omega (arith, fits, c.in-Some.ensures.0, length-take-le (length t - c.in-Some.k) t (omega arith))
 
 pub loop-k-preserved : goal.loop-k-preserved
-loop-k-preserved c =
-    let l = c.loop-k in
-    (omega arith, l.invariant.1 ∙ left-next c.args.s.now l.e l.invariant.0 c.in-Some.ensures.0 c.in-Some.ensures.1)
+loop-k-preserved c = c.loop-k.invariant ∙ left-next (c.loop-k.text.now) c.in-Some.ensures.0 c.in-Some.ensures.1
 
 pub returns : goal.returns
-returns c = let l = c.loop-k in left-stop c.args.s.now l.e l.invariant.0 c.in_default.ensures l.invariant.1
+returns c = left-stop (c.loop-k.text.now) (c.args.s.now) c.in_default.ensures c.loop-k.invariant

@@ -1,11 +1,10 @@
-use Rattle.white.proofs.Names.{◌≡◌, ◌≤◌, length, take, trim}
+use Rattle.white.proofs.Names.{◌≡◌, length, trim}
 use Rattle.white.proofs.trim_end.Given as goal
 
--- Invariant: trimming the first e bytes gives what trimming all of them gives.
--- What falls: e.
-
+-- The invariant: trimming what is left gives what trimming the whole text gives.
+-- What falls: what is left.
 abbrev pub invariant-loop-k : goal.invariant-loop-k
-invariant-loop-k l = (l.e ≤ length l.s) × (trim l.s ≡ trim (take l.e l.s))
+invariant-loop-k l = trim l.s ≡ trim l.text
 
 abbrev pub decreases-loop-k : goal.decreases-loop-k
-decreases-loop-k l = l.e
+decreases-loop-k l = length l.text

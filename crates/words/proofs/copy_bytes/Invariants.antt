@@ -1,12 +1,8 @@
-use Prim.Native.Nat.{◌-◌}
 use Rattle.words.specs.InnerCopies.{Copying}
 use Rattle.words.proofs.copy_bytes.Given as goal
 
--- Invariant: the bytes up to `to` are copied, and `width` is the number of their characters (Copying).
--- What falls: the bytes from `to` up to `stop`.
+-- Invariant: the bytes before `len` are copied, and `width` is the number of their characters (Copying).
+-- What falls: the bytes after them.
 
-abbrev pub invariant-loop-to : goal.invariant-loop-to
-invariant-loop-to l = Copying l.body l.at l.stop l.len l.initial.room l.room l.to l.width
-
-abbrev pub decreases-loop-to : goal.decreases-loop-to
-decreases-loop-to l = l.stop - l.to
+abbrev pub invariant-loop-len : goal.invariant-loop-len
+invariant-loop-len l = Copying l.text l.initial.free l.free l.len l.width

@@ -1,44 +1,29 @@
-use Prim.Native.Nat.{◌-◌}
+use Prim.Native.Nat.{◌+◌, ◌≤◌, ◌<◌}
+use mathlib.Core.Path.{refl, sym, ◌∙◌}
 use native.Mathlib.Omega.{arith}
-use lib.ListN.{get_or}
-use Rattle.utf8.proofs.Laws.{adds_start, adds_more}
-use Rattle.splitter.proofs.Before.{neither_ends}
-use Rattle.words.proofs.Copying.{counts_back, cut_back}
-use Rattle.words.proofs.whole_words.Goals.{else-starts_character, then-starts_character}
+use borrow.Author.Rules.{rules}
+use lib.ListN.{length, take, length-take}
+use Rattle.words.proofs.Copying.{both, whole_space, whole-none}
+use Rattle.words.proofs.whole_words.Goals.{After-count}
 use Rattle.words.proofs.whole_words.Goals as goal
 
-pub overflow_sub-width : goal.overflow_sub-width
-overflow_sub-width c =
-    let loop-test = c.loop-to-test in
-    let turn = c in
-    let l = turn.loop-to in
-    let a = turn.args in
-    let x = a.body.now in
-    let back = counts_back x a.at a.run.to l.to l.width l.invariant.order l.invariant.near l.invariant.counts l.invariant.last loop-test.true
-    (omega (arith, l.invariant.near, l.invariant.inside)) in
-    omega (arith, back, adds_start (get_or x (l.to - 1) 0) c.starts_character.ensures c.if-starts_character.true)
+-- the place of the last space is within the run
+inner : (c : After-count) → c.in-Some.i + 1 ≤ c.args.run.len
+inner c = let k : c.in-Some.i < length (take c.args.run.len c.args.text.now) = search rules in omega (arith, length-take c.args.run.len c.args.text.now)
 
-pub loop-to-preserved : goal.loop-to-preserved
-loop-to-preserved c =
-    let loop-test = c.loop-to-test in
-    let turn = c in
-    let l = turn.loop-to in
-    let a = turn.args in
-    let x = a.body.now in
-    let b = get_or x (l.to - 1) 0 in
-    let back = counts_back x a.at a.run.to l.to l.width l.invariant.order l.invariant.near l.invariant.counts l.invariant.last loop-test.true
-    (omega (arith, l.invariant.near, l.invariant.inside)) in
-    let n = c.if-x-eq32.false in
-    let plain = turn.requires.3 in
-    record {
-      order = omega (arith, loop-test.true);
-      near = omega (arith, l.invariant.near);
-      inside = l.invariant.inside;
-      counts =
-          elim c.if-starts_character.branch [
-            | then-starts_character w ↦ omega (arith, back, w.width-is, adds_start b c.starts_character.ensures w.if-starts_character.true)
-            | else-starts_character w ↦ omega (arith, back, w.width-is, adds_more b c.starts_character.ensures w.if-starts_character.false)
-          ];
-      inner = neither_ends b (plain (l.to - 1) (omega (arith, loop-test.true)) (omega (arith, l.invariant.near, loop-test.true))) n;
-      last = cut_back x a.run.to l.to (omega (arith, l.invariant.near, l.invariant.inside)) l.invariant.inner n l.invariant.last;
-    }
+pub overflow_sub-result : goal.overflow_sub-result
+overflow_sub-result c =
+    let w = (goal.at.overflow_sub-result c).After-count in
+    let f = both c.args.text.now c.args.run.len c.args.run.width c.requires.1 (omega arith) (sym c.ends_word.ensures ∙ c.if-ends_word.false) c.requires.2
+    (c.in-Some.i + 1) (λ j a b q. search rules) (inner w) _ c.count.ensures in
+    omega (arith, f)
+
+pub returns-in-Some : goal.returns-in-Some
+returns-in-Some c =
+    whole_space c.args.text.now c.args.run.len c.args.run.width c.requires.1 (omega arith) (sym c.ends_word.ensures ∙ c.if-ends_word.false) c.requires.2
+    (c.in-Some.i + 1) (λ j a b q. search rules) (inner (goal.at.returns-in-Some c).After-count) _ c.count.ensures (search rules) (omega arith)
+
+pub returns-in-None : goal.returns-in-None
+returns-in-None c =
+    whole-none c.args.text.now c.args.run.len c.args.run.width c.requires.1 (omega arith) (sym c.ends_word.ensures ∙ c.if-ends_word.false)
+    c.requires.2 0 (λ j a b q. search rules) refl

@@ -1,8 +1,9 @@
-use Rattle.document.proofs.Names.{◌<◌, ap, arith, length, length-take-le, push-take}
+use Rattle.document.proofs.Names.{◌<◌, ap, arith, length}
+use Rattle.document.proofs.Held.{held_length, held_push}
 use Rattle.document.proofs.OpenBlocks.push.Goals as goal
 
 pub returns : goal.returns
 returns c =
     let s = c.self.inside in
-    let low : s.depth < 32 = omega (arith, c.requires, ap length c.self.view_is, length-take-le s.depth s.indices (omega arith)) in
-    rw (← c.self.view_is, c.index.ensures) (push-take s.indices s.depth _ (omega arith))
+    let low : s.depth < 32 = omega (arith, c.requires, ap length c.self.view_is, held_length s.blocks s.depth (omega arith)) in
+    rw (← c.self.view_is) (held_push s.blocks s.depth (omega arith) c.args.b (omega arith))

@@ -1,20 +1,25 @@
-use Rattle.roff_escape.proofs.Names.{◌≡◌, sym, ap, ◌∙◌, List, ℕ, ◌+◌, ◌-◌, ◌≤◌, arith, le-leb, length, take, drop, replicate, length-drop}
-use Rattle.roff_escape.proofs.Names.{length-take-le, overwritten, if_true, overwritten-whole}
+use Rattle.roff_escape.proofs.Names.{ℕ, Bool, ◌≡◌, ◌≤◌, ◌<◌, ◌^◌, refl, not, arith, rules, length, plain}
+use Rattle.splitter.proofs.Before.{before-short}
+use Rattle.roff_escape.proofs.Plain.{block_wrote}
+use Rattle.roff_escape.proofs.escape.copy_block.Goals.{After-min-k}
 use Rattle.roff_escape.proofs.escape.copy_block.Goals as goal
 
--- 32 bytes copied into a block of zeros fill it
-filled : (bytes : List ℕ) (at : ℕ) → at + 32 ≤ length bytes → overwritten (replicate 32 0) 0 (take (at + 32 - at) (drop at bytes)) ≡ take 32 (drop at bytes)
-filled bytes at h =
-    let n : at + 32 - at ≡ 32 = omega arith in
-    let long : length (take 32 (drop at bytes)) ≡ 32 = length-take-le 32 (drop at bytes) (omega (arith, length-drop at bytes)) in
-    rw n (overwritten-whole (replicate 32 0) (take 32 (drop at bytes)) (sym long))
+-- no more are taken than were copied
+few : (c : After-min-k) → c.min-k.result ≤ length c.args.bytes.now
+few c =
+    let p : ℕ → Bool = λ x. not (plain x) in
+    let n = c.first_of.ensures p record { each = λ x r h q. search rules } in
+    omega (arith, c.min-k.ensures, n, before-short p c.args.bytes.now)
 
-pub returns : goal.returns
-returns c =
-    let first = c.copy_from_slice in
-    let second = c.copy_from_slice-2 in
-    let start = c in
-    let a = start.args in record {
-      text = second.ensures ∙ ap (overwritten (a.room.now) a.len) (first.ensures ∙ filled (a.bytes.now) a.at start.requires.0);
-      plain = c.first_of.ensures ∙ if_true _ _ (le-leb (a.at + 32) (length (a.bytes.now)) start.requires.0);
-    }
+pub overflow_add-t : goal.overflow_add-t
+overflow_add-t c =
+    let long : length c.args.bytes.now ≡ 32 = search rules in
+    let inside : length c.args.t.now.room.now < 2 ^ 64 = search rules in
+    omega (arith, c.requires, few (goal.at.overflow_add-t c).After-min-k)
+
+pub returns-clause-text : goal.returns-clause-text
+returns-clause-text c =
+    let t = c.args.t.now in
+    let long : length c.args.bytes.now ≡ 32 = search rules in
+    block_wrote _ t.room.ghost_name t.room.now _ c.args.bytes.now t.len _ refl (omega (arith, c.requires)) (few (goal.at.returns-clause-text c).After-min-k)
+    c.copy_from_slice.ensures

@@ -1,24 +1,14 @@
-use Rattle.roff_escape.proofs.Names.{drop_of_length-le}
-use Rattle.roff_escape.proofs.Escaping.{escaped_byte, escaped-end, from-here}
+use Rattle.roff_escape.proofs.Names.{sym, ◌∙◌, drop_of_length-le}
+use Rattle.roff_escape.proofs.Escaping.{laid_same, escaped-none, escaped_more, escaped_byte, from-here}
 use Rattle.roff_escape.proofs.escape.escape_bytes.Goals as goal
 
 pub loop-c-preserved : goal.loop-c-preserved
 loop-c-preserved c =
-    let g = c.put_byte-n in
-    let after-loop-test = c in
-    let loop-test = after-loop-test.loop-c-test in
-    let l = after-loop-test.loop-c in
-    let a = after-loop-test.args in
-    rw c.starts_line-fresh.ensures
-    (escaped_byte a.mode a.start (a.bytes.now) (a.room.now) a.len l.invariant _ _ (from-here (a.bytes.now) l.c-index loop-test.true)
-    g.new.room g.result g.auto.room g.ensures)
+    let l = c.loop-c in
+    let byte = laid_same c.put_byte.ensures c.starts_line-fresh.ensures ∙ sym (escaped_byte c.args.mode _ _) in
+    escaped_more c.args.mode _ _ _ _ _ _ _ byte (from-here c.args.bytes.now l.c-index c.loop-c-test.true) l.invariant
 
 pub returns : goal.returns
 returns c =
-    let a = c.args in
     let l = c.loop-c in
-    let told = escaped-end a.mode a.start (a.bytes.now) (a.room.now) a.len l.invariant
-    (drop_of_length-le (a.bytes.now) {i = l.c-index} c.loop-c-test.false) in record {
-      text = told.0;
-      line = told.1;
-    }
+    sym (escaped-none c.args.mode l.t l.fresh _ (drop_of_length-le c.args.bytes.now {i = l.c-index} c.loop-c-test.false)) ∙ l.invariant

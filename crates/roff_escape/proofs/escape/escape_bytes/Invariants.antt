@@ -1,12 +1,7 @@
-use Rattle.roff_escape.proofs.Names.{◌-◌, length, drop}
-use Rattle.roff_escape.proofs.Escaping.{Escaped}
+use Rattle.roff_escape.proofs.Names.{◌≡◌, drop, text_of, laid, escaped}
 use Rattle.roff_escape.proofs.escape.escape_bytes.Given as goal
 
--- Invariant: what stands in the room up to n, and the bytes from i on escaped, is all of them escaped (Escaped).
--- What falls: the bytes after i.
+-- The bytes that are left, after what went out, are all of them.
 
 abbrev pub invariant-loop-c : goal.invariant-loop-c
-invariant-loop-c l = Escaped l.mode l.start l.bytes l.initial.room l.len l.room l.n l.fresh (drop l.c-index l.bytes)
-
-abbrev pub decreases-loop-c : goal.decreases-loop-c
-decreases-loop-c l = length l.bytes - l.c-index
+invariant-loop-c l = escaped l.mode (drop l.c-index l.bytes) (laid (text_of l.t) l.fresh) ≡ escaped l.mode l.bytes (laid (text_of l.initial.t) l.start)

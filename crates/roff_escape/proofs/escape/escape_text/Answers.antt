@@ -1,8 +1,8 @@
-use Rattle.roff_escape.proofs.Names.{◌≡◌, sym, ap, ◌∙◌, not, List, ◌∷◌, ℕ, ◌+◌, ◌-◌, ◌≤◌, ◌<◌, min, arith, not-true, length}
+use Rattle.roff_escape.proofs.Names.{◌≡◌, sym, ap, ◌∙◌, not, List, ◌∷◌, ℕ, ◌+◌, ◌≤◌, ◌<◌, min, arith, not-true, length, laid, text_of, escaped}
 use Rattle.roff_escape.proofs.Names.{take, drop, drop_of_length-le, length-take-le, get_or-take, and_left, text_mode}
-use Rattle.roff_escape.proofs.Escaping.{escaped_byte, escaped-end, from-here}
-use Rattle.roff_escape.proofs.Plain.{TextFrom, text-part, text_same, text-plain}
-use Rattle.roff_escape.proofs.escape.escape_text.Goals.{After-copy_plain-k, Joined-plain_here, then-plain_here+else-stop-i, else-plain_here}
+use Rattle.roff_escape.proofs.Escaping.{laid_same, escaped-none, escaped_more, escaped_byte, from-here}
+use Rattle.roff_escape.proofs.Plain.{text-part, text-plain}
+use Rattle.roff_escape.proofs.escape.escape_text.Goals.{After-copy_plain-i, Joined-plain_here, then-plain_here+else-stop-i, else-plain_here}
 use Rattle.roff_escape.proofs.escape.escape_text.Goals as goal
 
 -- there are as many bytes up to `stop`
@@ -10,109 +10,80 @@ up_to : (bytes : List ℕ) (to stop : ℕ) → stop ≡ min to (length bytes) �
 up_to bytes to stop e = length-take-le stop bytes (omega arith)
 
 -- where plain bytes were copied
-copied : (c : After-copy_plain-k)
-    → let after-loop = c in
-    let l = after-loop.loop-i in
-    let x = take after-loop.min-stop.result (after-loop.args.bytes.now) in
-    let a = after-loop.args in
-    TextFrom a.strip a.start (drop a.from x) x (a.room.now) a.len c.copy_plain-k.new.room (l.n + (c.copy_plain-k.result - l.i)) l.fresh
-    c.copy_plain-k.result
+copied : (c : After-copy_plain-i)
+    → let a = c.args in
+    let x = take c.min-stop.result a.bytes.now in
+    escaped (text_mode a.strip) (drop c.copy_plain-i.result x) (laid (text_of c.copy_plain-i.new.t) c.loop-i.fresh)
+    ≡ escaped (text_mode a.strip) (drop a.from x) (laid (text_of a.t.now) a.start)
 copied c =
-    let g = c.copy_plain-k in
-    let if1 = c.if-plain_here in
-    let Plain-here = c.plain_here in
-    let loop-test = c.loop-i-test in
-    let after-loop = c in
-    let l = after-loop.loop-i in
-    let min = after-loop.min-stop in
-    let a = after-loop.args in
-    let x = take min.result (a.bytes.now) in
-    let long = up_to (a.bytes.now) a.to min.result min.ensures in
-    let inside = not-true l.fresh (and_left (not l.fresh) _ (sym Plain-here.ensures ∙ if1.true)) in
-    text-plain a.strip a.start (drop a.from x) x (a.room.now) a.len l.invariant.0 inside g.new.room g.result
-    (omega (arith, loop-test.true)) g.auto.room g.ensures
+    let a = c.args in
+    let l = c.loop-i in
+    let stop = c.min-stop.result in
+    let x = take stop a.bytes.now in
+    let long = up_to a.bytes.now a.to stop c.min-stop.ensures in
+    let within = not-true l.fresh (and_left (not l.fresh) _ (sym c.plain_here.ensures ∙ c.if-plain_here.true)) in
+    text-plain a.strip l.fresh l.t c.copy_plain-i.new.t (laid (text_of a.t.now) a.start) x (drop a.from x) l.i c.copy_plain-i.result within
+    (omega (arith, c.loop-i-test.true)) c.copy_plain-i.ensures l.invariant
 
 -- where plain bytes were copied, or none: a byte is left
 here : (c : Joined-plain_here)
-    → let after-loop = c in
-    let l = after-loop.loop-i in
-    let stop = after-loop.min-stop.result in
-    let a = after-loop.args in
-    let x = take stop (a.bytes.now) in
-    TextFrom a.strip a.start (drop a.from x) x (a.room.now) a.len c.if-plain_here.room c.if-plain_here.n l.fresh c.if-plain_here.i
-    × (c.if-plain_here.i < stop)
-    × (l.i ≤ c.if-plain_here.i)
+    → let a = c.args in
+    let x = take c.min-stop.result a.bytes.now in
+    (escaped (text_mode a.strip) (drop c.if-plain_here.i x) (laid (text_of c.if-plain_here.t) c.loop-i.fresh)
+    ≡ escaped (text_mode a.strip) (drop a.from x) (laid (text_of a.t.now) a.start))
+    × (c.if-plain_here.i < c.min-stop.result)
+    × (c.loop-i.i ≤ c.if-plain_here.i)
 here c =
-    let Plain-here = c.plain_here in
-    let loop-test = c.loop-i-test in
-    let after-loop = c in
-    let l = after-loop.loop-i in
-    let min = after-loop.min-stop in
-    let a = after-loop.args in
-    let x = take min.result (a.bytes.now) in
-    let t = drop a.from x in
-    let long = up_to (a.bytes.now) a.to min.result min.ensures in
+    let a = c.args in
+    let l = c.loop-i in
+    let stop = c.min-stop.result in
+    let x = take stop a.bytes.now in
+    let long = up_to a.bytes.now a.to stop c.min-stop.ensures in
     elim c.if-plain_here.branch [
       | then-plain_here+else-stop-i w ↦ (
-        text_same a.strip a.start t x (a.room.now) a.len l.fresh w.room-is w.n-is w.i-is
-            (text-plain a.strip a.start t x (a.room.now) a.len l.invariant.0
-            (not-true l.fresh (and_left (not l.fresh) _ (sym Plain-here.ensures ∙ w.if-plain_here.true))) w.copy_plain-k.new.room w.copy_plain-k.result
-            (omega (arith, loop-test.true)) w.copy_plain-k.auto.room w.copy_plain-k.ensures),
+        rw (w.t-is, w.i-is) (text-plain a.strip l.fresh l.t w.copy_plain-i.new.t (laid (text_of a.t.now) a.start) x (drop a.from x) l.i w.copy_plain-i.result
+            (not-true l.fresh (and_left (not l.fresh) _ (sym c.plain_here.ensures ∙ w.if-plain_here.true)))
+            (omega (arith, c.loop-i-test.true)) w.copy_plain-i.ensures l.invariant),
         omega (arith, w.i-is, w.if-stop-i.false),
-        omega (arith, w.i-is, w.copy_plain-k.ensures.order),
+        omega (arith, w.i-is, w.copy_plain-i.ensures.order),
       )
       | else-plain_here w ↦ (
-        text_same a.strip a.start t x (a.room.now) a.len l.fresh w.room-is w.n-is w.i-is l.invariant.0,
-        omega (arith, w.i-is, loop-test.true),
+        rw (w.t-is, w.i-is) l.invariant,
+        omega (arith, w.i-is, c.loop-i-test.true),
         omega (arith, w.i-is),
       )
     ]
 
-pub loop-i-preserved : goal.loop-i-preserved
-loop-i-preserved c =
-    let g = c.put_text_byte-n in
-    let j = c in
-    let after-min = j in
-    let stop = after-min.min-stop.result in
-    let a = after-min.args in
-    let bytes = a.bytes.now in
-    let x = take stop bytes in
-    let long = up_to bytes a.to stop after-min.min-stop.ensures in
-    let i = j.if-plain_here.i in
-    let k = here (goal.at.loop-i-preserved c).Joined-plain_here in
-    let left = from-here x i (omega (arith, k.1)) ∙ ap (λ (b : ℕ). b ∷ drop (i + 1) x) (get_or-take stop bytes i 0 k.1) in (
-      rw c.starts_text_line-fresh.ensures (escaped_byte (text_mode a.strip) a.start (drop a.from x) (a.room.now) a.len k.0 _ _
-          left g.new.room g.result g.auto.room g.ensures),
-      g.type_inv,
-    )
-
 pub returns-then-stop-i : goal.returns-then-stop-i
 returns-then-stop-i c =
-    let after-copy-plain = c in
-    let after-min = after-copy-plain in
-    let min = after-min.min-stop in
-    let a = after-min.args in
-    let bytes = a.bytes.now in
-    let x = take min.result bytes in
-    let long = up_to bytes a.to min.result min.ensures in
-    let e = text-part bytes a.from a.to min.result min.ensures in
-    let told = escaped-end (text_mode a.strip) a.start (drop a.from x) (a.room.now) a.len (copied (goal.at.returns-then-stop-i c).After-copy_plain-k)
-    (drop_of_length-le x {i = after-copy-plain.copy_plain-k.result} (omega (arith, c.if-stop-i.true))) in record {
-      text = rw e told.0;
-      line = rw e told.1;
-    }
+    let a = c.args in
+    let stop = c.min-stop.result in
+    let x = take stop a.bytes.now in
+    let long = up_to a.bytes.now a.to stop c.min-stop.ensures in
+    rw (text-part a.bytes.now a.from a.to stop c.min-stop.ensures)
+    (sym (escaped-none (text_mode a.strip) c.copy_plain-i.new.t c.loop-i.fresh _
+    (drop_of_length-le x {i = c.copy_plain-i.result} (omega (arith, c.if-stop-i.true))))
+    ∙ copied (goal.at.returns-then-stop-i c).After-copy_plain-i)
+
+pub loop-i-preserved : goal.loop-i-preserved
+loop-i-preserved c =
+    let a = c.args in
+    let stop = c.min-stop.result in
+    let x = take stop a.bytes.now in
+    let long = up_to a.bytes.now a.to stop c.min-stop.ensures in
+    let i = c.if-plain_here.i in
+    let mode = text_mode a.strip in
+    let k = here (goal.at.loop-i-preserved c).Joined-plain_here in
+    let left = from-here x i (omega (arith, k.1)) ∙ ap (λ (b : ℕ). b ∷ drop (i + 1) x) (get_or-take stop a.bytes.now i 0 k.1) in
+    escaped_more mode _ _ _ _ _ _ _
+    (laid_same c.put_text_byte.ensures c.starts_text_line-fresh.ensures ∙ sym (escaped_byte mode (laid (text_of c.if-plain_here.t) c.loop-i.fresh) _)) left k.0
 
 pub returns : goal.returns
 returns c =
-    let l = c.loop-i in
-    let min = c.min-stop in
     let a = c.args in
-    let bytes = a.bytes.now in
-    let x = take min.result bytes in
-    let long = up_to bytes a.to min.result min.ensures in
-    let e = text-part bytes a.from a.to min.result min.ensures in
-    let told = escaped-end (text_mode a.strip) a.start (drop a.from x) (a.room.now) a.len l.invariant.0
-    (drop_of_length-le x {i = l.i} (omega (arith, c.loop-i-test.false))) in record {
-      text = rw e told.0;
-      line = rw e told.1;
-    }
+    let stop = c.min-stop.result in
+    let x = take stop a.bytes.now in
+    let long = up_to a.bytes.now a.to stop c.min-stop.ensures in
+    rw (text-part a.bytes.now a.from a.to stop c.min-stop.ensures)
+    (sym (escaped-none (text_mode a.strip) c.loop-i.t c.loop-i.fresh _ (drop_of_length-le x {i = c.loop-i.i} (omega (arith, c.loop-i-test.false))))
+    ∙ c.loop-i.invariant)

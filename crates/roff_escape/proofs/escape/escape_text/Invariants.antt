@@ -1,15 +1,13 @@
-use Rattle.roff_escape.proofs.Names.{◌-◌, ◌<◌, ◌^◌}
-use Rattle.roff_escape.proofs.Names.{take, drop}
-use Rattle.roff_escape.proofs.Plain.{TextFrom}
+use Rattle.roff_escape.proofs.Names.{◌≡◌, ◌-◌, take, drop, text_of, laid, escaped, text_mode}
 use Rattle.roff_escape.proofs.escape.escape_text.Given as goal
 
--- Invariant: what stands in the room up to n, and the bytes from i up to `stop` escaped, is all of them escaped.
+-- Invariant: the bytes from i up to `stop`, after what went out, are all that were to go out.
 -- What falls: the bytes from i up to `stop`.
 
 abbrev pub invariant-loop-i : goal.invariant-loop-i
 invariant-loop-i l =
-    TextFrom l.strip l.start (drop l.from (take l.stop l.bytes)) (take l.stop l.bytes) l.initial.room l.len l.room l.n l.fresh l.i
-    × (l.n < 2 ^ 64)
+    escaped (text_mode l.strip) (drop l.i (take l.stop l.bytes)) (laid (text_of l.t) l.fresh)
+    ≡ escaped (text_mode l.strip) (drop l.from (take l.stop l.bytes)) (laid (text_of l.initial.t) l.start)
 
 abbrev pub decreases-loop-i : goal.decreases-loop-i
 decreases-loop-i l = l.stop - l.i

@@ -3,14 +3,10 @@ use Rattle.roff_escape.proofs.Escaping.{puts, puts_nothing, guard-some, guard-ot
 use Rattle.roff_escape.proofs.escape.put_guard.Goals as goal
 
 pub returns-then-not-start : goal.returns-then-not-start
-returns-then-not-start c = puts _ _ _ _ _ _ (guard_none _ _ c.if-not-start.true) (puts_nothing (c.args.room.now) c.args.len)
+returns-then-not-start c = puts_nothing c.args.t.now _ (guard_none _ _ c.if-not-start.true)
 
 pub returns-in-46 : goal.returns-in-46
-returns-in-46 c =
-    let if1 = c.if-not-start in
-    puts _ _ _ _ _ _ (guard-some _ _ if1.false c.in-46.is) c.put_all.ensures
+returns-in-46 c = puts _ _ _ _ (guard-some _ _ c.if-not-start.false c.in-46.is) c.put_all.ensures
 
 pub returns-in_default : goal.returns-in_default
-returns-in_default c =
-    let args = c.args in
-    puts _ _ _ _ _ _ (guard-other _ _ (search rules) c.if-not-start.false) (puts_nothing (args.room.now) args.len)
+returns-in_default c = puts_nothing c.args.t.now _ (guard-other _ _ (search rules) c.if-not-start.false)

@@ -1,8 +1,9 @@
-use Rattle.sample_lines.proofs.Names.{◌≡◌, ◌-◌, length, ◌>>=◌, seen, extended, repeated}
+use Rattle.sample_lines.proofs.Names.{◌-◌, repeated}
+use Rattle.room.specs.Lent.{text_of}
+use Rattle.sample_lines.proofs.Writing.{Putting}
 use Rattle.sample_lines.proofs.documents.put_times.Given as goal
 
--- What stands in `d`, and the bytes as often as they are still to be put, give what all of them give from the start.
+-- Invariant: the bytes are left to write as often as is left of the times.
+-- What falls: the times that are left, which the range counts.
 abbrev pub invariant-loop : goal.invariant-loop
-invariant-loop l =
-    (seen l.d l.n >>= extended (length l.initial.d) (repeated (l.times - l.counter) l.bytes))
-    ≡ (seen l.initial.d l.len >>= extended (length l.initial.d) (repeated l.times l.bytes))
+invariant-loop l = Putting (repeated l.times l.bytes) (text_of l.initial.d) (repeated (l.times - l.counter) l.bytes) (text_of l.d)
