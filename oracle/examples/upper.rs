@@ -16,12 +16,6 @@ use std::process::ExitCode;
 /// A mapped character, and what it maps to.
 type Table = BTreeMap<u32, Vec<u32>>;
 
-/// The table's columns are cut here: below it a character has 16 bits.
-const FAR: u32 = 0x10000;
-
-/// The numbers from here to 0xDFFF are no characters: in a column they are places.
-const PLACES: u32 = 0xD800;
-
 fn scalar_values() -> impl Iterator<Item = char> {
     (0..=0x10FFFF).filter_map(char::from_u32)
 }
@@ -65,65 +59,20 @@ fn rules(version: &str, table: &Table) -> String {
     text + "    ∷ []\n"
 }
 
-fn columns(version: &str, table: &Table) -> String {
-    let (mut from, mut to, mut longer) = (Vec::new(), Vec::new(), Vec::new());
-    let (mut far_from, mut far_to) = (Vec::new(), Vec::new());
-    for (&c, upper) in table {
-        match upper[..] {
-            [u] if FAR <= c => {
-                far_from.push(c - FAR);
-                far_to.push(u - FAR);
-            }
-            [u] => {
-                from.push(c);
-                to.push(u);
-            }
-            _ => {
-                from.push(c);
-                to.push(PLACES + longer.len() as u32);
-                longer.extend((0..3).map(|k| upper.get(k).copied().unwrap_or(0)));
-            }
-        }
-    }
+fn code(version: &str, table: &Table) -> String {
     let mut text = format!(
-        "// The columns of the upper-case table of Unicode {version}, as specs/Table.antt has it. Made by oracle/examples/upper.rs.\n"
+        "// The upper-case table of Unicode {version}, as specs/Table.antt has it. Made by oracle/examples/upper.rs.\n\n\
+         use crate::Mapped;\n\n\
+         // Each mapped character, ascending, and what it maps to.\n\
+         pub static TABLE: [(char, Mapped); {}] = [\n",
+        table.len()
     );
-    let sizes = [
-        ("NEAR", from.len()),
-        ("LONG", longer.len()),
-        ("FAR", far_from.len()),
-        ("ALL", table.len()),
-    ];
-    for (name, size) in sizes {
-        writeln!(text, "\npub const {name}: usize = {size};").unwrap();
+    for (from, to) in table {
+        let case = ["One", "Two", "Three"][to.len() - 1];
+        let to: Vec<String> = to.iter().map(|c| format!("'\\u{{{c:X}}}'")).collect();
+        writeln!(text, "    ('\\u{{{from:X}}}', Mapped::{case}({})),", to.join(", ")).unwrap();
     }
-    from.extend(far_from);
-    to.extend(far_to);
-    for (name, size, about, column) in [
-        (
-            "FROM",
-            "ALL",
-            "The mapped characters: those below U+10000, and then those from there on, less 0x10000.",
-            from,
-        ),
-        (
-            "TO",
-            "ALL",
-            "What each of them maps to. Of those below U+10000: a character, or 0xD800 and the place in LONGER of several; of the others: a character, less 0x10000.",
-            to,
-        ),
-        ("LONGER", "LONG", "Two or three characters that one maps to; 0 for no third.", longer),
-    ] {
-        assert!(column.iter().all(|&c| c < FAR), "{name} has a number of more than 16 bits");
-        writeln!(text, "\n// {about}\npub const {name}: [u16; {size}] = [").unwrap();
-        // as `rt fmt` lays a table out
-        for line in column.chunks(12) {
-            let line: Vec<String> = line.iter().map(|c| format!("0x{c:04X},")).collect();
-            writeln!(text, "    {}", line.join(" ")).unwrap();
-        }
-        writeln!(text, "];").unwrap();
-    }
-    text
+    text + "];\n"
 }
 
 /// The version and the entries of specs/Table.antt. An entry is `(0x.. becomes 0x.. ∷ .. ∷ [])`, on a line of its own.
@@ -267,7 +216,7 @@ fn run(words: &[&str]) -> Result<String, String> {
         ["make", folder] => {
             let (version, table) = (compilers_version(), compilers_table());
             write(&Path::new(folder).join("specs/Table.antt"), rules(&version, &table))?;
-            write(&Path::new(folder).join("src/table.rt"), columns(&version, &table))?;
+            write(&Path::new(folder).join("src/table.rt"), code(&version, &table))?;
             Ok(format!("the table of Unicode {version}, {} entries, is made", table.len()))
         }
         ["check", folder] => read(folder).and_then(|(version, table)| check(&version, &table)),
@@ -326,21 +275,17 @@ mod tests {
         assert!(old.ends_with("1 characters differ"), "{old}");
     }
 
-    /// Each number of a column has 16 bits, a longer mapping has its place, and all entries are there.
+    /// The code has all entries, with one to three characters each.
     #[test]
-    fn columns_hold_all_entries() {
+    fn the_code_has_all_entries() {
         let table = small();
-        let text = columns("17.0.0", &table);
-        assert!(text.contains(&format!("pub const NEAR: usize = {};", table.len())), "{text}");
-        assert!(text.contains("pub const FAR: usize = 0;"));
-        assert!(text.contains(&format!("pub const ALL: usize = {};", table.len())), "{text}");
-        assert!(text
-            .lines()
-            .filter(|line| line.starts_with("    0x"))
-            .all(|line| line.len() <= 99));
+        let text = code("17.0.0", &table);
+        assert!(text.contains(&format!("[(char, Mapped); {}]", table.len())), "{text}");
+        assert_eq!(text.matches("Mapped::").count(), table.len());
+        assert!(text.contains("\n    ('\\u{61}', Mapped::One('\\u{41}')),\n"));
         // ß and ŉ grow
-        assert!(text.contains(" 0xD800,") && text.contains(" 0xD803,"));
-        assert!(text.contains("\n    0x0053, 0x0053, 0x0000, 0x02BC, 0x004E, 0x0000,"));
+        assert!(text.contains("\n    ('\\u{DF}', Mapped::Two('\\u{53}', '\\u{53}')),\n"));
+        assert!(text.contains("\n    ('\\u{149}', Mapped::Two('\\u{2BC}', '\\u{4E}')),\n"));
     }
 
     /// Of SpecialCasing.txt the unconditional entries count, and what the database does not have explains a difference.

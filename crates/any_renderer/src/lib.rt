@@ -1,4 +1,5 @@
 // Any renderer: which one is told by a value.
+// (A value and no closure: the rules speak of it, and a closure's promise would stand in each contract that takes one.)
 
 #![tactic(auto)]
 
@@ -12,6 +13,7 @@ use console_rules::{MAX_WIDTH, Settings};
 use refusal::Refusal;
 
 // What is asked for: the console, HTML, strict HTML, Markdown, roff; `css` is the style sheet.
+// (Two cases for HTML, as `html` has two functions: of one case with a flag more, the flag would be taken apart again in two longer arms.)
 #[derive(Clone, Copy)]
 pub enum Asked {
     Console(Settings),
@@ -39,8 +41,5 @@ pub fn render_any(document: &[u8], asked: Asked, room: &mut [u8]) -> Result<usiz
 pub fn too_wide(asked: Asked) -> bool
     ensures { result ≡ too_wide asked }
 {
-    match asked {
-        Asked::Console(set) => MAX_WIDTH < set.width,
-        _ => false,
-    }
+    matches!(asked, Asked::Console(set) if MAX_WIDTH < set.width)
 }

@@ -1,8 +1,9 @@
 -- A prefix, and what has it. Assumes nothing.
-use Rattle.base.proofs.Names.{ℕ, ◌+◌, ◌≤◌, ◌<◌, ◌≡◌, refl, sym, ◌∙◌, Bool, true, false, ◌&&◌, false≢true, List, [], ◌∷◌, ◌++◌, eqb, length, drop}
-use Rattle.base.proofs.Names.{get_or, ◌-◌, ⊎_elim}
-use Rattle.base.proofs.Names.{length-drop, drop-length, drop-cons, add-one, arith, le-leb, lt-leb, eq-eqb, ne_eqb, eqb-true, starts_with}
+use Rattle.base.proofs.Names.{ℕ, ◌+◌, ◌≤◌, ◌<◌, ◌≡◌, refl, sym, ◌∙◌, Bool, true, false, false≢true, List, [], ◌∷◌, ◌++◌, eqb, length, drop}
+use Rattle.base.proofs.Names.{◌-◌, ⊎_elim}
+use Rattle.base.proofs.Names.{length-drop, arith, le-leb, lt-leb, eq-eqb, eqb-true, starts_with}
 use Rattle.base.proofs.Choice.{and_left, and_right, not-passed, same_test, le_or_lt}
+use Rattle.std.specs.List.{list_all, zip}
 use Rattle.std.specs.List.{ends_with as library}
 use Rattle.base.specs.Bytes.{ends_with}
 use lib.Pointwise.{pointwise}
@@ -29,26 +30,17 @@ starts_fits p s at r h e f = let k = starts-length p (drop at s) (sym e ∙ f) i
 pub starts-short : (p s : List ℕ) → length s < length p → starts_with p s ≡ false
 starts-short p s h = not-passed (starts_with p s) (λ e. let l = starts-length p s e in omega arith)
 
--- compared from a place on, one byte more
-module _ (p s : List ℕ) (i : ℕ) (h : i < length p) (k : length p ≤ length s) where
-  starts-next : starts_with (drop i p) (drop i s) ≡ (eqb (get_or s i 0) (get_or p i 0) && starts_with (drop (i + 1) p) (drop (i + 1) s))
-  unfolding starts_with
-  starts-next = let l : i < length s = omega arith in rw (drop-cons p i 0 h, drop-cons s i 0 l, add-one i)
-
-  pub starts-on : get_or s i 0 ≡ get_or p i 0 → starts_with (drop i p) (drop i s) ≡ starts_with (drop (i + 1) p) (drop (i + 1) s)
-  starts-on e = starts-next ∙ simp (eq-eqb _ _ e)
-
-  pub starts-not : (get_or s i 0 ≡ get_or p i 0 → ⊥) → starts_with (drop i p) (drop i s) ≡ false
-  starts-not n = starts-next ∙ simp (ne_eqb _ _ n)
-
-pub starts-end : (p s : List ℕ) (i : ℕ) → i ≡ length p → starts_with (drop i p) s ≡ true
-unfolding starts_with
-starts-end p s i e = rw (e, drop-length p)
-
--- the library's test of an end says the same
+-- the bytes of a prefix are those beside them
 eqb_turned : (a b : ℕ) → eqb a b ≡ eqb b a
 eqb_turned a b = same_test (eqb a b) (eqb b a) (λ e. eq-eqb b a (sym (eqb-true a b e))) (λ e. eq-eqb a b (sym (eqb-true b a e)))
 
+pub starts-zipped : (p s : List ℕ) → length p ≤ length s → list_all (λ (q : ℕ × ℕ). eqb q.0 q.1) (zip p s) ≡ starts_with p s
+unfolding starts_with
+starts-zipped [] s h = refl
+starts-zipped (x ∷ p) [] h = absurd (omega arith)
+starts-zipped (x ∷ p) (b ∷ s) h = rw (eqb_turned x b, starts-zipped p s (omega arith))
+
+-- the library's test of an end says the same
 each_equal : (x t : List ℕ) → length t ≤ length x → pointwise eqb x t ≡ starts_with x t
 unfolding starts_with
 each_equal [] [] h = refl

@@ -11,10 +11,11 @@ ghost use Rattle.base.specs.Bytes.{part, starts_with, overwritten};
 pub fn get_from<'a>(s: &'a [u8], from: usize) -> &'a [u8]
     ensures { result.now ≡ drop from s.now }
 {
-    if from <= s.len() { &s[from..] } else { &s[..0] }
+    s.get(from..).unwrap_or_default()
 }
 
 // The bytes from a place up to another, as far as there are any: `get` of a range.
+// Branches, since by `min` of the two ends HTML runs 3.8 % more instructions and Markdown 4.2 %.
 pub fn get<'a>(s: &'a [u8], from: usize, to: usize) -> &'a [u8]
     ensures { result.now ≡ part s.now from to }
 {
@@ -28,7 +29,7 @@ pub fn get<'a>(s: &'a [u8], from: usize, to: usize) -> &'a [u8]
 }
 
 // `copy_from_slice` into a room from `at` on; a room that does not hold the bytes there stays as it was. Most are a few bytes, for which the library's
-// `copy_from_slice` costs more than this loop: with it Markdown took a third more time.
+// `copy_from_slice` costs more than this loop: with it Markdown took a third more time. By `iter_mut().zip(bytes)` HTML runs 1.8 to 2.9 % more instructions.
 pub fn copy_from_slice(room: &mut [u8], at: usize, bytes: &[u8])
     ensures { room.new ≡ overwritten room.old at bytes.now }
 {
@@ -39,24 +40,18 @@ pub fn copy_from_slice(room: &mut [u8], at: usize, bytes: &[u8])
     }
 }
 
-// Whether the bytes from `at` on start with some others. Most are a few bytes, for which the library's `starts_with` costs more than this loop: with it
+// Whether the bytes from `at` on start with some others. Most are a few bytes, for which the library's `starts_with` costs more than these tests: with it
 // HTML took a tenth more time.
 pub fn starts_with(s: &[u8], at: usize, prefix: &[u8]) -> bool
     ensures { result ≡ starts_with prefix.now (drop at s.now) }
 {
     let rest = get_from(s, at);
-    if rest.len() < prefix.len() {
-        return false;
-    }
-    for (i, b) in prefix.iter().enumerate() {
-        if rest[i] != *b {
-            return false;
-        }
-    }
-    true
+    prefix.len() <= rest.len() && prefix.iter().zip(rest).all(|(a, b)| *a == *b)
 }
 
-// Whether one of some bytes passes a test. Each is tested, so that the compiler makes it a test of 16 at a time.
+// Whether one of some bytes passes a test. Each is tested, so that the compiler makes it a test of 16 at a time: by `iter().any(..)` HTML and Markdown run
+// 7 % more instructions on a page of options, and the console 5 %.
+// (That a test may be called stands in each contract that takes one, also in `runs` and `utf8`: a type around it would be made anew at each call.)
 pub fn any<F: Fn(u8) -> bool>(s: &[u8], test: F) -> bool
     requires { F.IsAlwaysCallable test }
     ensures { (p : ℕ → Bool) → AnswersAs F.post test p → result ≡ list_any p s.now }
@@ -68,7 +63,7 @@ pub fn any<F: Fn(u8) -> bool>(s: &[u8], test: F) -> bool
     found
 }
 
-// How many of some bytes pass a test, where a byte holds that number.
+// How many of some bytes pass a test, where a byte holds that number: a loop for `filter(..).count()`, for the reason at `count`.
 pub fn few<F: Fn(u8) -> bool>(s: &[u8], test: &F) -> u8
     requires size { length s.now < 256 }
     requires callable { F.IsAlwaysCallable test.now }
@@ -85,7 +80,7 @@ pub fn few<F: Fn(u8) -> bool>(s: &[u8], test: &F) -> u8
 }
 
 // How many bytes pass a test: by blocks of 128, whose number a byte holds, so that the compiler counts 16 at a time. `filter(..).count()` counts into 64
-// bits, of which it takes 2 at a time.
+// bits, of which it takes 2 at a time: 22 to 29 µs for 60 KB, where this takes 1.0 to 1.6.
 pub fn count<F: Fn(u8) -> bool>(s: &[u8], test: F) -> usize
     requires { F.IsAlwaysCallable test }
     ensures { (p : ℕ → Bool) → AnswersAs F.post test p → result ≡ count_by p s.now }

@@ -6,4 +6,3 @@ pub mod Records
 pub mod Blocks
 pub mod Numbers
 pub mod Positions
-pub mod Taking

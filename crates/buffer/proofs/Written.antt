@@ -19,7 +19,7 @@ use Rattle.std.specs.Iterator.{Drains, YieldsFirstBy}
 use Rattle.records.specs.Listed.{token, left}
 use Rattle.records.specs.declared.Record.{Record}
 use Rattle.records.specs.declared.Records.{Records}
-use Rattle.buffer.proofs.Taking.{some_read, last-given}
+use Rattle.records.proofs.Taking.{some_read, last-given}
 use Rattle.document.proofs.Walks.{Sane, OpenAt, open_at_0, open_whole, open_next, open_after}
 use Rattle.buffer.specs.Builder.{is_text, one_text}
 

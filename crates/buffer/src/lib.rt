@@ -1,6 +1,7 @@
 // The builder (src/buffer.rs): text, blocks and documents are added to a document in the first bytes of a lent room. A refused call
 // changes no byte of the room. (A room and its length are two parameters: each call of the C interface lends both anew and takes the length
 // back, so that a struct of both would be made, used for one call and taken apart again by every function of `sefgrunn`.)
+// (No `room::Text`: it leaves free what stands past the text, and a call of the builder keeps those bytes.)
 
 #![tactic(auto)]
 
@@ -41,7 +42,7 @@ pub fn has_room(room: &[u8], to: usize, more: usize) -> bool
     to <= limit && more <= limit - to
 }
 
-// Whether a record's kind is text of that style.
+// Whether a record's kind is text of that style. (Derived `==`; the function says what it is by the rules, for both callers.)
 pub fn is_text(style: Style, kind: Kind) -> bool
     ensures { result ≡ is_text style kind }
 {
@@ -108,7 +109,8 @@ pub fn put_block(room: &mut [u8], len: usize, kind: usize) -> Result<usize, Refu
     Ok(len + 6)
 }
 
-// A block's start. (Two functions: one for both would be told which of `open` and `close`, and which kind, to take.)
+// A block's start. (Two functions, as bpaf and the C interface have them: one for both would be told which of `open` and `close`, and which kind, to take,
+// since a kind is a number here, as `record_writer` says.)
 pub fn open_block(room: &mut [u8], len: usize, b: Block) -> Result<usize, Refusal>
     ensures { Follows (opens_block room.old len b) room.old room.new result }
 {

@@ -3,13 +3,13 @@ use Rattle.buffer_doc.proofs.Names.{ℕ, ◌+◌, ◌≤◌, ◌<◌, ◌≡◌,
 use Rattle.buffer_doc.proofs.Names.{append-nil, leb, length, take, drop, replicate, length-append, length-replicate, length-take-le, arith, le-leb}
 use Rattle.buffer_doc.proofs.Names.{lt-leb, eq-eqb, Result, gives, refused, ◌>>=◌, top, pushed, popped, if_true, if_false}
 use Rattle.buffer_doc.proofs.Names.{and_both, length-pushed, index, opens, closes, reads, check, start, end, around, Block}
-use Rattle.buffer_doc.proofs.Names.{verdict_refused, fit, add, adds_as, pasted, overwritten, Nests, Ready, Adds, Joins, made_of, length-stored}
+use Rattle.buffer_doc.proofs.Names.{fit, add, adds_as, pasted, overwritten, Nests, Ready, Adds, Joins, made_of, length-stored}
 use Rattle.buffer_doc.proofs.Names.{pasted-next, length-pasted}
-use Rattle.document.specs.Answers.{verdict_of}
 use Rattle.records.specs.declared.Block.TheVariants as block
 use Rattle.refusal.specs.declared.Refusal.{Refusal}
 use Rattle.refusal.specs.declared.Refusal.TheVariants as refusal
 use Rattle.refusal.specs.Answers.{answered}
+use Rattle.refusal.specs.Numbers.{refusal_number, refusal_place}
 use Rattle.std.specs.Prelude.{Option, Some, None, Result as Answer, Ok, Err}
 use Rattle.buffer_doc.specs.InnerParts.{met}
 use Rattle.base.proofs.Pasting.{overwritten_fits}
@@ -147,12 +147,12 @@ adds_same {len} {depth} {room} {new} {r} e a = subst (λ (x : List ℕ). Adds x 
 -- What comes before
 
 -- the added document is refused, or its records are added
-pub joins-refused : (x records room : List ℕ) (len depth : ℕ) (a : Refusal) {k : Answer Unit Refusal} → verdict_of k [] ≡ check x → k ≡ Err a
+pub joins-refused : (x records room : List ℕ) (len depth : ℕ) (a : Refusal) → check x ≡ refused (refusal_number a) (refusal_place a)
     → Joins x records len depth room room (Err a)
 unfolding ◌>>=◌
-joins-refused x records room len depth a e f = record {
+joins-refused x records room len depth a e = record {
   does = λ stack _. follows-refused room a
-      (ap (λ (r : Result (List ℕ)). r >>= λ _. add room (take len room) stack (around block.InlineBlock records)) (verdict_refused [] e f));
+      (ap (λ (r : Result (List ℕ)). r >>= λ _. add room (take len room) stack (around block.InlineBlock records)) e);
 }
 
 pub joins_added : {x records old new : List ℕ} {len depth : ℕ} {r : Answer ℕ Refusal} → check x ≡ gives [] → Adds records len depth old new r
@@ -167,6 +167,11 @@ joins_added {records} {old} {new} {len} c a = record {
 pub joins_made : {x old new : List ℕ} {len depth : ℕ} {r : Answer ℕ Refusal} {by is : Form} → by ≡ is → Joins x (made_of is x) len depth old new r
     → Joins x (made_of by x) len depth old new r
 joins_made {x} {old} {new} {len} {depth} {r} e j = subst (λ (is : Form). Joins x (made_of is x) len depth old new r) (sym e) j
+
+-- in the room that was lent
+pub joins_lent : {x records old mid new : List ℕ} {len depth : ℕ} {r : Answer ℕ Refusal} → new ≡ mid → Joins x records len depth old mid r
+    → Joins x records len depth old new r
+joins_lent {x} {records} {old} {len} {depth} {r} e j = subst (λ (room : List ℕ). Joins x records len depth old room r) (sym e) j
 
 -- its refusal is of 01
 pub joins_numbers : {x records old new : List ℕ} {len depth : ℕ} {r : Answer ℕ Refusal} → Joins x records len depth old new r → Of01 (answered r)

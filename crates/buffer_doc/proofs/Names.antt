@@ -16,7 +16,7 @@ pub use Rattle.buffer_doc.specs.InnerParts.{Adds, Joins, Lines, Nests, Ready, co
 unfoldable pub use Rattle.buffer_doc.specs.InnerParts.{section, titled}
 pub use Rattle.document.proofs.Refusals.{reads-some}
 pub use Rattle.document.proofs.Walks.{AcceptedAt, Allowed, Sane, accept-gives, accepted_at_0, check-gives, first_gives, open_allowed, open_done, open_fits}
-pub use Rattle.document.proofs.Walks.{open_next, open_sane_here, open_whole, open_after, verdict_gives, verdict_refused}
+pub use Rattle.document.proofs.Walks.{open_next, open_sane_here, open_whole, open_after}
 pub use Rattle.document.specs.Document.{check}
 unfoldable pub use Rattle.document.specs.Document.{accept, bodiless, closes, first, open_blocks, opens, reads}
 pub use Rattle.records.proofs.Reading.{read-token}

@@ -9,7 +9,7 @@ use Rattle.records.specs.declared.Kind.TheVariants as kind
 use Rattle.records.proofs.Tokens.{next_at}
 use Rattle.records.specs.Records.{tokens_from}
 use Rattle.std.specs.Prelude.{Some, None}
-use Rattle.buffer.proofs.Taking.{Taken, taken, none_left}
+use Rattle.records.proofs.Taking.{Taken, taken, none_left}
 
 -- A stack on another
 
@@ -85,7 +85,7 @@ module _ {s : List ℕ} {from depth count at next : ℕ} {h : Head} (c : Reached
     (n : next ≡ count_after h.kind count) where
   read_here : (q : ℕ) (stack : List ℕ)
       → reads (q + at) 0 stack (drop at s)
-      ≡ (accept (q + at) h.kind (part s h.start h.stop) stack >>= λ after. reads (q + h.next) 0 after (drop h.next s))
+      ≡ (accept (q + at) h.kind (part s h.start h.next) stack >>= λ after. reads (q + h.next) 0 after (drop h.next s))
   unfolding first token_at
   read_here q stack =
       let e : h.next ≡ next_at s at = (open_whole c.here r l).1 in
@@ -94,7 +94,7 @@ module _ {s : List ℕ} {from depth count at next : ℕ} {h : Head} (c : Reached
       reads-some (drop at s) (q + at) stack (omega (arith, length-drop at s))
       ∙ ap (λ (x : Result (List ℕ)). x >>= λ after. reads (q + at + (6 + size (drop at s))) 0 after (drop (6 + size (drop at s)) (drop at s)))
       (if_true _ _ (open_fits c.here r l) ∙ ap (λ (t : Token). accept (q + at) t.kind t.body stack) (read-token r l))
-      ∙ ap₂ (λ (k : ℕ) (t : List ℕ). accept (q + at) h.kind (part s h.start h.stop) stack >>= λ after. reads k 0 after t) p d
+      ∙ ap₂ (λ (k : ℕ) (t : List ℕ). accept (q + at) h.kind (part s h.start h.next) stack >>= λ after. reads k 0 after t) p d
 
   counts-next : next ≡ depth + length (open_after h.kind c.inner)
   counts-next = n ∙ ap (count_after h.kind) c.counts ∙ count_over depth h.kind c.inner (open_allowed c.here r l)
@@ -109,7 +109,7 @@ module _ {s : List ℕ} {from depth count at next : ℕ} {h : Head} (c : Reached
     runs = λ q stack f.
         c.runs q stack f ∙ read_here q (stack ++ c.inner)
         ∙ rw
-        (accept_over (q + at) stack c.inner h.kind (part s h.start h.stop) (open_sane_here c.here r l) (open_allowed c.here r l)
+        (accept_over (q + at) stack c.inner h.kind (part s h.start h.next) (open_sane_here c.here r l) (open_allowed c.here r l)
         (omega (arith, counts-next)));
   }
 
@@ -120,7 +120,7 @@ module _ {s : List ℕ} {from depth count at next : ℕ} {h : Head} (c : Reached
     reading = λ q stack f.
         c.runs q stack f ∙ read_here q (stack ++ c.inner)
         ∙ rw
-        (accept-deep (q + at) stack c.inner h.kind (part s h.start h.stop) (open_sane_here c.here r l) (open_allowed c.here r l)
+        (accept-deep (q + at) stack c.inner h.kind (part s h.start h.next) (open_sane_here c.here r l) (open_allowed c.here r l)
         (omega (arith, c.counts)) (omega (arith, counts-next)));
   }
 

@@ -192,12 +192,12 @@ module _ (s : List ℕ) {h : Head} (c : check s ≡ gives []) (r : Read s 0 h) (
   em_is =
       em_some s (some s r t) (ap (λ (x : Token). is_text style.Text x.kind) (read-token r (some s r t)) ∙ t)
       ∙ ap₂ (λ (x : List ℕ) (n : ℕ). first_line x (drop n s))
-      (ap (λ (x : Token). x.body) (read-token r (some s r t)) ∙ ap₂ (λ (i j : ℕ). part s i j) start_at r.ends) (sym em_next.0)
+      (ap (λ (x : Token). x.body) (read-token r (some s r t)) ∙ ap (λ (i : ℕ). part s i h.next) start_at) (sym em_next.0)
 
   pub em_valid : Valid (part s 6 h.next)
   em_valid =
-      ap₂ (λ (i j : ℕ). utf8 (part s i j)) (sym start_at) (sym r.ends)
-      ∙ text_sane style.Text h.kind (part s h.start h.stop) t (open_sane_here accepted r (some s r t))
+      ap (λ (i : ℕ). utf8 (part s i h.next)) (sym start_at)
+      ∙ text_sane style.Text h.kind (part s h.start h.next) t (open_sane_here accepted r (some s r t))
 
   pub em_short : length (part s 6 h.next) ≤ 32768
   em_short = omega (arith, length-body, (check-gives s [] c).0, r.high)

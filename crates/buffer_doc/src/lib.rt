@@ -1,5 +1,5 @@
 // Documents added to a document in the first bytes of a lent room (src/buffer.rs: `Doc::doc`, `Doc::em_doc`). A refused call changes no byte of the
-// room.
+// room. (A room and its length are two parameters of the functions outside of `Target`, as `buffer` says of its own.)
 
 #![tactic(auto)]
 
@@ -7,7 +7,7 @@ ghost use Rattle.std.specs.Prelude.{◌≡◌, true, [], ◌++◌, ◌+◌, ◌-
 ghost use Rattle.base.specs.Result.{gives, measured};
 ghost use Rattle.utf8.specs.Utf8.{utf8};
 ghost use Rattle.splitter.specs.Split.{line};
-ghost use Rattle.document.specs.Document.{check, reads, max_bytes, max_open};
+ghost use Rattle.document.specs.Document.{reads, max_bytes, max_open};
 ghost use Rattle.records.specs.Stored.{text, start};
 ghost use Rattle.records.specs.declared.Style.TheVariants as style;
 ghost use Rattle.records.specs.declared.Block.TheVariants as block;
@@ -15,10 +15,9 @@ ghost use Rattle.buffer.specs.Builder.{emphasised, adds_as, adds_doc, adds_em_do
 ghost use Rattle.refusal.specs.Answers.{answered};
 ghost use Rattle.buffer.specs.Answers.{Follows, Of01};
 ghost use Rattle.base.specs.Bytes.{pasted};
-ghost use Rattle.buffer.specs.InnerParts.{Accepted};
 ghost use Rattle.buffer_doc.specs.InnerParts.{count_after, section, titled, Nests, Ready, Lines, Adds, Joins, made_of};
 
-use document::{MAX_BYTES, MAX_OPEN};
+use document::{Accepted, MAX_BYTES, MAX_OPEN};
 use record_writer::{end_kind, set_block, set_head, start_kind};
 use records::{Block, Kind, Records, Style};
 use refusal::Refusal;
@@ -30,7 +29,7 @@ pub enum Form {
     EmDoc,
 }
 
-// How many blocks are open after a record.
+// How many blocks are open after a record. (Not `merge_items::open_after`: an end where none is open is passed over here, and ends the search there.)
 fn counted(kind: Kind, count: usize) -> usize
     requires { count ≤ max_open }
     ensures { result ≡ count_after kind count }
@@ -57,27 +56,6 @@ fn too_deep(document: &[u8], from: usize, depth: usize) -> Option<usize>
     None
 }
 
-// A document in InlineBlock after the document so far, where `depth` blocks are open. (`Ready` stands in four contracts, since it speaks of the lent
-// room, which a type of a length and a depth does not hold; with the room it would be made anew for each call, as `buffer` says.)
-fn put_doc(room: &mut [u8], len: usize, depth: usize, added: &[u8]) -> Result<usize, Refusal>
-    requires { Ready room.old len depth × (check added.now ≡ gives []) }
-    ensures { Adds added.now len depth room.old room.new result }
-{
-    if MAX_OPEN <= depth {
-        return Err(Refusal::TooDeep(len));
-    }
-    if let Some(deep) = too_deep(added, 0, depth + 1) {
-        return Err(Refusal::TooDeep(len + 6 + deep));
-    }
-    if !buffer::has_room(room, len + 12, added.len()) {
-        return Err(Refusal::NoRoom);
-    }
-    set_block(room, len, start_kind(Block::InlineBlock));
-    base::copy_from_slice(room, len + 6, added);
-    set_block(room, len + 6 + added.len(), end_kind(Block::InlineBlock));
-    Ok(len + 12 + added.len())
-}
-
 // How many bytes stand before the first `\n`.
 fn line_length(body: &[u8]) -> usize
     ensures { result ≡ length (line body.now) }
@@ -95,22 +73,6 @@ fn put_title(room: &mut [u8], at: usize, title: &[u8])
     base::copy_from_slice(room, at + 12, title);
 }
 
-// A text without `\n` as Emphasis in InlineBlock.
-fn put_line(room: &mut [u8], len: usize, depth: usize, body: &[u8]) -> Result<usize, Refusal>
-    requires { Ready room.old len depth × (length body.now ≤ max_bytes) × (utf8 body.now ≡ true) }
-    ensures { Adds (text style.Emphasis body.now) len depth room.old room.new result }
-{
-    if MAX_OPEN <= depth {
-        return Err(Refusal::TooDeep(len));
-    }
-    if !buffer::has_room(room, len + 18, body.len()) {
-        return Err(Refusal::NoRoom);
-    }
-    put_title(room, len, body);
-    set_block(room, len + 12 + body.len(), end_kind(Block::InlineBlock));
-    Ok(len + 18 + body.len())
-}
-
 // Section3 with a text of `size` bytes and other records, and InlineBlock's end.
 fn put_section(room: &mut [u8], at: usize, size: usize, rest: &[u8])
     requires { at + 24 + length rest.now ≤ length room.old }
@@ -123,50 +85,95 @@ fn put_section(room: &mut [u8], at: usize, size: usize, rest: &[u8])
     set_block(room, at + 18 + rest.len(), end_kind(Block::InlineBlock));
 }
 
-// The first record of a document, text with a `\n` at `line` that ends at `next`: its first line as Emphasis, the rest in Section3.
-fn put_lines(
-    room: &mut [u8],
+// A lent room with a document so far, and how many of its blocks are open: InlineBlock may be opened. (Each method that writes tests
+// `has_room` itself: one method for the three tests would say in a contract of its own what that function says.)
+// Each method promises that the room's reference stays (`ensures room`): an invariant speaks of one value, and this of the values before and after.
+#[derive(Drop)]
+struct Target<'a> {
+    room: &'a mut [u8],
     len: usize,
     depth: usize,
-    added: &[u8],
-    line: usize,
-    next: usize,
-) -> Result<usize, Refusal>
-    requires { Ready room.old len depth × Lines added.now line next }
-    ensures { Adds (titled added.now line next) len depth room.old room.new result }
-{
-    if MAX_OPEN <= depth {
-        return Err(Refusal::TooDeep(len));
-    }
-    if 31 <= depth {
-        return Err(Refusal::TooDeep(len + 6 + line));
-    }
-    if let Some(deep) = too_deep(added, next, depth + 2) {
-        return Err(Refusal::TooDeep(len + 17 + deep));
-    }
-    if !buffer::has_room(room, len + 29, added.len()) {
-        return Err(Refusal::NoRoom);
-    }
-    put_title(room, len, &added[6..line]);
-    put_section(room, len + 6 + line, next - line - 1, &added[line + 1..]);
-    Ok(len + 29 + added.len())
+    ghost ready: { Ready room.now len depth },
+    ghost open: { depth < max_open },
 }
 
-// What `Doc::em_doc` makes of a document, in InlineBlock.
-fn put_em_doc(room: &mut [u8], len: usize, depth: usize, added: &[u8]) -> Result<usize, Refusal>
-    requires { Ready room.old len depth × (check added.now ≡ gives []) }
-    ensures { Adds (emphasised added.now) len depth room.old room.new result }
-{
-    let h = records::record_at(added, 0);
-    if !buffer::is_text(Style::Text, h.kind) {
-        return put_doc(room, len, depth, added);
+impl<'a> Target<'a> {
+    // A document in InlineBlock.
+    fn put_doc(&mut self, accepted: &Accepted) -> Result<usize, Refusal>
+        ensures room { self.new.room.ghost_name ≡ self.old.room.ghost_name }
+        ensures adds { Adds accepted.now self.old.len self.old.depth self.old.room.now self.new.room.now result }
+    {
+        let added = accepted.bytes();
+        let (len, depth) = (self.len, self.depth);
+        let room = &mut *self.room;
+        if let Some(deep) = too_deep(added, 0, depth + 1) {
+            return Err(Refusal::TooDeep(len + 6 + deep));
+        }
+        if !buffer::has_room(room, len + 12, added.len()) {
+            return Err(Refusal::NoRoom);
+        }
+        set_block(room, len, start_kind(Block::InlineBlock));
+        base::copy_from_slice(room, len + 6, added);
+        set_block(room, len + 6 + added.len(), end_kind(Block::InlineBlock));
+        Ok(len + 12 + added.len())
     }
-    let body = &added[6..h.next];
-    let n = line_length(body);
-    if n == body.len() {
-        return put_line(room, len, depth, body);
+
+    // A text without `\n` as Emphasis in InlineBlock. (The bound is of a part of the added document; a type for it would be made for this one call.)
+    fn put_line(&mut self, body: &[u8]) -> Result<usize, Refusal>
+        requires { (length body.now ≤ max_bytes) × (utf8 body.now ≡ true) }
+        ensures room { self.new.room.ghost_name ≡ self.old.room.ghost_name }
+        ensures adds { Adds (text style.Emphasis body.now) self.old.len self.old.depth self.old.room.now self.new.room.now result }
+    {
+        let (len, depth) = (self.len, self.depth);
+        let room = &mut *self.room;
+        if !buffer::has_room(room, len + 18, body.len()) {
+            return Err(Refusal::NoRoom);
+        }
+        put_title(room, len, body);
+        set_block(room, len + 12 + body.len(), end_kind(Block::InlineBlock));
+        Ok(len + 18 + body.len())
     }
-    put_lines(room, len, depth, added, 6 + n, h.next)
+
+    // The first record of a document, text with a `\n` at `line` that ends at `next`: its first line as Emphasis, the rest in Section3.
+    // (Places and not three slices: the refusals name places of the added document.)
+    fn put_lines(&mut self, added: &[u8], line: usize, next: usize) -> Result<usize, Refusal>
+        requires { Lines added.now line next }
+        ensures room { self.new.room.ghost_name ≡ self.old.room.ghost_name }
+        ensures adds { Adds (titled added.now line next) self.old.len self.old.depth self.old.room.now self.new.room.now result }
+    {
+        let (len, depth) = (self.len, self.depth);
+        let room = &mut *self.room;
+        if 31 <= depth {
+            return Err(Refusal::TooDeep(len + 6 + line));
+        }
+        if let Some(deep) = too_deep(added, next, depth + 2) {
+            return Err(Refusal::TooDeep(len + 17 + deep));
+        }
+        if !buffer::has_room(room, len + 29, added.len()) {
+            return Err(Refusal::NoRoom);
+        }
+        put_title(room, len, &added[6..line]);
+        put_section(room, len + 6 + line, next - line - 1, &added[line + 1..]);
+        Ok(len + 29 + added.len())
+    }
+
+    // What `Doc::em_doc` makes of a document, in InlineBlock.
+    fn put_em_doc(&mut self, accepted: &Accepted) -> Result<usize, Refusal>
+        ensures room { self.new.room.ghost_name ≡ self.old.room.ghost_name }
+        ensures adds { Adds (emphasised accepted.now) self.old.len self.old.depth self.old.room.now self.new.room.now result }
+    {
+        let added = accepted.bytes();
+        let h = records::record_at(added, 0);
+        if !buffer::is_text(Style::Text, h.kind) {
+            return self.put_doc(accepted);
+        }
+        let body = &added[6..h.next];
+        let n = line_length(body);
+        if n == body.len() {
+            return self.put_line(body);
+        }
+        self.put_lines(added, 6 + n, h.next)
+    }
 }
 
 // A document's records in InlineBlock, or what `Doc::em_doc` makes of them, where 1 to 7 accept the document so far and `depth` of its blocks are open:
@@ -181,19 +188,17 @@ pub fn add(
     ensures numbers { Of01 (answered result) }
     ensures does { Ready room.old len depth → Joins added.now (made_of form added.now) len depth room.old room.new result }
 {
-    if room.len() < len {
+    if room.len() < len || MAX_BYTES < len || MAX_OPEN < depth {
         return Err(Refusal::NoRoom);
     }
-    if MAX_BYTES < len {
-        return Err(Refusal::NoRoom);
+    let accepted = Accepted::of(added)?;
+    if MAX_OPEN <= depth {
+        return Err(Refusal::TooDeep(len));
     }
-    if MAX_OPEN < depth {
-        return Err(Refusal::NoRoom);
-    }
-    document::check(added)?;
+    let mut t = Target { room, len, depth };
     match form {
-        Form::Doc => put_doc(room, len, depth, added),
-        Form::EmDoc => put_em_doc(room, len, depth, added),
+        Form::Doc => t.put_doc(&accepted),
+        Form::EmDoc => t.put_em_doc(&accepted),
     }
 }
 
@@ -205,7 +210,7 @@ fn joined(room: &mut [u8], len: usize, added: &[u8], form: Form) -> Result<usize
     add(room, len, blocks.depth(), added, form)
 }
 
-// A document, as `Doc::doc` adds it.
+// A document, as `Doc::doc` adds it. (This one and the next are two functions, as bpaf and the C interface have them.)
 pub fn doc(room: &mut [u8], len: usize, added: &[u8]) -> Result<usize, Refusal>
     ensures { Follows (adds_doc room.old len added.now) room.old room.new result }
 {

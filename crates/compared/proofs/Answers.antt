@@ -1,5 +1,5 @@
 -- A renderer's answer beside the one that a rule gives. Assumes nothing.
-use Rattle.compared.proofs.Names.{ℕ, ◌≡◌, sym, List, length, is_refusal, is_rendered, is_answer}
+use Rattle.compared.proofs.Names.{ℕ, ◌≡◌, refl, sym, List, length, is_refusal, is_rendered, is_answer}
 use Rattle.refusal.specs.Answers.{answered}
 use Rattle.refusal.specs.declared.Refusal.{Refusal}
 use Rattle.std.specs.Prelude.{Result as Answer, Ok, Err}
@@ -12,11 +12,13 @@ refused-same : {k p m q : ℕ} → ◌≡◌ {A = Result ℕ} (refused k p) (ref
 refused-same e = (cc, cc)
 
 -- A renderer that answers by a rule, and leaves what the rule leaves, answers as wanted where the rule does.
-pub rendered-by : (r : Answer ℕ Refusal) (n number at : ℕ) (text room : List ℕ) (x : Result (List ℕ)) → answered r ≡ measured x → room ≡ filled n x
-    → is_rendered r room number at text ≡ is_answer n x number at text
+pub rendered-by : (r : Answer ℕ Refusal) (n : ℕ) (room : List ℕ) (x w : Result (List ℕ)) → answered r ≡ measured x → room ≡ filled n x
+    → is_rendered r room w ≡ is_answer n x w
 unfolding is_rendered is_refusal is_answer
-rendered-by (Ok m) n number at text room (gives x) e f = let g : m ≡ length x = gives_same e in rw (g, f)
-rendered-by (Ok m) n number at text room (refused k p) e f = absurd (refused-gives (sym e))
-rendered-by (Err a) n number at text room (gives x) e f = absurd (refused-gives e)
-rendered-by (Err a) n number at text room (refused k p) e f =
-    let g = refused-same e in rw (g.0, g.1, f)
+rendered-by (Ok m) n room (gives x) (gives text) e f = let g : m ≡ length x = gives_same e in rw (g, f) refl
+rendered-by (Ok m) n room (gives x) (refused k p) e f = refl
+rendered-by (Ok m) n room (refused k p) w e f = absurd (refused-gives (sym e))
+rendered-by (Err a) n room (gives x) w e f = absurd (refused-gives e)
+rendered-by (Err a) n room (refused k p) (gives text) e f = refl
+rendered-by (Err a) n room (refused k p) (refused m q) e f =
+    let g = refused-same e in rw (g.0, g.1, f) refl

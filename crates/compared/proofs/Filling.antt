@@ -1,7 +1,7 @@
 -- A room that holds a text and then something else, compared one byte at a time. Assumes nothing.
-use Rattle.compared.proofs.Names.{ℕ, zero, suc, ◌+◌, ◌≤◌, ◌<◌, ◌≡◌, refl, sym, ◌∙◌, false, ⊎_elim, List, [], leb, length, take, drop, get_or, set}
-use Rattle.compared.proofs.Names.{length-append, get_or-append, take-suc-set, get_or_at, add-one, arith, le_or_lt, same, filled_by, holds_by}
-use Rattle.compared.proofs.Comparing.{and_no, and_yes, same_next, same-other, same_end}
+use Rattle.compared.proofs.Names.{ℕ, zero, suc, ◌+◌, ◌≤◌, ◌<◌, ◌≡◌, refl, sym, ◌∙◌, ⊎_elim, List, [], length, take, drop, get_or, set}
+use Rattle.compared.proofs.Names.{eqb, ◌∷◌, drop-cons, drop_of_length-le, length-append, get_or-append, take-suc-set, get_or_at, add-one, arith, le_or_lt, same, filled_by}
+use Rattle.std.specs.List.{list_all, enumerate_from}
 
 module _ (other : ℕ → ℕ) where
   pub length-filled : (n : ℕ) (text : List ℕ) → length (filled_by other n text) ≡ n
@@ -26,24 +26,14 @@ module _ (other : ℕ → ℕ) where
       (λ (k : i < n). get_or-append (filled_by other n text) _ 0 i (omega arith) ∙ get_d_filled n text i k)
       (le_or_lt n i)
 
-  -- a room compared with it: what is left to compare says whether all is the same
-  module _ (room text : List ℕ) (i : ℕ) where
-    abbrev pub Left : Type 0
-    Left = same (drop i room) (drop i (filled_by other (length room) text)) ≡ same room (filled_by other (length room) text)
-
-    pub holds-next : i < length room → Left → get_or room i 0 ≡ get_or text i (other i)
-        → same (drop (i + 1) room) (drop (i + 1) (filled_by other (length room) text)) ≡ same room (filled_by other (length room) text)
-    holds-next h l e =
-        let n = length-filled (length room) text in
-        sym (same_next room (filled_by other (length room) text) i h (omega arith) (e ∙ sym (get_d_filled (length room) text i h))) ∙ l
-
-    pub holds-other : i < length room → Left → (get_or room i 0 ≡ get_or text i (other i) → ⊥) → false ≡ holds_by other room text
-    holds-other h l d =
-        let n = length-filled (length room) text in
-        let e = same-other room (filled_by other (length room) text) i h (omega arith) (λ f. d (f ∙ get_d_filled (length room) text i h)) in
-        sym (and_no (leb (length text) (length room)) (sym l ∙ e))
-
-    pub holds_all : length room ≤ i → Left → leb (length text) (length room) ≡ holds_by other room text
-    holds_all h l =
-        let n = length-filled (length room) text in
-        sym (and_yes (leb (length text) (length room)) (sym l ∙ same_end room (filled_by other (length room) text) i h (omega arith)))
+  -- each byte of a room, from the place k on, beside what belongs at its place
+  pub all-filled : (text ys : List ℕ) (k n : ℕ) → n ≡ k + length ys
+      → list_all (λ (p : ℕ × ℕ). eqb p.1 (get_or text p.0 (other p.0))) (enumerate_from k ys) ≡ same ys (drop k (filled_by other n text))
+  unfolding same
+  all-filled text [] k n h =
+      let l = length-filled n text in
+      rw (drop_of_length-le (filled_by other n text) {i = k} (omega arith)) refl
+  all-filled text (y ∷ ys) k n h =
+      let l = length-filled n text in
+      let later = all-filled text ys (k + 1) n (omega arith) in
+      rw (drop-cons (filled_by other n text) k 0 (omega arith), get_d_filled n text k (omega arith), sym (add-one k), later) refl

@@ -3,7 +3,7 @@
 #![tactic(auto)]
 
 ghost use Rattle.std.specs.Prelude.{◌≡◌, ℕ, get_or};
-ghost use Rattle.compared.specs.InnerCompared.{holds, holds_by, is_refusal, is_verdict, is_rendered};
+ghost use Rattle.compared.specs.InnerCompared.{holds, holds_by, is_refusal, is_verdict, asked, is_rendered};
 
 use refusal::Refusal;
 
@@ -21,12 +21,11 @@ pub fn holds_by<F: Fn(usize) -> u8>(room: &[u8], text: &[u8], other: F) -> bool
     requires gives { (i b : ℕ) → F.post other i b → b ≡ byte i }
     ensures { result ≡ holds_by byte room.now text.now }
 {
-    for (i, b) in room.iter().enumerate() {
-        if *b != byte_or(text, i, other(i)) {
-            return false;
-        }
-    }
     text.len() <= room.len()
+        && room
+            .iter()
+            .enumerate()
+            .all(|(i, b)| *b == byte_or(text, i, other(i)))
 }
 
 // Whether a room holds a text and then zeros.
@@ -37,39 +36,46 @@ fn holds(room: &[u8], text: &[u8]) -> bool
     holds_by(room, text, |_| 0)
 }
 
-// Whether a refusal has this number and place.
-#[tactic(auto, unfolding(crate::specs::InnerCompared::is_refusal))]
-pub fn is_refusal(a: Refusal, number: usize, place: usize) -> bool
-    ensures { result ≡ is_refusal a number place }
-{
-    // `as`, since Rust has no From between the two
-    a.number() as usize == number && a.place() == place
+// A wanted refusal. (Numbers and no `Refusal`: a list may hold a number that no refusal has.)
+#[derive(Clone, Copy)]
+pub struct Refused {
+    pub number: usize,
+    pub place: usize,
 }
 
-// Whether the check answers this number, 0 for accepted, and place.
-#[tactic(auto, unfolding(crate::specs::InnerCompared::is_verdict))]
-pub fn is_verdict(checked: Result<(), Refusal>, number: usize, place: usize) -> bool
-    ensures { result ≡ is_verdict checked number place }
+// Whether a refusal is the wanted one.
+#[tactic(auto, unfolding(crate::specs::InnerCompared::is_refusal))]
+pub fn is_refusal(a: Refusal, wanted: Refused) -> bool
+    ensures { result ≡ is_refusal a wanted }
 {
-    match checked {
-        Ok(()) => number == 0 && place == 0,
-        Err(a) => is_refusal(a, number, place),
+    // `as`, since Rust has no From between the two
+    a.number() as usize == wanted.number && a.place() == wanted.place
+}
+
+// Whether the check answers as wanted: a length, which is 0, or a refusal.
+#[tactic(auto, unfolding(crate::specs::InnerCompared::is_verdict))]
+pub fn is_verdict(checked: Result<(), Refusal>, wanted: Result<usize, Refused>) -> bool
+    ensures { result ≡ is_verdict checked wanted }
+{
+    match (checked, wanted) {
+        (Ok(()), Ok(n)) => n == 0,
+        (Err(a), Err(w)) => is_refusal(a, w),
+        _ => false,
     }
 }
 
-// Whether a renderer answers this number, 0 for accepted, and length or place, and its room then holds this text.
+// Whether a renderer answers as wanted, a text or a refusal, and its room then holds that text, or nothing.
 #[tactic(auto, unfolding(crate::specs::InnerCompared::is_rendered))]
 pub fn is_rendered(
     rendered: Result<usize, Refusal>,
     room: &[u8],
-    number: usize,
-    at: usize,
-    text: &[u8],
+    wanted: Result<&[u8], Refused>,
 ) -> bool
-    ensures { result ≡ is_rendered rendered room.now number at text.now }
+    ensures { result ≡ is_rendered rendered room.now (asked wanted.entry) }
 {
-    match rendered {
-        Ok(n) => number == 0 && n == at && text.len() == n && holds(room, text),
-        Err(a) => { is_refusal(a, number, at) && text.is_empty() && holds(room, text) }
+    match (rendered, wanted) {
+        (Ok(n), Ok(text)) => text.len() == n && holds(room, text),
+        (Err(a), Err(w)) => is_refusal(a, w) && holds(room, b""),
+        _ => false,
     }
 }

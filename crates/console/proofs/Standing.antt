@@ -27,20 +27,20 @@ use Rattle.document.proofs.Walks.{DeepAt, deep-from, deep_less, deep-text, deep-
 use Rattle.document.proofs.Walks.{fits_here, open_known, open_whole}
 use Rattle.splitter.specs.Split.{split}
 use Rattle.renderer.specs.Walk.{page, body}
-use Rattle.room.specs.Room.{seen}
-use Rattle.renderer.specs.Rendered.{standing, Inside}
-use Rattle.renderer.proofs.Shown.{shown_in, shown-out, shown_bind, shown_then}
-use Rattle.renderer.proofs.Leads.{Leads, leads-start, leads-on, leads-out, leads-refused, leads-shown, records, turned, walk_record, walk_end}
+use Rattle.std.specs.Borrow.{GName}
+use Rattle.room.specs.Lent.{Lent, lent_empty}
+use Rattle.renderer.proofs.Leads.{Leads, leads-start, leads-on, leads-out, leads-refused, records, turned, walk_record, walk_end}
 use Rattle.console_rules.specs.Console.{State, initial, blank_lay, gap_ahead, started, ended, measure_of, body_chunk, turn, finish, text_by}
 use Rattle.console_rules.specs.declared.Settings.{Settings}
-use Rattle.console_rules.specs.declared.Lay.{Lay}
-use Rattle.console_chunks.specs.InnerShown.{state_at, state_after, Fits64, Near, Nearby}
+use Rattle.console_chunks.specs.InnerShown.{Sheet, text_in, page_of, ruled, after, Fits64}
+use Rattle.console_chunks.proofs.Pages.{agree, idle}
 use Rattle.console_blocks.specs.InnerDepth.{Shallow, Startable, Moved}
-use Rattle.console_chunks.specs.declared.Mark.{Mark}
+use Rattle.console_chunks.specs.declared.Page.{Page}
 use Rattle.console_blocks.proofs.Depths.{top_shallow, shallow_on, pop_shallow}
 use Rattle.console_blocks.proofs.Blocks.{gap_asked}
-use Rattle.console.specs.Answers.{text_after, Stands}
+use Rattle.console.specs.Answers.{Stands}
 use Rattle.console.specs.InnerWritten.{Written}
+use Rattle.console.proofs.Writing.{err}
 
 part-short : (s : List ℕ) (a e : ℕ) → length (part s a e) ≤ e - a
 part-short s a e = omega (arith, length-take (e - a) (drop a s))
@@ -62,31 +62,33 @@ module _ (document : List ℕ) (set : Settings) (tab limit : ℕ) where
       ap (λ (x : Result State). x >>= ending) (walk_record (turn (measure_of set) set limit tab) document at h r l s)
       ∙ sym (bind_assoc _ (records (turn (measure_of set) set limit tab) document h.next) ending)
 
-  -- Before a record: there are no more margins than open blocks, and the numbers are small.
-  pub record Standing (room margins : List ℕ) (m : Mark) (at : ℕ) : Type 0 where
-    pub size : length room ≡ limit
-    pub leads : Leads whole (rest at) (state_at room margins m)
+  -- Before a record: the room is the one that was lent, there are no more margins than open blocks, and the numbers are small.
+  pub record Standing (name : GName) (p : Page) (margins : List ℕ) (at : ℕ) : Type 0 where
+    pub lent : (text_in p).name ≡ name
+    pub size : (text_in p).size ≡ limit
+    pub leads : Leads whole (rest at) (page_of p margins).state
     pub deep : DeepAt [] document at (length margins)
     pub near : at ≤ length document
-    pub column : m.lay.column.0 ≤ 2_033_000 * at
-    pub skip : m.lay.skip ≤ at
+    pub column : p.lay.column.0 ≤ 2_033_000 * at
+    pub skip : p.lay.skip ≤ at
     pub shallow : Shallow (30 * at) margins
 
-  module _ (room margins : List ℕ) (m : Mark) (at : ℕ) (w : Standing room margins m at) where
+  module _ {name : GName} (p : Page) (margins : List ℕ) (at : ℕ) (w : Standing name p margins at) where
     -- a text that is longer than the room
-    pub stand_over : length room < m.len.0 → whole ≡ refused 13 0
-    stand_over h = leads-out whole (rest at) (state_at room margins m) w.leads 13 0 (shown-out room m.len.0 margins m.lay h)
+    pub stand_over : (text_in p).shown ≡ refused 13 0 → whole ≡ refused 13 0
+    unfolding ◌>>=◌
+    stand_over e = leads-out whole (rest at) (page_of p margins).state w.leads 13 0 (rw e refl)
 
     -- nothing is left but the end
-    pub stand_done : length document ≤ at → Leads whole ending (state_at room margins m)
+    pub stand_done : length document ≤ at → Leads whole ending (page_of p margins).state
     unfolding ◌>>=◌
     stand_done l =
-        leads-on whole (rest at) (state_at room margins m) w.leads gives ending (state_at room margins m)
+        leads-on whole (rest at) (page_of p margins).state w.leads gives ending (page_of p margins).state
         (λ s. ap (λ (x : Result State). x >>= ending) (walk_end (turn (measure_of set) set limit tab) document at l s))
-        (sym (bind_end (state_at room margins m)))
+        (sym (bind_end (page_of p margins).state))
 
     -- the column is far below what a number holds
-    pub stand_column : length document ≤ 32_768 → Fits64 (m.lay.column.0 + 1)
+    pub stand_column : length document ≤ 32_768 → Fits64 (p.lay.column.0 + 1)
     stand_column few = omega (arith, w.column, w.near)
 
     -- the record that was read without a look at the document's end: it lies whole there
@@ -95,7 +97,7 @@ module _ (document : List ℕ) (set : Settings) (tab limit : ℕ) where
 
     module _ (h : Head) (r : Read document at h) (l : at < length document) where
       -- what the start of a block asks for
-      pub stand_startable : (b : Block) → h.kind ≡ kind.Start b → length document ≤ 32_768 → tab ≤ 28 → Startable margins m.lay tab
+      pub stand_startable : (b : Block) → h.kind ≡ kind.Start b → length document ≤ 32_768 → tab ≤ 28 → Startable margins p.lay tab
       stand_startable b e few low = record {
         slot = (deep-start w.deep r l e).0;
         column = omega (arith, w.column, w.near);
@@ -112,19 +114,31 @@ module _ (document : List ℕ) (set : Settings) (tab limit : ℕ) where
       pub stand_known : h.kind ≡ kind.Unknown → ⊥
       stand_known e = open_known w.deep.here r l e
 
+      -- what a rule for the record leaves
+      module _ (q : Page) (margins' : List ℕ) (rule : ℕ → State → Result State) (e : page_of q margins' ≡ ruled rule (page_of p margins)) where
+        lent_on : (text_in q).name ≡ name
+        lent_on = ap (λ (s : Sheet). s.name) e ∙ w.lent
+
+        size_on : (text_in q).size ≡ limit
+        size_on = ap (λ (s : Sheet). s.size) e ∙ w.size
+
+        leads_on : ((s : State) → rule limit s ≡ turned (turn (measure_of set) set limit tab) document at h s)
+            → Leads whole (rest h.next) (page_of q margins').state
+        leads_on f =
+            leads-on whole (rest at) (page_of p margins).state w.leads (turned (turn (measure_of set) set limit tab) document at h) (rest h.next)
+            (page_of q margins').state (rest_record at h r l)
+            (ap (λ (s : Sheet). s.state) e ∙ ap (λ (n : ℕ). (page_of p margins).state >>= rule n) w.size ∙ bind_same (page_of p margins).state _ _ f)
+
       -- the start and the end of a block
-      pub stand_started : (b : Block) (g : Bool) → (index b ≡ 3 → g ≡ gap_ahead (tokens_from document h.next)) → (room' margins' : List ℕ) (m' : Mark)
-          → h.kind ≡ kind.Start b → length room' ≡ length room
-          → state_at room' margins' m' ≡ (state_at room margins m >>= started (length room) tab b g) → length margins' ≤ length margins + 1
-          → Moved m.lay m'.lay → ((n : ℕ) → Shallow n margins → Shallow (n + (tab + 4)) margins') → tab ≤ 28
-          → Standing room' margins' m' h.next
+      pub stand_started : (b : Block) (g : Bool) → (index b ≡ 3 → g ≡ gap_ahead (tokens_from document h.next)) → (q : Page) (margins' : List ℕ)
+          → h.kind ≡ kind.Start b → page_of q margins' ≡ ruled (λ n. started n tab b g) (page_of p margins) → length margins' ≤ length margins + 1
+          → Moved p.lay q.lay → ((n : ℕ) → Shallow n margins → Shallow (n + (tab + 4)) margins') → tab ≤ 28
+          → Standing name q margins' h.next
       unfolding turn
-      stand_started b g asked room' margins' m' e f q c d deeper low = record {
-        size = f ∙ w.size;
-        leads = leads-on whole (rest at) (state_at room margins m) w.leads (turned (turn (measure_of set) set limit tab) document at h) (rest h.next)
-            (state_at room' margins' m') (rest_record at h r l)
-            (rw e (q ∙ bind_same (state_at room margins m) _ _ (λ s. gap_asked (length room) tab b _ _ s asked)
-            ∙ ap (λ (n : ℕ). state_at room margins m >>= started n tab b (gap_ahead (tokens_from document h.next))) w.size));
+      stand_started b g asked q margins' e f c d deeper low = record {
+        lent = lent_on q margins' (λ n. started n tab b g) f;
+        size = size_on q margins' (λ n. started n tab b g) f;
+        leads = leads_on q margins' (λ n. started n tab b g) f (λ s. rw e (gap_asked limit tab b _ _ s asked));
         deep = deep_less (length margins') c (deep-start w.deep r l e).1;
         near = r.high;
         column = omega (arith, d.column, w.column, next-far);
@@ -132,15 +146,14 @@ module _ (document : List ℕ) (set : Settings) (tab limit : ℕ) where
         shallow = shallow_on _ margins' (deeper (30 * at) w.shallow) _ (omega (arith, next-far));
       }
 
-      pub stand_ended : (b : Block) (room' margins' : List ℕ) (m' : Mark) → h.kind ≡ kind.End b → length room' ≡ length room
-          → state_at room' margins' m' ≡ (state_at room margins m >>= ended (length room) b) → margins' ≡ popped margins → Moved m.lay m'.lay
-          → Standing room' margins' m' h.next
+      pub stand_ended : (b : Block) (q : Page) (margins' : List ℕ) → h.kind ≡ kind.End b
+          → page_of q margins' ≡ ruled (λ n. ended n b) (page_of p margins) → margins' ≡ popped margins → Moved p.lay q.lay
+          → Standing name q margins' h.next
       unfolding turn
-      stand_ended b room' margins' m' e f q c d = record {
-        size = f ∙ w.size;
-        leads = leads-on whole (rest at) (state_at room margins m) w.leads (turned (turn (measure_of set) set limit tab) document at h) (rest h.next)
-            (state_at room' margins' m') (rest_record at h r l)
-            (rw e (q ∙ ap (λ (n : ℕ). state_at room margins m >>= ended n b) w.size));
+      stand_ended b q margins' e f c d = record {
+        lent = lent_on q margins' (λ n. ended n b) f;
+        size = size_on q margins' (λ n. ended n b) f;
+        leads = leads_on q margins' (λ n. ended n b) f (λ s. rw e refl);
         deep = deep_less (length margins') (omega (arith, ap length c, length-popped margins)) (deep-end w.deep r l e);
         near = r.high;
         column = omega (arith, d.column, w.column, next-far);
@@ -151,78 +164,90 @@ module _ (document : List ℕ) (set : Settings) (tab limit : ℕ) where
       -- text
       module _ (st : Style) (e : h.kind ≡ kind.Text st) where
         abbrev Body : List ℕ
-        Body = part document h.start h.stop
+        Body = part document h.start h.next
 
         -- that is skipped
-        pub stand_hidden : 0 < m.lay.skip → Standing room margins m h.next
-        unfolding turn ◌>>=◌
-        stand_hidden k = record {
-          size = w.size;
-          leads = leads-shown room m.len.0 margins m.lay whole (rest at) (rest h.next)
-              (λ x. rest_record at h r l (page margins m.lay x)
-              ∙ rw e (ap (λ (z : Result State). z >>= rest h.next) (if_true _ _ (lt-ltb 0 m.lay.skip k)))) w.leads;
-          deep = deep-text w.deep r l e;
-          near = r.high;
-          column = omega (arith, w.column, next-far);
-          skip = omega (arith, w.skip, next-far);
-          shallow = shallow_on _ margins w.shallow _ (omega (arith, next-far));
-        }
+        pub stand_hidden : 0 < p.lay.skip → Standing name p margins h.next
+        unfolding turn
+        stand_hidden k =
+            record {
+              lent = w.lent;
+              size = w.size;
+              leads = leads-on whole (rest at) (page_of p margins).state w.leads (turned (turn (measure_of set) set limit tab) document at h) (rest h.next)
+                  (page_of p margins).state (rest_record at h r l)
+                  (ap (λ (s : Sheet). s.state)
+                  (idle (text_in p) margins p.lay (turned (turn (measure_of set) set limit tab) document at h)
+                  (λ o g. rw e (if_true _ _ (lt-ltb 0 p.lay.skip k)))));
+              deep = deep-text w.deep r l e;
+              near = r.high;
+              column = omega (arith, w.column, next-far);
+              skip = omega (arith, w.skip, next-far);
+              shallow = shallow_on _ margins w.shallow _ (omega (arith, next-far));
+            }
 
         -- what the walk of its body asks for
         pub margin_low : length document ≤ 32_768 → top margins ≤ 1_000_000
         margin_low few = omega (arith, top_shallow (30 * at) margins w.shallow, w.near)
 
-        pub column_low : length document ≤ 32_768 → m.lay.column.0 ≤ 2 ^ 49
+        pub column_low : length document ≤ 32_768 → p.lay.column.0 ≤ 2 ^ 49
         column_low few = omega (arith, w.column, w.near)
 
         pub body_few : length document ≤ 32_768 → length Body ≤ 32_768
-        body_few few = omega (arith, part-short document h.start h.stop, r.high, r.ends)
+        body_few few = omega (arith, part-short document h.start h.next, r.high)
 
         pub start_few : length document ≤ 32_768 → h.start ≤ 32_768
-        start_few few = omega (arith, r.order, r.high, r.ends)
+        start_few few = omega (arith, r.order, r.high)
 
         -- that is written
-        module _ (k : m.lay.skip ≤ 0) (margin : ℕ) (g : margin ≡ top margins) (room' : List ℕ) (a : Answer Mark Refusal)
-            (v : Written set Body margin h.start room m room' a) where
-          text_turned : state_after room' margins a ≡ (state_at room margins m >>= turned (turn (measure_of set) set limit tab) document at h)
+        module _ (k : p.lay.skip ≤ 0) (margin : ℕ) (g : margin ≡ top margins) (q : Page) (a : Answer (Unit {0}) Refusal)
+            (v : Written set Body margin h.start p q a) where
+          abbrev walked : ℕ → State → Result State
+          walked n = body set.full (body_chunk (measure_of set) set n margin h.start) (split Body)
+
+          text_turned : after a (page_of q margins)
+              ≡ record (page_of p margins) { state = (page_of p margins).state >>= turned (turn (measure_of set) set limit tab) document at h }
           unfolding turn
           text_turned =
               v.by_index margins
-              ∙ ap (λ (n : ℕ). state_at room margins m >>= body set.full (body_chunk (measure_of set) set n margin h.start) (split Body)) w.size
-              ∙ shown_then room m.len.0 margins m.lay _ _ (λ x. rw (e, g) (sym (if_false _ _ (le-ltb 0 m.lay.skip k))))
+              ∙ ap (λ (n : ℕ). let t : Sheet = record (page_of p margins) { state = (page_of p margins).state >>= walked n } in t) w.size
+              ∙ agree (text_in p) margins p.lay (walked limit) (turned (turn (measure_of set) set limit tab) document at h)
+              (λ o f. rw (e, g) (sym (if_false _ _ (le-ltb 0 p.lay.skip k))))
 
-          pub stand_written : (m' : Mark) → a ≡ Ok m' → length room' ≡ length room → Standing room' margins m' h.next
-          stand_written m' q f =
-              let near = rw q at v.near in
-              let far = part-short document h.start h.stop in
+          pub stand_written : (u : Unit {0}) → a ≡ Ok u → Standing name q margins h.next
+          stand_written u z =
+              let far = part-short document h.start h.next in
+              let t = rw z at text_turned in
               record {
-                size = f ∙ w.size;
-                leads = leads-on whole (rest at) (state_at room margins m) w.leads (turned (turn (measure_of set) set limit tab) document at h) (rest h.next)
-                    (state_at room' margins m') (rest_record at h r l) (ap (state_after room' margins) (sym q) ∙ text_turned);
+                lent = ap (λ (s : Sheet). s.name) t ∙ w.lent;
+                size = ap (λ (s : Sheet). s.size) t ∙ w.size;
+                leads = leads-on whole (rest at) (page_of p margins).state w.leads (turned (turn (measure_of set) set limit tab) document at h) (rest h.next)
+                    (page_of q margins).state (rest_record at h r l) (ap (λ (s : Sheet). s.state) t);
                 deep = deep-text w.deep r l e;
                 near = r.high;
-                column = omega (arith, near.0, w.column, far, r.order, r.ends, open_whole w.deep.here r l);
-                skip = omega (arith, near.1, k, next-far);
+                column = omega (arith, v.near.0, w.column, far, r.order, open_whole w.deep.here r l);
+                skip = omega (arith, v.near.1, k, next-far);
                 shallow = shallow_on _ margins w.shallow _ (omega (arith, next-far));
               }
 
           pub stand_refused : (d : Refusal) → a ≡ Err d → whole ≡ refused (refusal_number d) (refusal_place d)
-          stand_refused d q =
-              leads-refused whole (rest at) (state_at room margins m) w.leads (turned (turn (measure_of set) set limit tab) document at h) (rest h.next)
-              (refusal_number d) (refusal_place d) (rest_record at h r l) (sym text_turned ∙ ap (state_after room' margins) q)
+          stand_refused d z =
+              leads-refused whole (rest at) (page_of p margins).state w.leads (turned (turn (measure_of set) set limit tab) document at h) (rest h.next)
+              (refusal_number d) (refusal_place d) (rest_record at h r l) (sym (ap (λ (s : Sheet). s.state) (rw z at text_turned)))
 
 -- nothing has been written
-pub stand_first : (document : List ℕ) (set : Settings) (tab : ℕ) (room : List ℕ) (margins : List ℕ) (m : Mark) → check document ≡ gives [] → margins ≡ []
-    → m.len.0 ≡ 0 → m.lay ≡ blank_lay → Standing document set tab (length room) room margins m 0
-stand_first document set tab room margins m e f z y = rw f (record {
-  size = refl;
-  leads = leads-start (rest document set tab (length room) 0) (state_at room [] m) initial (rw (z, y) (shown_in room 0 [] blank_lay (omega arith)));
-  deep = deep-from 0 (accepted_at_0 document [] e) (omega arith);
+pub stand_first : (document : List ℕ) (set : Settings) (tab limit : ℕ) (loan : GName) (p : Page) (margins : List ℕ) → check document ≡ gives []
+    → margins ≡ [] → text_in p ≡ lent_empty loan limit → p.lay ≡ blank_lay → Standing document set tab limit (text_in p).name p margins 0
+unfolding ◌>>=◌
+stand_first document set tab limit loan p margins e f z y = record {
+  lent = refl;
+  size = ap (λ (v : Lent). v.size) z;
+  leads = leads-start (rest document set tab limit 0) (page_of p margins).state initial (rw (ap (λ (v : Lent). v.shown) z, f, y) refl);
+  deep = rw f (deep-from 0 (accepted_at_0 document [] e) (omega arith));
   near = omega arith;
   column = rw y (omega arith);
   skip = rw y (omega arith);
-  shallow = record { each = λ i. omega arith };
-})
+  shallow = rw f (record { each = λ i. omega arith });
+}
 
 module _ (document : List ℕ) (set : Settings) (tab limit : ℕ) where
   text-whole : whole document set tab limit ≡ text_by (measure_of set) set limit tab (tokens 0 0 document)
@@ -240,34 +265,25 @@ module _ (document : List ℕ) (set : Settings) (tab limit : ℕ) where
   stands-ended room r a h e = let p = err_from_is_err_and r h in rw (p.1, p.2) (stands-refused room a e)
 
   -- what is due at the end has been written
-  pub stands-done : (room room' margins : List ℕ) (m : Mark) (at : ℕ) (r : Answer ℕ Refusal)
-      → Standing document set tab limit room margins m at → length document ≤ at → Stands room' r (text_after room margins m)
-      → Stands room' r (text_by (measure_of set) set limit tab (tokens 0 0 document))
-  stands-done room room' margins m at r w l s = record {
-    same = s.same ∙ ap (λ (n : ℕ). state_at room margins m >>= ending document set tab n) w.size
-        ∙ stand_done document set tab limit room margins m at w l
-        ∙ text-whole;
-    fits = s.fits;
-  }
-
--- The last line end: what stands then, and the answer
-module _ (room room' kept : List ℕ) (m m' : Mark) (e : state_at room' kept m' ≡ (state_at room kept m >>= finish (length room))) where
-  finished : (state_at room' kept m' >>= λ t. gives t.out) ≡ text_after room kept m
-  finished = ap (λ (x : Result State). x >>= λ t. gives t.out) e ∙ sym (bind_assoc (state_at room kept m) (finish (length room)) (λ t. gives t.out))
-
-  pub finish-text : (r : Answer ℕ Refusal) → standing room' r ≡ seen room' m'.len.0 → Inside (length room') r → Stands room' r (text_after room kept m)
-  finish-text r h i = record {
-    same = h ∙ sym (shown_bind room' m'.len.0 kept m'.lay (λ t. gives t.out) ∙ bind_end (seen room' m'.len.0)) ∙ finished;
-    fits = i;
-  }
+  pub stands-done : {name : GName} (p q : Page) (margins : List ℕ) (at : ℕ) → Standing document set tab limit name p margins at
+      → length document ≤ at → page_of q margins ≡ ruled finish (page_of p margins)
+      → (text_in q).shown ≡ text_by (measure_of set) set limit tab (tokens 0 0 document)
+  unfolding ◌>>=◌
+  stands-done p q margins at w l e =
+      sym (texts (text_in q).shown)
+      ∙ ap (λ (x : Result State). x >>= λ t. gives t.out) (ap (λ (s : Sheet). s.state) e ∙ ap (λ (k : ℕ). (page_of p margins).state >>= finish k) w.size)
+      ∙ sym (bind_assoc (page_of p margins).state (finish limit) (λ t. gives t.out))
+      ∙ stand_done document set tab limit p margins at w l
+      ∙ text-whole
+    where
+      texts : (s : Result (List ℕ)) → (s >>= (λ o. gives (page margins q.lay o)) >>= λ t. gives t.out) ≡ s
+      texts (gives o) = refl
+      texts (refused k m) = refl
 
 -- what a placed chunk leaves, by its answer
-module _ (room kept : List ℕ) (r : Answer Mark Refusal) (x : Result State) where
-  pub placed-refused : (a : Refusal) → r ≡ Err a → state_after room kept r ≡ x → refused (refusal_number a) (refusal_place a) ≡ x
+module _ (p : Page) (kept : List ℕ) (r : Answer (Unit {0}) Refusal) (x : Sheet) where
+  pub placed-refused : (a : Refusal) → r ≡ Err a → after r (page_of p kept) ≡ x → after (err a) (page_of p kept) ≡ x
   placed-refused a e f = rw e at f
 
-  pub placed_at : (m : Mark) → r ≡ Ok m → state_after room kept r ≡ x → state_at room kept m ≡ x
-  placed_at m e f = rw e at f
-
-pub nearby_at : (n : ℕ) (old : Lay) (r : Answer Mark Refusal) (m : Mark) → r ≡ Ok m → Nearby n old r → Near n old m.lay
-nearby_at n old r m e f = rw e at f
+  pub placed_at : (u : Unit {0}) → r ≡ Ok u → after r (page_of p kept) ≡ x → page_of p kept ≡ x
+  placed_at u e f = rw e at f

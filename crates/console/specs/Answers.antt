@@ -1,20 +1,14 @@
 -- What the walk of a document answers, seen as the rules' text; and demand 3 of what a room holds.
 use Rattle.std.specs.Prelude.{ℕ, ◌≡◌, Bool, true, List, length, take, Result as Answer}
-use Rattle.base.specs.Result.{Result, gives, ◌>>=◌}
+use Rattle.base.specs.Result.{Result, gives}
 use Rattle.utf8.specs.Utf8.{utf8}
 use Rattle.white.specs.White.{printing}
 use Rattle.records.specs.Records.{printing_order}
 use Rattle.renderer.specs.Rendered.{standing, Inside}
 use Rattle.refusal.specs.declared.Refusal.{Refusal}
-use Rattle.console_rules.specs.Console.{finish, console}
+use Rattle.console_rules.specs.Console.{console}
 use Rattle.console_rules.specs.declared.Settings.{Settings}
 use Rattle.console_rules.specs.declared.Measure.TheVariants as measure
-use Rattle.console_chunks.specs.InnerShown.{state_at}
-use Rattle.console_chunks.specs.declared.Mark.{Mark}
-
--- what is left to do after the last record with what stands in a room
-abbrev pub text_after : List ℕ → List ℕ → Mark → Result (List ℕ)
-text_after room kept m = state_at room kept m >>= λ s. finish (length room) s >>= λ t. gives t.out
 
 -- `Doc::monochrome` 'only fixes the width at 100'; it counts bytes
 abbrev pub wide : Bool → Settings

@@ -5,27 +5,31 @@ use mathlib.Core.List.{List}
 use mathlib.Core.Logic.{◌⊎◌, ⊎_elim}
 use Prim.Native.Nat.{ℕ, ◌+◌, ◌≤◌}
 use native.Mathlib.Omega.{arith}
-use Rattle.base.specs.Result.{Result, gives, ◌>>=◌}
+use Rattle.base.specs.Result.{Result, gives, refused, ◌>>=◌}
 use Rattle.base.proofs.Choice.{pick}
-use Rattle.base.proofs.Results.{bind_same}
 use Rattle.records.specs.Records.{index}
 use Rattle.records.specs.declared.Block.{Block}
 use Rattle.records.specs.declared.Block.TheVariants as block
-use Rattle.renderer.specs.Walk.{page, with_lay, shown}
-use Rattle.renderer.proofs.Shown.{shown_changed}
+use Rattle.renderer.specs.Walk.{page, with_lay}
 use Rattle.skip.specs.Counter.{skip_start}
 use Rattle.skip.specs.Answers as counter
 use Rattle.skip.proofs.Counter.{new_fits, skip-start_most}
 use Rattle.console_rules.specs.Console.{State, with_newline, indent, outdent, started, ended}
 use Rattle.console_rules.specs.declared.Lay.{Lay}
-use Rattle.console_chunks.specs.declared.Mark.{Mark}
-use Rattle.console_chunks.specs.InnerShown.{state_at, Fits64}
+use Rattle.console_chunks.specs.InnerShown.{sheet, text_in, page_of, Fits64}
+use Rattle.console_chunks.specs.declared.Page.{Page}
+use Rattle.console_chunks.proofs.Pages.{stated}
 
--- a rule that changes flags and margins, on what stands in a room
-module _ (room kept kept' : List ℕ) (m : Mark) (lay' : Lay) (rule : State → Result State) where
-  pub changed : (f : State → State) → ((s : State) → rule s ≡ gives (f s)) → ((x : List ℕ) → f (page kept m.lay x) ≡ page kept' lay' x)
-      → shown room m.len.0 kept' lay' ≡ (state_at room kept m >>= rule)
-  changed f e h = shown_changed f kept kept' m.lay lay' h room m.len.0 ∙ bind_same (state_at room kept m) _ rule (λ s. sym (e s))
+-- a rule that changes flags and margins, on what stands on a page
+module _ (p : Page) {kept kept' : List ℕ} {lay' : Lay} {rule : State → Result State} where
+  pub changed : {f : State → State} → ((s : State) → rule s ≡ gives (f s)) → ((o : List ℕ) → f (page kept p.lay o) ≡ page kept' lay' o)
+      → sheet (text_in p) kept' lay' ≡ stated (page_of p kept) ((page_of p kept).state >>= rule)
+  unfolding ◌>>=◌
+  changed e h = ap (stated (page_of p kept)) (same (text_in p).shown)
+    where
+      same : (s : Result (List ℕ)) → (s >>= λ o. gives (page kept' lay' o)) ≡ (s >>= (λ o. gives (page kept p.lay o)) >>= rule)
+      same (gives o) = ap gives (sym (h o)) ∙ sym (e (page kept p.lay o))
+      same (refused n k) = refl
 
 -- only a Section4 asks whether a gap lies ahead
 module _ (limit tab : ℕ) where

@@ -3,22 +3,23 @@
 #![tactic(auto)]
 
 ghost use Rattle.std.specs.Prelude.{◌≡◌, List, [], ℕ, ◌+◌, ◌≤◌, ◌<◌, ◌^◌, length};
-ghost use Rattle.base.specs.Result.{◌>>=◌ as bind};
 ghost use Rattle.base.specs.Stack.{top, pushed, popped};
 ghost use Rattle.document.specs.Document.{max_open};
 ghost use Rattle.console_rules.specs.Console.{tick, started as started_by, ended as ended_by};
-ghost use Rattle.console_chunks.specs.InnerShown.{state_at, Fits64};
+ghost use Rattle.console_chunks.specs.InnerShown.{page_of, ruled, Fits64};
 ghost use Rattle.console_blocks.specs.InnerDepth.{Shallow, Startable, Moved};
 
-use console_chunks::Mark;
-use console_rules::{Bytes, Columns};
+use console_chunks::Page;
+use console_rules::Columns;
 use document::MAX_OPEN;
 use records::Block;
 use std::marker::Model;
 
-// The margins that the open blocks pushed, the innermost last.
+// The margins that the open blocks pushed, the innermost last. (Not the kit's `arrayvec::ArrayVec`: tried, as at `document::OpenBlocks`; with both, a page of
+// options takes 0.4 % more instructions. An own stack for both would be the array and the number alone: what is pushed and asked of the top differs.)
 #[derive(Drop)]
 pub struct Margins {
+    // fixed memory, of which the first `count` are in use: no heap, a rule of the project; numbers, as the rules' margins are
     columns: [usize; MAX_OPEN],
     count: usize,
 }
@@ -47,10 +48,7 @@ impl Margins {
     pub fn top(&self) -> Columns
         ensures { result.0 ≡ top self.now }
     {
-        if self.count == 0 {
-            return Columns(0);
-        }
-        Columns(self.columns[self.count - 1])
+        Columns(self.columns[..self.count].last().copied().unwrap_or(0))
     }
 
     // A margin so far inside the innermost one, where there is a slot for it. The rules' numbers have no bound: the promise is theirs where the
@@ -76,91 +74,80 @@ impl Margins {
 }
 
 // A backtick, at once.
-fn put_tick(room: &mut [u8], m: Mark) -> Mark
-    ensures result_after { Fits64 (m.lay.column.0 + 1) → (kept : List ℕ) → state_at room.new kept result ≡ bind (state_at room.old kept m) (tick (length room.old)) }
-    ensures moved { Moved m.lay result.lay }
+// `Moved` stands here and at the next two functions: it relates the lay before and after a call, which no invariant of one value says.
+fn put_tick(page: &mut Page)
+    ensures result_after { Fits64 (page.old.lay.column.0 + 1) → (kept : List ℕ) → page_of page.new kept ≡ ruled tick (page_of page.old kept) }
+    ensures moved { Moved page.old.lay page.new.lay }
 {
-    let len = Bytes(room::put(room, m.len.0, b'`'));
-    let lay = m.lay;
-    let lay = console_chunks::at_column(lay, console_chunks::plus(lay.column, Columns(1)));
-    Mark { len, lay }
+    page.len = room::put(page.room, page.len, b'`');
+    page.lay.column = console_chunks::plus(page.lay.column, Columns(1));
 }
 
 // The start of a block, where `gap` says whether an adjacent gap lies ahead. The rules' numbers have no bound: the promise is theirs where there is a
 // slot for one margin more and the code can hold the numbers; at every record of an accepted document it is so.
-pub fn started(
-    room: &mut [u8],
-    margins: &mut Margins,
-    m: Mark,
-    b: Block,
-    tab: Columns,
-    gap: bool,
-) -> Mark
-    ensures mark_after { Startable margins.old m.lay tab.0 → state_at room.new margins.new result ≡ bind (state_at room.old margins.old m) (started_by (length room.old) tab.0 b gap) }
+// The margins go beside the page: chunks are written at a margin that is handed over, whatever margins are kept.
+pub fn started(page: &mut Page, margins: &mut Margins, b: Block, tab: Columns, gap: bool)
+    ensures page_after { Startable margins.old page.old.lay tab.0 → page_of page.new margins.new ≡ ruled (λ n. started_by n tab.0 b gap) (page_of page.old margins.old) }
     ensures counts { length margins.new ≤ length margins.old + 1 }
-    ensures moved { Moved m.lay result.lay }
+    ensures moved { Moved page.old.lay page.new.lay }
     ensures deeper { (n : ℕ) → Shallow n margins.old → Shallow (n + (tab.0 + 4)) margins.new }
 {
-    let mut m = m;
     match b {
         Block::Header | Block::Section2 => {
-            m.lay.newline = true;
+            page.lay.newline = true;
             margins.push(Columns(0));
         }
         Block::Section3 => {
-            m.lay.newline = true;
+            page.lay.newline = true;
             margins.push(Columns(2));
         }
         Block::Section4 => {
-            m.lay.newline = true;
+            page.lay.newline = true;
             if gap {
-                m.lay.gap = true;
+                page.lay.gap = true;
                 margins.push(Columns(4));
             } else {
                 margins.push(Columns(2));
             }
         }
         Block::ItemTerm => {
-            m.lay.newline = true;
+            page.lay.newline = true;
             margins.push(Columns(4));
         }
         Block::ItemBody => {
-            m.lay.gutter = true;
+            page.lay.gutter = true;
             margins.push(console_chunks::plus(tab, Columns(2)));
         }
         Block::Block => margins.push(Columns(0)),
-        Block::InlineBlock => m.lay.skip.push(),
-        Block::TermRef => return put_tick(room, m),
+        Block::InlineBlock => page.lay.skip.push(),
+        Block::TermRef => put_tick(page),
         Block::DefinitionList | Block::Meta | Block::Mono => {}
     }
-    m
 }
 
 // The end of a block. It asks of the column what the start asks.
-pub fn ended(room: &mut [u8], margins: &mut Margins, m: Mark, b: Block) -> Mark
-    ensures mark_after { Fits64 (m.lay.column.0 + 1) → state_at room.new margins.new result ≡ bind (state_at room.old margins.old m) (ended_by (length room.old) b) }
+pub fn ended(page: &mut Page, margins: &mut Margins, b: Block)
+    ensures page_after { Fits64 (page.old.lay.column.0 + 1) → page_of page.new margins.new ≡ ruled (λ n. ended_by n b) (page_of page.old margins.old) }
     ensures pops { margins.new ≡ popped margins.old }
-    ensures moved { Moved m.lay result.lay }
+    ensures moved { Moved page.old.lay page.new.lay }
 {
     margins.pop();
-    let mut m = m;
     match b {
         Block::Section4 => {
-            m.lay.passing = m.lay.gap;
-            m.lay.gap = false;
+            page.lay.passing = page.lay.gap;
+            page.lay.gap = false;
         }
-        Block::ItemBody => m.lay.gutter = false,
+        Block::ItemBody => page.lay.gutter = false,
         Block::Block => {
-            if m.lay.passing {
-                m.lay.gap = false;
-                m.lay.passing = false;
+            if page.lay.passing {
+                page.lay.gap = false;
+                page.lay.passing = false;
             } else {
-                m.lay.blank = true;
+                page.lay.blank = true;
             }
         }
-        Block::InlineBlock => m.lay.skip.pop(),
-        Block::TermRef => return put_tick(room, m),
+        Block::InlineBlock => page.lay.skip.pop(),
+        Block::TermRef => put_tick(page),
         _ => {}
     }
-    m
 }

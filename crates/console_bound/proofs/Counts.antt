@@ -1,7 +1,8 @@
 -- The bound as code counts it, record by record. Assumes nothing.
 use Rattle.console_bound.proofs.Names.{ℕ, zero, suc, ◌+◌, ◌*◌, ◌-◌, ◌≤◌, ◌≡◌, refl, sym, ap, ◌∙◌, Bool, true, false, ◌||◌, List, [], ◌∷◌, length, take, drop}
 use Rattle.console_bound.proofs.Names.{length-append, length-drop, arith, when◌then◌else◌, Result, gives, refused, measured, ◌>>=◌, pick, Token, tokens}
-use Rattle.console_bound.proofs.Names.{size, token_at, is_start, is_end, joined, Kind, check, console, ref, refs, bound_on, bound, room_bound}
+use Rattle.records.specs.declared.Kind.TheVariants as kind
+use Rattle.console_bound.proofs.Names.{eqb, index, is_of, size, token_at, joined, Kind, check, console, ref, refs, bound_on, bound, room_bound}
 use Rattle.std.specs.Int.{from_bool}
 use Rattle.base.proofs.Results.{bind_gives, gives_same, refused-gives}
 use lib.ListN.{length-take}
@@ -9,13 +10,20 @@ use Rattle.console_bound.specs.Answers.{Enough}
 use Rattle.console_bound.proofs.Room.{console_by_room, console_by-within, console_room}
 
 -- a TermRef's start or end is one, another record none
-pub from_bool-ref : (k : Kind) → from_bool (is_start 9 k || is_end 9 k) ≡ ref k
+one-ref : (k : Kind) → from_bool (is_of 9 k) ≡ ref k
 unfolding ref when◌then◌else◌
-from_bool-ref k = go (is_start 9 k || is_end 9 k)
+one-ref (kind.Text st) = refl
+one-ref (kind.Start b) = go (eqb (index b) 9)
+  where
+    go : (x : Bool) → from_bool x ≡ (when x || false then 1 else 0)
+    go true = refl
+    go false = refl
+one-ref (kind.End b) = go (eqb (index b) 9)
   where
     go : (x : Bool) → from_bool x ≡ (when x then 1 else 0)
     go true = refl
     go false = refl
+one-ref kind.Unknown = refl
 
 ref_small : (k : Kind) → ref k ≤ 1
 unfolding ref
@@ -51,9 +59,11 @@ counted_none s e =
 
 module _ {s : List ℕ} {left : List Token} {bytes ticks : ℕ} (c : Counted s left bytes ticks) where
   -- a record more
-  pub counted_on : {t : Token} {rest : List Token} (n : ℕ) → left ≡ t ∷ rest → n ≡ ref t.kind → Counted s rest (bytes + length t.body) (ticks + n)
+  pub counted_on : {t : Token} {rest : List Token} {n : ℕ} {x : Bool} → left ≡ t ∷ rest → n ≡ from_bool x → x ≡ is_of 9 t.kind
+      → Counted s rest (bytes + length t.body) (ticks + n)
   unfolding joined refs
-  counted_on {t} {rest} n e f =
+  counted_on {t} {rest} {n} e f g =
+      let o : n ≡ ref t.kind = f ∙ ap from_bool g ∙ one-ref t.kind in
       let m : length (joined left) ≡ length t.body + length (joined rest) =
       ap (λ (ts : List Token). length (joined ts)) e ∙ length-append t.body (joined rest) in
       let k : refs left ≡ ref t.kind + refs rest = ap refs e in

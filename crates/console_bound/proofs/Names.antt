@@ -9,14 +9,14 @@ unfoldable pub use Rattle.console_bound.specs.Bound.{bound, bound_on, ref, refs,
 unfoldable pub use Rattle.console_rules.specs.Console.{console}
 pub use Rattle.console_rules.specs.declared.Settings.{Settings}
 unfoldable pub use Rattle.document.specs.Document.{accept, bodiless, check, closed, closes, first, open_blocks, opens, reads, short}
-pub use Rattle.records.specs.Records.{Token, is_end, is_start, tokens_from}
+pub use Rattle.records.specs.Records.{Token, index, is_of}
 unfoldable pub use Rattle.records.specs.Records.{blocks, joined, kind_of, little, record_fits, size, styles, token_at, tokens}
 pub use Rattle.records.specs.declared.Kind.{Kind}
 unfoldable pub use Rattle.room.specs.Room.{extended}
 pub use Rattle.splitter.specs.Split.{Chunk, Placed, line_break, paragraph, raw}
 unfoldable pub use Rattle.splitter.specs.Split.{after_line_end, before, is_space, placed, split, step, ticked}
 unfoldable pub use Rattle.white.specs.White.{blank, trim, white, whites}
-pub use borrow.Author.Rules.{rules}
+pub use lib.Dec.{eqb}
 pub use lib.ListN.{drop, length, length-append, length-drop, length-replicate, replicate, take, take-append-drop}
 pub use mathlib.Core.Bool.{Bool, ◌||◌, false, true}
 pub use mathlib.Core.List.{List, [], ◌++◌, ◌∷◌}

@@ -1,82 +1,50 @@
--- Paragraphs, the pieces of a body, and the last line end. Assumes nothing.
-use Rattle.std.proofs.Common.{◌≡◌, ℕ, ◌+◌, ◌≤◌, true, false, ◌||◌, List, [], ◌∷◌, length, sym, refl, ap, ◌∙◌, arith}
-use mathlib.Core.Bool.{false≢true}
-use Rattle.base.specs.Result.{Result, gives, ◌>>=◌}
+-- Paragraphs, the other chunks, and the last line end. Assumes nothing.
+use Rattle.std.proofs.Common.{◌≡◌, ℕ, true, false, ◌||◌, List, [], ◌∷◌, sym, refl, ap, ◌∙◌}
+use Rattle.base.specs.Result.{gives}
 use Rattle.base.proofs.Choice.{if_true, if_false}
+use Rattle.room.specs.Lent.{Lent}
 use Rattle.renderer.specs.Walk.{with_lay, write}
 use Rattle.base.proofs.Results.{bind_end, bind_same}
-use Rattle.renderer.proofs.Shown.{shown_then, shown_changed}
 use Rattle.splitter.specs.Split.{Chunk, raw, paragraph, line_break}
-use Rattle.splitter.specs.Answers.{chunk_of, place_of, PieceWithin}
-use Rattle.splitter.specs.declared.Piece.{Piece}
-use Rattle.splitter.specs.declared.Piece.TheVariants.{Raw, Space, Paragraph, LineBreak}
-use Rattle.console_rules.specs.Console.{State, with_skip, line_end, raw_chunk, chunk, finish}
+use Rattle.console_rules.specs.Console.{with_skip, line_end, raw_chunk, chunk, finish}
 use Rattle.console_rules.specs.declared.Settings.{Settings}
-use Rattle.console_chunks.specs.declared.Mark.{Mark}
-use Rattle.console_chunks.specs.InnerShown.{state_at}
-use Rattle.console_chunks.specs.InnerPieces.{is_text, text_or, width_of}
-use Rattle.console_chunks.proofs.Pages.{bind_two}
+use Rattle.console_rules.specs.declared.Lay.{Lay}
+use Rattle.console_chunks.specs.InnerShown.{Sheet, sheet, ruled}
+use Rattle.console_chunks.proofs.Pages.{ruled_two, ruled_same, agree, idle}
 
 -- a paragraph, and what becomes of the skip counter
-module _ (measure : List ℕ → ℕ) (set : Settings) (limit margin at : ℕ) (x r : Result State) (ended : r ≡ (x >>= line_end limit)) where
-  pub paragraph_full : set.full ≡ true → r ≡ (x >>= chunk measure set limit margin at paragraph)
+module _ (measure : List ℕ → ℕ) (set : Settings) (margin at : ℕ) (p ended : Sheet) (e : ended ≡ ruled line_end p) where
+  pub paragraph_full : set.full ≡ true → ended ≡ ruled (λ n. chunk measure set n margin at paragraph) p
   unfolding chunk
-  paragraph_full e =
-      ended ∙ bind_same x (line_end limit) _ (λ s. sym (bind_same (line_end limit s) _ gives (λ t. ap gives (if_true _ _ e)) ∙ bind_end (line_end limit s)))
+  paragraph_full f =
+      e ∙ ruled_same p (line_end p.size) _
+      (λ s. sym (bind_same (line_end p.size s) _ gives (λ t. ap gives (if_true t _ f)) ∙ bind_end (line_end p.size s)))
 
-  pub paragraph-short : (r' : Result State) → set.full ≡ false → r' ≡ (r >>= λ t. gives (with_lay (with_skip 1) t))
-      → r' ≡ (x >>= chunk measure set limit margin at paragraph)
+  pub paragraph-short : (q : Sheet) → set.full ≡ false → q ≡ ruled (λ n t. gives (with_lay (with_skip 1) t)) ended
+      → q ≡ ruled (λ n. chunk measure set n margin at paragraph) p
   unfolding chunk
-  paragraph-short r' e f =
-      bind_two x r r' (line_end limit) (λ t. gives (with_lay (with_skip 1) t)) ended f
-      ∙ bind_same x _ _ (λ s. bind_same (line_end limit s) _ _ (λ t. ap gives (sym (if_false _ _ e))))
-
-pub skipped : (room kept : List ℕ) (m m' : Mark) → m'.len.0 ≡ m.len.0 → m'.lay ≡ with_skip 1 m.lay
-    → state_at room kept m' ≡ (state_at room kept m >>= λ t. gives (with_lay (with_skip 1) t))
-skipped room kept m m' e f = rw (e, f) (shown_changed (with_lay (with_skip 1)) kept kept m.lay (with_skip 1 m.lay) (λ x. refl) room m.len.0)
+  paragraph-short q f g =
+      ruled_two p ended q line_end (λ n t. gives (with_lay (with_skip 1) t)) e g
+      ∙ ruled_same p _ (chunk measure set p.size margin at paragraph)
+      (λ s. bind_same (line_end p.size s) _ _ (λ t. ap gives (sym (if_false t _ f))))
 
 -- the other chunks
-module _ (measure : List ℕ → ℕ) (set : Settings) (limit margin at : ℕ) (x r : Result State) (c : Chunk) where
-  pub chunk-raw : (y : List ℕ) (w : ℕ) → c ≡ raw y w → r ≡ (x >>= raw_chunk measure set limit margin at y w) → r ≡ (x >>= chunk measure set limit margin at c)
+module _ (measure : List ℕ → ℕ) (set : Settings) (margin at : ℕ) (p q : Sheet) (c : Chunk) where
+  pub chunk-raw : (y : List ℕ) (w : ℕ) → c ≡ raw y w → q ≡ ruled (λ n. raw_chunk measure set n margin at y w) p
+      → q ≡ ruled (λ n. chunk measure set n margin at c) p
   unfolding chunk
-  chunk-raw y w e f = f ∙ rw e (bind_same x _ _ (λ s. refl))
+  chunk-raw y w e f = f ∙ rw e refl
 
-  pub chunk-paragraph : c ≡ paragraph → r ≡ (x >>= chunk measure set limit margin at paragraph) → r ≡ (x >>= chunk measure set limit margin at c)
-  chunk-paragraph e f = rw e f
-
-  pub chunk_break : c ≡ line_break → r ≡ (x >>= line_end limit) → r ≡ (x >>= chunk measure set limit margin at c)
+  pub chunk_break : c ≡ line_break → q ≡ ruled line_end p → q ≡ ruled (λ n. chunk measure set n margin at c) p
   unfolding chunk
-  chunk_break e f = f ∙ rw e (bind_same x _ _ (λ s. refl))
-
--- a piece that is a text
-module _ (body : List ℕ) where
-  pub piece-raw : (p : Piece) → is_text p ≡ true → chunk_of body p ≡ raw (text_or body (0x20 ∷ []) p) (width_of p)
-  piece-raw (Raw from to width) e = refl
-  piece-raw (Space at) e = refl
-  piece-raw (Paragraph at) e = absurd (false≢true e)
-  piece-raw (LineBreak at) e = absurd (false≢true e)
-
-  -- its width is small
-  pub piece-narrow : (p : Piece) → PieceWithin (length body) p → width_of p ≤ length body + 1_000_001
-  piece-narrow (Raw from to width) w = w.2
-  piece-narrow (Space at) w = omega arith
-  piece-narrow (Paragraph at) w = omega arith
-  piece-narrow (LineBreak at) w = omega arith
-
-  -- and it begins within its body, or at its end
-  pub piece_inside : (p : Piece) → PieceWithin (length body) p → place_of p ≤ length body
-  piece_inside (Raw from to width) w = omega (arith, w.0, w.1)
-  piece_inside (Space at) w = omega (arith, w)
-  piece_inside (Paragraph at) w = omega (arith, w)
-  piece_inside (LineBreak at) w = omega (arith, w)
+  chunk_break e f = f ∙ rw e refl
 
 -- the last line end
-module _ (room kept : List ℕ) (m : Mark) where
-  pub last_due : (m.lay.newline || m.lay.blank) ≡ true
-      → (state_at room kept m >>= write (length room) (0x0A ∷ [])) ≡ (state_at room kept m >>= finish (length room))
+module _ (v : Lent) (kept : List ℕ) (lay : Lay) where
+  pub last_due : (lay.newline || lay.blank) ≡ true → ruled (λ n. write n (0x0A ∷ [])) (sheet v kept lay) ≡ ruled finish (sheet v kept lay)
   unfolding finish
-  last_due e = shown_then room m.len.0 kept m.lay _ _ (λ x. sym (if_true _ _ e))
+  last_due e = agree v kept lay _ (finish v.size) (λ o h. sym (if_true _ _ e))
 
-  pub last_none : (m.lay.newline || m.lay.blank) ≡ false → state_at room kept m ≡ (state_at room kept m >>= finish (length room))
+  pub last_none : (lay.newline || lay.blank) ≡ false → sheet v kept lay ≡ ruled finish (sheet v kept lay)
   unfolding finish
-  last_none e = sym (bind_end (state_at room kept m)) ∙ shown_then room m.len.0 kept m.lay gives _ (λ x. sym (if_false _ _ e))
+  last_none e = idle v kept lay (finish v.size) (λ o h. if_false _ _ e)

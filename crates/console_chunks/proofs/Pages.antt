@@ -1,45 +1,90 @@
--- Rules one after the other, and rules on what stands in a room. Assumes nothing.
-use Rattle.std.proofs.Common.{◌≡◌, ℕ, ◌<◌, ◌≤◌, List, length, take, sym, ap, ◌∙◌, ⊎_elim}
-use Rattle.base.specs.Result.{Result, gives, ◌>>=◌}
-use Rattle.base.proofs.Choice.{le_or_lt}
-use Rattle.room.specs.Room.{extended, seen}
-use Rattle.renderer.specs.Walk.{Page, page, with_lay, write, shown}
-use Rattle.base.proofs.Results.{bind_assoc, bind_end, bind_same}
-use Rattle.renderer.proofs.Shown.{shown_in, shown-out, shown-write}
+-- Rules one after the other, and rules on what stands on a page. Assumes nothing.
+use Rattle.std.specs.Borrow.{GName}
+use Rattle.std.proofs.Common.{◌≡◌, ℕ, List, length, sym, refl, ap, ◌∙◌}
+use Rattle.base.specs.Result.{Result, gives, refused, ◌>>=◌}
+use Rattle.base.proofs.Results.{bind_assoc, bind_same, refused-gives}
+use Rattle.room.specs.Room.{seen, extended}
+use Rattle.room.specs.Lent.{Lent, lent, with_bytes, wrote}
+use Rattle.room.proofs.Lents.{lent_wrote}
+use Rattle.renderer.specs.Walk.{page, with_out, with_lay, write}
+use Rattle.console_rules.specs.Console.{State}
+use Rattle.console_rules.specs.declared.Lay.{Lay}
+use Rattle.console_chunks.specs.InnerShown.{Sheet, sheet, ruled}
+
+abbrev pub Rule : Type 0
+Rule = ℕ → State → Result State
+
+-- another state on the same page
+abbrev pub stated : Sheet → Result State → Sheet
+stated p s = record p { state = s }
 
 -- what follows from one rule after another
-module _ {A : Type 0} where
-  pub bind_two : (x r₁ r₂ : Result A) (f g : A → Result A) → r₁ ≡ (x >>= f) → r₂ ≡ (r₁ >>= g) → r₂ ≡ (x >>= λ a. f a >>= g)
-  bind_two x r₁ r₂ f g a b = b ∙ ap (λ (r : Result A). r >>= g) a ∙ sym (bind_assoc x f g)
+pub ruled_two : (p p₁ p₂ : Sheet) (f g : Rule) → p₁ ≡ ruled f p → p₂ ≡ ruled g p₁ → p₂ ≡ ruled (λ n s. f n s >>= g n) p
+ruled_two p p₁ p₂ f g a b = b ∙ ap (ruled g) a ∙ ap (stated p) (sym (bind_assoc p.state (f p.size) (g p.size)))
 
-  pub bind_three : (x r₁ r₂ r₃ : Result A) (f g h : A → Result A) → r₁ ≡ (x >>= f) → r₂ ≡ (r₁ >>= g) → r₃ ≡ (r₂ >>= h)
-      → r₃ ≡ (x >>= λ a. f a >>= λ b. g b >>= h)
-  bind_three x r₁ r₂ r₃ f g h a b c =
-      bind_two x r₂ r₃ (λ p. f p >>= g) h (bind_two x r₁ r₂ f g a b) c
-      ∙ bind_same x (λ p. f p >>= g >>= h) (λ p. f p >>= λ q. g q >>= h) (λ p. sym (bind_assoc (f p) g h))
+pub ruled_three : (p p₁ p₂ p₃ : Sheet) (f g h : Rule) → p₁ ≡ ruled f p → p₂ ≡ ruled g p₁ → p₃ ≡ ruled h p₂ → p₃ ≡ ruled (λ n s. f n s >>= λ t. g n t >>= h n) p
+ruled_three p p₁ p₂ p₃ f g h a b c =
+    ruled_two p p₁ p₃ f (λ n s. g n s >>= h n) a (ruled_two p₁ p₂ p₃ g h b c)
 
-module _ {L : Type 0} (room : List ℕ) (len : ℕ) (kept : List ℕ) (lay : L) where
-  -- two rules that agree on what stands in the room
-  pub agree : (f g : Page L → Result (Page L)) → (len ≤ length room → f (page kept lay (take len room)) ≡ g (page kept lay (take len room)))
-      → (shown room len kept lay >>= f) ≡ (shown room len kept lay >>= g)
+-- two rules that agree on every state
+pub ruled_same : (p : Sheet) (f g : State → Result State) → ((s : State) → f s ≡ g s) → stated p (p.state >>= f) ≡ stated p (p.state >>= g)
+ruled_same p f g h = ap (stated p) (bind_same p.state f g h)
+
+module _ (v : Lent) (kept : List ℕ) (lay : Lay) where
+  -- two rules that agree on what stands on the page
+  pub agree : (f g : State → Result State) → ((o : List ℕ) → v.shown ≡ gives o → f (page kept lay o) ≡ g (page kept lay o))
+      → stated (sheet v kept lay) ((sheet v kept lay).state >>= f) ≡ stated (sheet v kept lay) ((sheet v kept lay).state >>= g)
   unfolding ◌>>=◌
-  agree f g h =
-      ⊎_elim
-      (λ (i : len ≤ length room). rw (shown_in room len kept lay i) (h i))
-      (λ (i : length room < len). rw (shown-out room len kept lay i))
-      (le_or_lt len (length room))
+  agree f g h = ap (stated (sheet v kept lay)) (same v.shown h)
+    where
+      same : (s : Result (List ℕ)) → ((o : List ℕ) → s ≡ gives o → f (page kept lay o) ≡ g (page kept lay o))
+          → (s >>= (λ o. gives (page kept lay o)) >>= f) ≡ (s >>= (λ o. gives (page kept lay o)) >>= g)
+      same (gives o) h = h o refl
+      same (refused n k) h = refl
 
-  -- a rule that leaves as it is what stands in the room
-  pub idle : (f : Page L → Result (Page L)) → (len ≤ length room → f (page kept lay (take len room)) ≡ gives (page kept lay (take len room)))
-      → shown room len kept lay ≡ (shown room len kept lay >>= f)
-  idle f h = sym (bind_end (shown room len kept lay)) ∙ agree gives f (λ i. sym (h i))
-
-  -- a length past the room absorbs every rule
-  pub over : (f : Page L → Result (Page L)) → length room < len → shown room len kept lay ≡ (shown room len kept lay >>= f)
+  -- a rule that leaves as it is what stands on the page
+  pub idle : (f : State → Result State) → ((o : List ℕ) → v.shown ≡ gives o → f (page kept lay o) ≡ gives (page kept lay o))
+      → sheet v kept lay ≡ stated (sheet v kept lay) ((sheet v kept lay).state >>= f)
   unfolding ◌>>=◌
-  over f h = rw (shown-out room len kept lay h)
+  idle f h = ap (stated (sheet v kept lay)) (same v.shown h)
+    where
+      same : (s : Result (List ℕ)) → ((o : List ℕ) → s ≡ gives o → f (page kept lay o) ≡ gives (page kept lay o))
+          → (s >>= λ o. gives (page kept lay o)) ≡ (s >>= (λ o. gives (page kept lay o)) >>= f)
+      same (gives o) h = sym (h o refl)
+      same (refused n k) h = refl
 
--- some bytes were written, and the flags changed
-pub wrote : {L : Type 0} (old new : List ℕ) (len n : ℕ) (kept : List ℕ) (lay lay' : L) (x : List ℕ) (limit : ℕ) (f : L → L) → lay' ≡ f lay
-    → seen new n ≡ (seen old len >>= extended limit x) → shown new n kept lay' ≡ (shown old len kept lay >>= λ s. write limit x (with_lay f s))
-wrote old new len n kept lay lay' x limit f d e = shown-write (with_lay f) kept kept lay lay' (λ y. ap (λ l. page kept l y) (sym d)) limit old new len n x e
+  -- a text past the room absorbs every rule
+  pub over : (f : State → Result State) {n k : ℕ} → v.shown ≡ refused n k → sheet v kept lay ≡ stated (sheet v kept lay) ((sheet v kept lay).state >>= f)
+  over f e = idle f (λ o h. absurd (refused-gives (sym e ∙ h)))
+
+  -- the flags changed
+  pub changed : (lay' : Lay) (f : Lay → Lay) → lay' ≡ f lay → sheet v kept lay' ≡ ruled (λ n s. gives (with_lay f s)) (sheet v kept lay)
+  unfolding ◌>>=◌
+  changed lay' f d = rw d (ap (stated (sheet v kept lay)) (same v.shown))
+    where
+      same : (s : Result (List ℕ)) → (s >>= λ o. gives (page kept (f lay) o)) ≡ (s >>= (λ o. gives (page kept lay o)) >>= λ s. gives (with_lay f s))
+      same (gives o) = refl
+      same (refused n k) = refl
+
+  module _ (new : Lent) (lay' : Lay) where
+    -- a text was written, and the flags changed
+    pub written : (rule : ℕ → List ℕ → Result (List ℕ)) (f : Lay → Lay) → lay' ≡ f lay → new ≡ wrote rule v
+        → sheet new kept lay' ≡ ruled (λ n s. rule n s.out >>= λ y. gives (with_out y (with_lay f s))) (sheet v kept lay)
+    unfolding ◌>>=◌
+    written rule f d e = rw (e, d) (ap (stated (sheet v kept lay)) (same v.shown))
+      where
+        same : (s : Result (List ℕ)) → (s >>= rule v.size >>= λ o. gives (page kept (f lay) o))
+            ≡ (s >>= (λ o. gives (page kept lay o)) >>= λ s. rule v.size s.out >>= λ y. gives (with_out y (with_lay f s)))
+        same (gives o) = refl
+        same (refused n k) = refl
+
+    -- some bytes were
+    pub put_there : (x : List ℕ) (f : Lay → Lay) → lay' ≡ f lay → new ≡ with_bytes x v
+        → sheet new kept lay' ≡ ruled (λ n s. write n x (with_lay f s)) (sheet v kept lay)
+    unfolding write
+    put_there x f d e = written (λ n. extended n x) f d e
+
+-- some bytes written into a room, as a text in it
+pub room_put : (n : GName) (old new x : List ℕ) (len r : ℕ) → length new ≡ length old
+    → seen new r ≡ (seen old len >>= extended (length old) x) → lent n new r ≡ with_bytes x (lent n old len)
+room_put n old new x len r s w = lent_wrote (lent n old len) n old new (λ k. extended k x) len r refl s w

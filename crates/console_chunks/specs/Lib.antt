@@ -1,2 +1,1 @@
 pub mod InnerShown
-pub mod InnerPieces

@@ -2,80 +2,41 @@
 
 #![tactic(auto)]
 
-ghost use Rattle.std.specs.Prelude.{◌≡◌, ℕ, ◌+◌, ◌-◌, ◌^◌, ◌<◌, ◌≤◌, max, false, ◌||◌, List, length};
-ghost use Rattle.base.specs.Result.{◌>>=◌ as bind};
+ghost use Rattle.std.specs.Prelude.{◌≡◌, ℕ, ◌+◌, ◌-◌, ◌^◌, ◌<◌, ◌≤◌, true, false, ◌||◌, List, length};
+ghost use Rattle.base.specs.Result.{gives, refused};
+ghost use Rattle.base.specs.Bytes.{ends_with};
+ghost use Rattle.room.specs.Room.{seen};
+ghost use Rattle.room.specs.Lent.{Given, lent_empty, is_empty};
 ghost use Rattle.white.specs.White.{trim};
-ghost use Rattle.splitter.specs.Answers.{chunk_of};
 ghost use Rattle.splitter.specs.Split.{paragraph};
 ghost use Rattle.renderer.specs.Walk.{with_out};
 ghost use Rattle.splitter.specs.Split.{is_space};
-ghost use Rattle.console_rules.specs.Console.{measure_of, folds, with_column, with_skip, line_end, due_line, due_blank, reach, pad_gutter, place, put, raw_chunk, chunk, finish};
-ghost use Rattle.console_chunks.specs.InnerPieces.{is_text, width_of};
-ghost use Rattle.console_chunks.specs.InnerShown.{state_at, state_after, Fits64, Near, Nearby};
+ghost use Rattle.console_rules.specs.Console.{blank_lay, measure_of, folds, line_end, due_line, due_blank, reach, pad_gutter, place, put, raw_chunk, chunk, finish};
+ghost use Rattle.console_chunks.specs.InnerShown.{text_in, page_of, ruled, after, Fits64, Near};
 
 use console_rules::{Bytes, Columns, Lay, MAX_MISSING, MAX_TABSTOP, Measure, Settings};
 use refusal::Refusal;
-use splitter::Piece;
 
-// How far the text in a room has come, in bytes, and what is kept beside it. A length past the room says that the text was longer than the
-// room. Bytes and columns are kept apart by their types; the functions of `room`, which know no columns, take the number of bytes alone.
-// The room goes beside the mark, as `(room: &mut [u8], m: Mark)`. Tried in its place: a struct with methods that holds a `room::Text` and the lay
-// takes 0.95 to 1.02 of the time, but the walk over the records does not prove, since of a struct within a struct the room's lender learns nothing. One
-// that holds a `&mut Text` proves, and the console takes up to 11 % longer, 6 to 11 % on options-30k (4 to 5 with one call of `put_chunk`).
-#[derive(Clone, Copy)]
-pub struct Mark {
-    pub len: Bytes,
+// A text in a lent room, its length in bytes, and what is kept beside it. A length past the room says that the text was longer than the room.
+// The room and the length stand here and in no `room::Text` of their own: of a struct within a struct the room's lender learns nothing.
+// So the functions of `room` get both, and `is_full`, `is_empty`, `ends_with` are methods here too: a `Text` for one call would be taken apart after it.
+// The settings are handed on and no field: each contract would say besides that they stay.
+#[derive(Drop)]
+pub struct Page<'a> {
+    pub room: &'a mut [u8],
+    pub len: usize,
     pub lay: Lay,
 }
 
-// Whether a line end is due.
-fn line_is_due(lay: &Lay) -> bool
-    ensures { result ≡ (lay.now.newline || lay.now.blank) }
-{
-    lay.newline || lay.blank
+// A chunk that is a text: where it begins in the document, its bytes and its width.
+#[derive(Clone, Copy)]
+pub struct Chunk<'a> {
+    pub at: usize,
+    pub text: &'a [u8],
+    pub width: Columns,
 }
 
-pub fn at_column(lay: Lay, n: Columns) -> Lay
-    ensures { result ≡ with_column n.0 lay }
-{
-    Lay { column: n, ..lay }
-}
-
-// Chunks. Each function does what a rule does, whatever margins are kept beside the text.
-
-// A line end, at once.
-fn line_end(room: &mut [u8], m: Mark) -> Mark
-    ensures by_index { (kept : List ℕ) → state_at room.new kept result ≡ bind (state_at room.old kept m) (line_end (length room.old)) }
-    ensures near { Near 0 m.lay result.lay }
-{
-    let len = Bytes(room::put(room, m.len.0, b'\n'));
-    let lay = at_column(m.lay, Columns(0));
-    Mark { len, lay }
-}
-
-// A line end that is due.
-fn due_line(room: &mut [u8], m: Mark) -> Mark
-    ensures by_index { (kept : List ℕ) → state_at room.new kept result ≡ bind (state_at room.old kept m) (due_line (length room.old)) }
-    ensures near { Near 0 m.lay result.lay }
-{
-    if line_is_due(&m.lay) && !room::ends_with(room, m.len.0, b"\n") {
-        return line_end(room, m);
-    }
-    m
-}
-
-// A blank line that is due.
-fn due_blank(room: &mut [u8], m: Mark) -> Mark
-    ensures by_index { (kept : List ℕ) → state_at room.new kept result ≡ bind (state_at room.old kept m) (due_blank (length room.old)) }
-    ensures near { Near 0 m.lay result.lay }
-{
-    if m.lay.blank && !room::ends_with(room, m.len.0, b"\n\n") {
-        let len = Bytes(room::put(room, m.len.0, b'\n'));
-        return Mark { len, ..m };
-    }
-    m
-}
-
+// No method, as the next ones: `Columns` and `Settings` stand beside the rules, in a crate without functions.
 // A sum of columns. One of 2^64 or more wraps: in no walk over the records of an accepted document is there one.
 pub fn plus(a: Columns, b: Columns) -> Columns
     ensures result_value { a.0 + b.0 < 2 ^ 64 → result.0 ≡ a.0 + b.0 }
@@ -91,89 +52,11 @@ fn missing_to(margin: Columns, column: Columns) -> Columns
     Columns(margin.0.saturating_sub(column.0))
 }
 
-// Spaces up to a margin.
-fn reach_margin(room: &mut [u8], m: Mark, margin: Columns) -> Mark
-    ensures by_index { (kept : List ℕ) → state_at room.new kept result ≡ bind (state_at room.old kept m) (reach (length room.old) margin.0) }
-    ensures near { Near margin.0 m.lay result.lay }
-{
-    let column = m.lay.column;
-    let len = Bytes(room::put_spaces(room, m.len.0, missing_to(margin, column).0));
-    let lay = at_column(m.lay, Columns(column.0.max(margin.0)));
-    Mark { len, lay }
-}
-
-// At least two columns before an item's body that starts at column 28, the widest tabstop, or past it.
-fn pad_gutter(room: &mut [u8], m: Mark, padded: Columns) -> Mark
-    ensures result_after { Fits64 (m.lay.column.0 + 2) → (kept : List ℕ) → state_at room.new kept result ≡ bind (state_at room.old kept m) (pad_gutter (length room.old) padded.0) }
-    ensures near { Near 2 m.lay result.lay }
-{
-    if m.lay.gutter && MAX_TABSTOP <= m.lay.column.0 && padded.0 < 2 {
-        let more = 2 - padded.0;
-        let len = Bytes(room::put_spaces(room, m.len.0, more));
-        let column = plus(m.lay.column, Columns(more));
-        let lay = at_column(m.lay, column);
-        return Mark { len, lay };
-    }
-    m
-}
-
-// A chunk where the text stands.
-fn place_here(room: &mut [u8], m: Mark, text: &[u8], width: Columns) -> Mark
-    ensures result_after { Fits64 (m.lay.column.0 + width.0) → (kept : List ℕ) → state_at room.new kept result ≡ bind (state_at room.old kept m) (place (length room.old) text.now width.0) }
-    ensures near { Near width.0 m.lay result.lay }
-{
-    let len = Bytes(room::put_all(room, m.len.0, text));
-    let column = plus(m.lay.column, width);
-    Mark {
-        len,
-        lay: Lay {
-            column,
-            newline: false,
-            blank: false,
-            gutter: false,
-            ..m.lay
-        },
-    }
-}
-
-// A chunk at its margin; refusal 10 where more than 50 columns are missing, unless 13 was met before.
-fn put_chunk(
-    room: &mut [u8],
-    m: Mark,
-    margin: Columns,
-    at: usize,
-    text: &[u8],
-    width: Columns,
-) -> Result<Mark, Refusal>
-    ensures result_after { Fits64 (m.lay.column.0 + (margin.0 + width.0 + 2)) → (kept : List ℕ) → state_after room.new kept result ≡ bind (state_at room.old kept m) (put (length room.old) margin.0 at text.now width.0) }
-    ensures near { Nearby (margin.0 + width.0 + 2) m.lay result }
-{
-    let missing = missing_to(margin, m.lay.column);
-    if MAX_MISSING < missing.0 {
-        if room.len() < m.len.0 {
-            return Ok(m);
-        }
-        return Err(Refusal::BeyondMargin(at));
-    }
-    let a = reach_margin(room, m, margin);
-    let b = pad_gutter(room, a, missing);
-    Ok(place_here(room, b, text, width))
-}
-
-// A fold: the White_Space at the end goes, and a line end follows.
-fn fold_line(room: &mut [u8], m: Mark) -> Mark
-    ensures by_index { (kept : List ℕ) → state_at room.new kept result ≡ bind (state_at room.old kept m) (λ s. line_end (length room.old) (with_out (trim s.out) s)) }
-    ensures near { Near 0 m.lay result.lay }
-{
-    let len = Bytes(room::trim_end(room, m.len.0));
-    line_end(room, Mark { len, ..m })
-}
-
 // Whether a chunk is just one space.
 fn is_space(text: &[u8]) -> bool
     ensures { result ≡ is_space text.now }
 {
-    text.len() == 1 && text[0] == b' '
+    text == b" ".as_slice()
 }
 
 // What a chunk counts for in the fold test.
@@ -195,92 +78,195 @@ pub fn folds_at(width: usize, column: Columns, bytes: Bytes) -> bool
     width < column.0 || width - column.0 < bytes.0
 }
 
-// A chunk at a place, at a margin. The rules' numbers have no bound: the promise is theirs where the column after the
-// chunk is one that the code can hold.
-pub fn place_chunk(
-    room: &mut [u8],
-    m: Mark,
-    margin: Columns,
-    at: usize,
-    text: &[u8],
-    width: Columns,
-    set: Settings,
-) -> Result<Mark, Refusal>
-    ensures result_after { Fits64 (m.lay.column.0 + (margin.0 + width.0 + 2)) → (kept : List ℕ) → state_after room.new kept result ≡ bind (state_at room.old kept m) (raw_chunk (measure_of set) set (length room.old) margin.0 at text.now width.0) }
-    ensures near { Nearby (margin.0 + width.0 + 2) m.lay result }
-{
-    if m.len.0 == 0 {
-        return put_chunk(room, m, margin, at, text, width);
-    }
-    let a = due_line(room, m);
-    let b = due_blank(room, a);
-    if folds_at(set.width, b.lay.column, measure_of(set, text)) {
-        let f = fold_line(room, b);
-        if is_space(text) {
-            return Ok(f);
+// Chunks. Each method does what a rule does, whatever margins are kept beside the text.
+// `Near` stands at each of them: it relates the lay before and after a call, which no invariant of one value says.
+impl<'a> Page<'a> {
+    // A page with nothing written.
+    pub fn new(room: &'a mut [u8]) -> Page<'a>
+        ensures text { text_in result ≡ lent_empty room.entry.ghost_name (length room.old) }
+        ensures lay { result.lay ≡ blank_lay }
+    {
+        Page {
+            room,
+            len: 0,
+            lay: Lay::default(),
         }
-        return put_chunk(room, f, margin, at, text, width);
     }
-    put_chunk(room, b, margin, at, text, width)
-}
 
-// From now on text is skipped.
-fn skipping(m: Mark) -> Mark
-    ensures { (result.len.0 ≡ m.len.0) × (result.lay ≡ with_skip 1 m.lay) }
-{
-    let mut m = m;
-    m.lay.skip.enable();
-    m
-}
-
-// A paragraph.
-fn put_paragraph(room: &mut [u8], m: Mark, set: Settings) -> Mark
-    ensures by_index { (margin at : ℕ) (kept : List ℕ) → state_at room.new kept result ≡ bind (state_at room.old kept m) (chunk (measure_of set) set (length room.old) margin at paragraph) }
-    ensures near { Near 0 m.lay result.lay }
-{
-    let a = line_end(room, m);
-    if set.full {
-        return a;
+    // Whether more was to be written than the room holds.
+    pub fn is_full(&self) -> bool
+        ensures full { result ≡ true → (text_in self.now).shown ≡ refused 13 0 }
+        ensures given { result ≡ false → Given (text_in self.now).shown }
+    {
+        self.room.len() < self.len
     }
-    skipping(a)
-}
 
-// Whether a piece is a text, a part of the body or one space.
-pub fn is_text(piece: Piece) -> bool
-    ensures { result ≡ is_text piece }
-{
-    matches!(piece, Piece::Raw(_, _, _) | Piece::Space(_))
-}
-
-// The width of a piece that is a text.
-pub fn width_of(piece: Piece) -> Columns
-    ensures { result.0 ≡ width_of piece }
-{
-    match piece {
-        Piece::Raw(_, _, width) => Columns(width),
-        _ => Columns(1),
+    // Whether nothing is written; free where the text is longer than the room.
+    pub fn is_empty(&self) -> bool
+        ensures { (o : List ℕ) → (text_in self.now).shown ≡ gives o → result ≡ is_empty o }
+    {
+        self.len == 0
     }
-}
 
-// A paragraph or a line break.
-pub fn put_break(room: &mut [u8], m: Mark, piece: Piece, set: Settings) -> Result<Mark, Refusal>
-    ensures result_after { is_text piece ≡ false → (body : List ℕ) (margin at : ℕ) (kept : List ℕ) → state_after room.new kept result ≡ bind (state_at room.old kept m) (chunk (measure_of set) set (length room.old) margin at (chunk_of body piece)) }
-    ensures near { Nearby 0 m.lay result }
-{
-    match piece {
-        Piece::Paragraph(_) => Ok(put_paragraph(room, m, set)),
-        Piece::LineBreak(_) => Ok(line_end(room, m)),
-        _ => Ok(m),
+    // Whether a line end is due.
+    fn line_is_due(&self) -> bool
+        ensures { result ≡ (self.now.lay.newline || self.now.lay.blank) }
+    {
+        self.lay.newline || self.lay.blank
     }
-}
 
-// The last line end.
-pub fn last_line(room: &mut [u8], m: Mark) -> Mark
-    ensures { (kept : List ℕ) → state_at room.new kept result ≡ bind (state_at room.old kept m) (finish (length room.old)) }
-{
-    if line_is_due(&m.lay) {
-        let len = Bytes(room::put(room, m.len.0, b'\n'));
-        return Mark { len, ..m };
+    // Whether the text ends with some bytes; free where it is longer than the room.
+    fn ends_with(&self, tail: &[u8]) -> bool
+        ensures { (o : List ℕ) → (text_in self.now).shown ≡ gives o → result ≡ ends_with tail.now o }
+    {
+        room::ends_with(self.room, self.len, tail)
     }
-    m
+
+    // A line end, at once.
+    pub fn line_end(&mut self)
+        ensures by_index { (kept : List ℕ) → page_of self.new kept ≡ ruled line_end (page_of self.old kept) }
+        ensures near { Near 0 self.old.lay self.new.lay }
+    {
+        self.len = room::put(self.room, self.len, b'\n');
+        self.lay.column = Columns(0);
+    }
+
+    // A line end that is due.
+    fn due_line(&mut self)
+        ensures by_index { (kept : List ℕ) → page_of self.new kept ≡ ruled due_line (page_of self.old kept) }
+        ensures near { Near 0 self.old.lay self.new.lay }
+    {
+        if self.line_is_due() && !self.ends_with(b"\n") {
+            self.line_end();
+        }
+    }
+
+    // A blank line that is due.
+    fn due_blank(&mut self)
+        ensures by_index { (kept : List ℕ) → page_of self.new kept ≡ ruled due_blank (page_of self.old kept) }
+        ensures near { Near 0 self.old.lay self.new.lay }
+    {
+        if self.lay.blank && !self.ends_with(b"\n\n") {
+            self.len = room::put(self.room, self.len, b'\n');
+        }
+    }
+
+    // Spaces up to a margin.
+    fn reach_margin(&mut self, margin: Columns)
+        ensures by_index { (kept : List ℕ) → page_of self.new kept ≡ ruled (λ n. reach n margin.0) (page_of self.old kept) }
+        ensures near { Near margin.0 self.old.lay self.new.lay }
+    {
+        let column = self.lay.column;
+        self.len = room::put_spaces(self.room, self.len, missing_to(margin, column).0);
+        self.lay.column = Columns(column.0.max(margin.0));
+    }
+
+    // At least two columns before an item's body that starts at column 28, the widest tabstop, or past it.
+    fn pad_gutter(&mut self, padded: Columns)
+        ensures result_after { Fits64 (self.old.lay.column.0 + 2) → (kept : List ℕ) → page_of self.new kept ≡ ruled (λ n. pad_gutter n padded.0) (page_of self.old kept) }
+        ensures near { Near 2 self.old.lay self.new.lay }
+    {
+        if self.lay.gutter && MAX_TABSTOP <= self.lay.column.0 && padded.0 < 2 {
+            let more = 2 - padded.0;
+            self.len = room::put_spaces(self.room, self.len, more);
+            self.lay.column = plus(self.lay.column, Columns(more));
+        }
+    }
+
+    // A chunk where the text stands.
+    fn place_here(&mut self, text: &[u8], width: Columns)
+        ensures result_after { Fits64 (self.old.lay.column.0 + width.0) → (kept : List ℕ) → page_of self.new kept ≡ ruled (λ n. place n text.now width.0) (page_of self.old kept) }
+        ensures near { Near width.0 self.old.lay self.new.lay }
+    {
+        self.len = room::put_all(self.room, self.len, text);
+        self.lay = Lay {
+            column: plus(self.lay.column, width),
+            newline: false,
+            blank: false,
+            gutter: false,
+            ..self.lay
+        };
+    }
+
+    // A chunk at its margin; refusal 10 where more than 50 columns are missing, unless 13 was met before.
+    fn put_chunk(&mut self, margin: Columns, chunk: Chunk) -> Result<(), Refusal>
+        ensures result_after { Fits64 (self.old.lay.column.0 + (margin.0 + chunk.entry.width.0 + 2)) → (kept : List ℕ) → after result (page_of self.new kept) ≡ ruled (λ n. put n margin.0 chunk.entry.at chunk.entry.text.now chunk.entry.width.0) (page_of self.old kept) }
+        ensures near { Near (margin.0 + chunk.entry.width.0 + 2) self.old.lay self.new.lay }
+    {
+        let missing = missing_to(margin, self.lay.column);
+        if MAX_MISSING < missing.0 {
+            if self.is_full() {
+                return Ok(());
+            }
+            return Err(Refusal::BeyondMargin(chunk.at));
+        }
+        self.reach_margin(margin);
+        self.pad_gutter(missing);
+        self.place_here(chunk.text, chunk.width);
+        Ok(())
+    }
+
+    // A fold: the White_Space at the end goes, and a line end follows.
+    fn fold_line(&mut self)
+        ensures by_index { (kept : List ℕ) → page_of self.new kept ≡ ruled (λ n s. line_end n (with_out (trim s.out) s)) (page_of self.old kept) }
+        ensures near { Near 0 self.old.lay self.new.lay }
+    {
+        let room = &mut *self.room;
+        self.len = room::trim_end(room, self.len);
+        self.line_end();
+    }
+
+    // A chunk at a place, at a margin. The rules' numbers have no bound: the promise is theirs where the column after the
+    // chunk is one that the code can hold.
+    pub fn place_chunk(
+        &mut self,
+        margin: Columns,
+        chunk: Chunk,
+        set: Settings,
+    ) -> Result<(), Refusal>
+        ensures result_after { Fits64 (self.old.lay.column.0 + (margin.0 + chunk.entry.width.0 + 2)) → (kept : List ℕ) → after result (page_of self.new kept) ≡ ruled (λ n. raw_chunk (measure_of set) set n margin.0 chunk.entry.at chunk.entry.text.now chunk.entry.width.0) (page_of self.old kept) }
+        ensures near { Near (margin.0 + chunk.entry.width.0 + 2) self.old.lay self.new.lay }
+    {
+        if self.is_empty() {
+            return self.put_chunk(margin, chunk);
+        }
+        self.due_line();
+        self.due_blank();
+        if folds_at(set.width, self.lay.column, measure_of(set, chunk.text)) {
+            self.fold_line();
+            if is_space(chunk.text) {
+                return Ok(());
+            }
+            return self.put_chunk(margin, chunk);
+        }
+        self.put_chunk(margin, chunk)
+    }
+
+    // A paragraph; with `full` off text is skipped from then on.
+    pub fn put_paragraph(&mut self, set: Settings)
+        ensures by_index { (margin at : ℕ) (kept : List ℕ) → page_of self.new kept ≡ ruled (λ n. chunk (measure_of set) set n margin at paragraph) (page_of self.old kept) }
+        ensures near { Near 0 self.old.lay self.new.lay }
+    {
+        self.line_end();
+        if !set.full {
+            self.lay.skip.enable();
+        }
+    }
+
+    // The last line end.
+    pub fn last_line(&mut self)
+        ensures { (kept : List ℕ) → page_of self.new kept ≡ ruled finish (page_of self.old kept) }
+    {
+        if self.line_is_due() {
+            self.len = room::put(self.room, self.len, b'\n');
+        }
+    }
+
+    // How far it is written: the room is its lender's again.
+    pub fn finish(self) -> usize
+        ensures { seen self.exit.0.now result ≡ (text_in self.entry).shown }
+    {
+        let Page { room, len, lay } = self;
+        len
+    }
 }

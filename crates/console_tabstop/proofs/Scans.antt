@@ -36,7 +36,7 @@ module _ (s : List ℕ) (at : ℕ) (h : Head) (r : Read s at h) (inside : at < l
   unfolding gap_ahead
   gap_here e = ap gap_ahead listed ∙ if_true _ _ e
 
-  pub terms-next : (t : Terms) → terms (tokens_from s h.next) (term h.kind (part s h.start h.stop) t) ≡ terms (tokens_from s at) t
+  pub terms-next : (t : Terms) → terms (tokens_from s h.next) (term h.kind (part s h.start h.next) t) ≡ terms (tokens_from s at) t
   unfolding terms
   terms-next t = sym (ap (λ ts. terms ts t) listed)
 
@@ -46,7 +46,7 @@ module _ (s : List ℕ) (at : ℕ) (h : Head) (r : Read s at h) (inside : at < l
   settled_here n t e = ap (λ ts. settled_from n ts t) listed ∙ if_true _ _ e
 
   pub settled-later : (n : ℕ) (t : Terms) → settles h.kind t ≡ false
-      → settled_from n (tokens_from s at) t ≡ settled_from n (tokens_from s h.next) (term h.kind (part s h.start h.stop) t)
+      → settled_from n (tokens_from s at) t ≡ settled_from n (tokens_from s h.next) (term h.kind (part s h.start h.next) t)
   unfolding settled_from
   settled-later n t e = ap (λ ts. settled_from n ts t) listed ∙ if_false _ _ e
 

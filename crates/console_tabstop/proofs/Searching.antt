@@ -33,13 +33,13 @@ module _ (s : List ℕ) (all : Terms) (place : ℕ) where
 
     module _ (h : Head) (r : Read s at h) (inside : at < length s) where
       abbrev Body : List ℕ
-      Body = part s h.start h.stop
+      Body = part s h.start h.next
 
-      body-length : length Body ≤ h.stop - h.start
-      body-length = omega (arith, length-take (h.stop - h.start) (drop h.start s))
+      body-length : length Body ≤ h.next - h.start
+      body-length = omega (arith, length-take (h.next - h.start) (drop h.start s))
 
       pub on_few : t.counted + length Body ≤ length s
-      on_few = omega (arith, body-length, o.passed, r.low inside, r.order, r.high, r.ends)
+      on_few = omega (arith, body-length, o.passed, r.low inside, r.order, r.high)
 
       pub on-settled : settles h.kind t ≡ true → (24 + 4 ≡ all.widest + 4) × (at ≡ place)
       on-settled e =
@@ -56,7 +56,7 @@ module _ (s : List ℕ) (all : Terms) (place : ℕ) where
             counts = terms-next s at h r inside t ∙ o.counts;
             settled = sym (settled-later s at h r inside (length s) t e) ∙ o.settled;
             narrow = b.0;
-            passed = omega (arith, b.1, body-length, o.passed, r.low inside, r.order, r.ends);
+            passed = omega (arith, b.1, body-length, o.passed, r.low inside, r.order);
             near = r.high;
           }
 

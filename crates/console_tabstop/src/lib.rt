@@ -3,7 +3,7 @@
 #![tactic(auto)]
 
 ghost use Rattle.std.specs.Prelude.{◌≡◌, false, ◌+◌, ◌-◌, ◌≤◌, ◌<◌, ◌^◌, length};
-ghost use Rattle.records.specs.Records.{index, is_text, is_start, is_end, kind_of, tokens, tokens_from};
+ghost use Rattle.records.specs.Records.{index, is_text, kind_of, tokens, tokens_from};
 ghost use Rattle.records.specs.declared.Block.TheVariants as block;
 ghost use Rattle.console_rules.specs.Console.{term_start, term_end, term, terms, settles, tabstop, settled_from, settled_at, tabstop_in, settled_in};
 ghost use Rattle.console_rules.specs.Console.{empty_block, gap_ahead, max_tab};
@@ -15,20 +15,7 @@ use console_rules::{Columns, MAX_TAB, MAX_TABSTOP};
 use records::{Block, Kind, Records};
 use refusal::Refusal;
 
-// Whether a record is a Block's start, and whether it is a Block's end.
-fn starts_block(k: Kind) -> bool
-    ensures { result ≡ is_start 7 k }
-{
-    matches!(k, Kind::Start(Block::Block))
-}
-
-fn ends_block(k: Kind) -> bool
-    ensures { result ≡ is_end 7 k }
-{
-    matches!(k, Kind::End(Block::Block))
-}
-
-// Whether the start and the end of a Block come first.
+// Whether the start and the end of a Block come first. (Tried as two `matches!` of `records.next()`: they have two paths more on which a record is missing.)
 fn empty_block(document: &[u8], at: usize) -> bool
     ensures { result ≡ empty_block (tokens_from document.now at) }
 {
@@ -39,11 +26,11 @@ fn empty_block(document: &[u8], at: usize) -> bool
     let Some(b) = records.next() else {
         return false;
     };
-    starts_block(a.kind) && ends_block(b.kind)
+    a.kind == Kind::Start(Block::Block) && b.kind == Kind::End(Block::Block)
 }
 
-// Kinds as numbers, since only lengths and these kinds are looked for: with whole records read so, the console takes 0.90 to 1.01 of what it takes with
-// each kind taken apart (docs/COSTS.md), so that the three loops below are no `for` over `Records`.
+// Kinds as numbers, since only lengths and these kinds are looked for: by a `for` over `Records` in the search for the tabstop the console takes 1.04 to 1.15
+// of the time, and by one in `section_end` up to 1.05.
 const SECTION4_END: usize = 0x0203;
 
 const TERM_START: usize = 0x0104;
@@ -56,12 +43,11 @@ fn section_end(document: &[u8], at: usize) -> usize
 {
     let mut i = at;
     while i < document.len() {
-        let h = records::raw_at(document, i);
-        let next = h.next;
-        if h.code == SECTION4_END {
-            return next;
+        let r = records::raw_at(document, i);
+        if r.code == SECTION4_END {
+            return r.next;
         }
-        i = next;
+        i = r.next;
     }
     document.len()
 }
@@ -78,6 +64,8 @@ fn look_ahead(document: &[u8], next: usize, known: usize) -> usize
 
 // Whether an adjacent gap lies ahead of a block's start, with the next record at `next`: an empty Block where the records after the next end of a
 // Section4 begin. Only a Section4 asks. That place is kept in `known`: each record is read once for it, however many starts stand before it.
+// `known` begins as 0 and is no Option: where it is not past `next`, the place is looked for in any case.
+// No struct of the document and `known`: what holds of `known` names `next` too, so that it would stay in each contract.
 pub fn gap_ahead(document: &[u8], next: usize, b: Block, known: &mut usize) -> bool
     ensures knows { Known document.now next known.old → Known document.now next known.new }
     ensures gap { Known document.now next known.old → index b ≡ 3 → result ≡ gap_ahead (tokens_from document.now next) }
@@ -94,35 +82,13 @@ pub fn gap_ahead(document: &[u8], next: usize, b: Block, known: &mut usize) -> b
 
 // The tabstop.
 
-// The widest term so far, whether a term is being counted (1 where it is), and its characters so far. A number, since the padding of a `bool` costs in
-// what a loop carries.
+// The widest term so far, whether a term is being counted, and its characters so far.
+// A flag and a number and no Option, as the rules have them: an ItemTerm's end reads the number whether or not a term is being counted.
 #[derive(Clone, Copy, Default)]
 struct Terms {
     widest: usize,
-    counting: usize,
+    counting: bool,
     counted: usize,
-}
-
-// 'a nested term's start sets the count back to 0'
-fn term_start(t: Terms) -> Terms
-    ensures { terms_of result ≡ term_start block.ItemTerm (terms_of t) }
-{
-    Terms {
-        counting: 1,
-        counted: 0,
-        ..t
-    }
-}
-
-// 'its end stops the count', and the widest of at most 24 characters is kept.
-fn term_end(t: Terms) -> Terms
-    ensures { terms_of result ≡ term_end block.ItemTerm (terms_of t) }
-{
-    let mut r = Terms { counting: 0, ..t };
-    if t.widest < t.counted && t.counted <= MAX_TAB {
-        r.widest = t.counted;
-    }
-    r
 }
 
 // Whether a record's kind is that of a text.
@@ -132,32 +98,48 @@ fn is_text(code: usize) -> bool
     code <= 0x0005 && 0 < code
 }
 
-// The count after a record. Most kinds change nothing, and none is taken apart further than this needs.
-fn term_on(t: Terms, code: usize, body: &[u8]) -> Terms
-    requires { t.counted + length body.now < 2 ^ 64 }
-    ensures { terms_of result ≡ term (kind_of code) body.now (terms_of t) }
-{
-    if code == TERM_START {
-        return term_start(t);
+impl Terms {
+    // 'a nested term's start sets the count back to 0'
+    fn start(&mut self)
+        ensures { terms_of self.new ≡ term_start block.ItemTerm (terms_of self.old) }
+    {
+        self.counting = true;
+        self.counted = 0;
     }
-    if code == TERM_END {
-        return term_end(t);
-    }
-    let mut r = t;
-    if t.counting == 1 && is_text(code) {
-        r.counted = t.counted + utf8::count(body);
-    }
-    r
-}
 
-// Whether a record is an ItemTerm's end whose count is 24: no term that counts is wider.
-fn settles(t: Terms, code: usize) -> bool
-    ensures { result ≡ settles (kind_of code) (terms_of t) }
-{
-    code == TERM_END && t.counted == MAX_TAB
+    // 'its end stops the count', and the widest of at most 24 characters is kept.
+    fn end(&mut self)
+        ensures { terms_of self.new ≡ term_end block.ItemTerm (terms_of self.old) }
+    {
+        self.counting = false;
+        if self.widest < self.counted && self.counted <= MAX_TAB {
+            self.widest = self.counted;
+        }
+    }
+
+    // The count after a record. Most kinds change nothing, and none is taken apart further than this needs.
+    fn on(&mut self, code: usize, body: &[u8])
+        requires { self.old.counted + length body.now < 2 ^ 64 }
+        ensures { terms_of self.new ≡ term (kind_of code) body.now (terms_of self.old) }
+    {
+        match code {
+            TERM_START => self.start(),
+            TERM_END => self.end(),
+            _ if self.counting && is_text(code) => self.counted += utf8::count(body),
+            _ => {}
+        }
+    }
+
+    // Whether a record is an ItemTerm's end whose count is 24: no term that counts is wider.
+    fn settles(&self, code: usize) -> bool
+        ensures { result ≡ settles (kind_of code) (terms_of self.now) }
+    {
+        code == TERM_END && self.counted == MAX_TAB
+    }
 }
 
 // The tabstop, and the start of the record that settles it, or the document's length.
+// The length and no Option: the request for the tabstop asks for it, and the C interface hands that number out.
 #[derive(Clone, Copy)]
 pub struct Tabstop {
     pub columns: Columns,
@@ -165,6 +147,7 @@ pub struct Tabstop {
 }
 
 // The search for the tabstop from a record on, where so much was counted before: it stops at the record that settles it.
+// Each search writes its two answers out: where a record settles it, `widest` need not be 24 yet, so that one method of `Terms` would not give both.
 fn find_from(document: &[u8], from: usize, first: Terms) -> Tabstop
     requires { (first.widest ≤ 24) × (first.counted ≤ from) × (from ≤ length document.now) }
     ensures tabstop { (result.columns.0 ≡ (terms (tokens_from document.now from) (terms_of first)).widest + 4) × (result.columns.0 ≤ max_tab + 4) }
@@ -173,28 +156,25 @@ fn find_from(document: &[u8], from: usize, first: Terms) -> Tabstop
     let mut t = first;
     let mut i = from;
     while i < document.len() {
-        let h = records::raw_at(document, i);
-        let start = h.start;
-        let next = h.next;
-        let code = h.code;
-        if settles(t, code) {
+        let r = records::raw_at(document, i);
+        if t.settles(r.code) {
             return Tabstop {
                 columns: Columns(MAX_TABSTOP),
                 at: i,
             };
         }
-        t = term_on(t, code, &document[start..next]);
-        i = next;
+        t.on(r.code, &document[r.start..r.next]);
+        i = r.next;
     }
-    let tab = t.widest + 4;
     Tabstop {
-        columns: Columns(tab),
+        columns: Columns(t.widest + 4),
         at: document.len(),
     }
 }
 
 // The search in a whole document. A record that is cut short, which an accepted document has none of, is left to `find_from`: so that here no place is
-// compared with the document's end before the next record can be read.
+// compared with the document's end before the next record can be read. With one loop for both the console takes up to 1.05 of the time.
+// Bytes and no `Accepted`, of which `find_from` would not be needed: `tabstop_of` is public, and promises the tabstop of any document.
 fn find_tabstop(document: &[u8]) -> Tabstop
     ensures tabstop { (result.columns.0 ≡ tabstop (tokens 0 0 document.now)) × (result.columns.0 ≤ max_tab + 4) }
     ensures settled { result.at ≡ settled_at (length document.now) (tokens 0 0 document.now) }
@@ -205,22 +185,18 @@ fn find_tabstop(document: &[u8]) -> Tabstop
         if !records::fits_at(document, at) {
             return find_from(document, at, t);
         }
-        let h = records::whole_raw_at(document, at);
-        let start = h.start;
-        let next = h.next;
-        let code = h.code;
-        if settles(t, code) {
+        let r = records::whole_raw_at(document, at);
+        if t.settles(r.code) {
             return Tabstop {
                 columns: Columns(MAX_TABSTOP),
                 at,
             };
         }
-        t = term_on(t, code, &document[start..next]);
-        at = next;
+        t.on(r.code, &document[r.start..r.next]);
+        at = r.next;
     }
-    let tab = t.widest + 4;
     Tabstop {
-        columns: Columns(tab),
+        columns: Columns(t.widest + 4),
         at: document.len(),
     }
 }

@@ -5,7 +5,7 @@ use mathlib.Core.Bool.{Bool, true, false, false≢true}
 use mathlib.Core.Logic.{⊎_elim}
 use mathlib.Core.List.{List, [], ◌∷◌, ◌++◌, append-nil}
 use lib.ListN.{length, take, drop, length-append, length-drop}
-use lib.Seq.{take_all, length-take-le}
+use lib.Seq.{take_all}
 use native.Mathlib.Nat.{add-zero}
 use native.Mathlib.Omega.{arith}
 use lib.Dec.{leb}
@@ -16,27 +16,24 @@ use Rattle.base.specs.Result.{Result, gives, refused, ◌>>=◌}
 use Rattle.base.proofs.Choice.{if_false, le_or_lt}
 use Rattle.base.proofs.Results.{gives_same}
 use Rattle.utf8.specs.Utf8.{characters}
-use Rattle.room.specs.Lent.{Given, Lent, lent, text_of, with_bytes}
-use Rattle.room.specs.declared.Text.{Text}
+use Rattle.room.specs.Lent.{Given, Lent, lent, with_bytes, is_empty}
 use Rattle.splitter.proofs.Fits.{count_short}
 use Rattle.splitter.specs.declared.Code.{Code}
 use Rattle.splitter.specs.declared.Code.TheVariants as code
-use Rattle.room.specs.Room.{seen}
-use Rattle.room.proofs.Laws.{seen_in}
-use Rattle.room.proofs.Lents.{seen_given}
-use Rattle.renderer.specs.Walk.{page, with_lay, empty, shown}
+use Rattle.renderer.specs.Walk.{page, with_lay, empty}
 use Rattle.console_rules.specs.Console.{State, with_column, settled, measure_of, measure_by, reach, place, put, raw_chunk, chunk}
 use Rattle.console_rules.specs.declared.Settings.{Settings}
 use Rattle.console_rules.specs.declared.Lay.{Lay}
 use Rattle.console_rules.specs.declared.Measure.{Measure}
 use Rattle.console_rules.specs.declared.Measure.TheVariants as measure
 use Rattle.console_chunks.proofs.Chunks.{line_idle, blank_idle, gap_no, put-near}
-use Rattle.console_chunks.specs.declared.Mark.{Mark}
+use Rattle.console_chunks.specs.InnerShown.{text_in, Sheet}
+use Rattle.console_chunks.specs.declared.Page.{Page}
 use Rattle.console_words.specs.InnerAdvance.{Quiet, full_of, rule_of, Plain, Some, LineAdvance, Ready, Ahead, Moves}
 use Rattle.words.specs.InnerCopies.{Copies, Follows}
 use Rattle.words.proofs.Follow.{write_in}
 use Rattle.words.proofs.Copying.{characters-join, narrow, part-short, part-narrow, run_shown, puts_run, follows_run}
-use Rattle.words.proofs.Advance.{Written, advance_start as words_start, onward_run as words_run}
+use Rattle.words.proofs.Advance.{Written, onward_run as words_run}
 
 -- A chunk that fits on its line, where nothing is due: it is written, and the column goes on by its width.
 module _ (limit margin p : ℕ) (x : List ℕ) (w : ℕ) (kept : List ℕ) (lay : Lay) (out : List ℕ) (q : Quiet margin lay) (h : length out + length x ≤ limit) where
@@ -78,17 +75,6 @@ module _ (limit margin p : ℕ) (x : List ℕ) (w : ℕ) (kept : List ℕ) (lay 
       (if_false _ _ (le-ltb set.width (lay.column.0 + measure x) k) ∙ put_there)
 
 -- One run of words after another.
-
-column_same : (col : ℕ) (lay : Lay) → lay.column.0 ≡ col → with_column col lay ≡ lay
-column_same col lay e = rw (← e) refl
-
-pub line_advance_start : (set : Settings) (x : List ℕ) (old : Lent) (col at : ℕ) → Some old → LineAdvance set x old col at old col at
-line_advance_start set x old col at h = record {
-  there = h;
-  grows = omega arith;
-  near = omega arith;
-  words = words_start (full_of set) (rule_of set) (Plain col) x old at (with_column col) (λ t lay p. column_same col lay p.here);
-}
 
 -- what a text counts for is at most its bytes, whichever the measure
 measure_short : (m : Measure) (y : List ℕ) → measure_by m y ≤ length y
@@ -164,45 +150,45 @@ run_on set x old col at n room len col' at' o h l part size most k w c thin =
 
 -- Where a word would follow at once.
 
-pub ready_if : (room : List ℕ) (m : Mark) (margin : ℕ) (c : Code) → (m.len.0 ≡ 0 → ⊥) → m.len.0 ≤ length room → m.lay.newline ≡ false
-    → m.lay.blank ≡ false → m.lay.gutter ≡ false → c ≡ code.No → Ahead room m margin c (leb margin m.lay.column.0)
-ready_if room m margin c h k n b g e =
+pub some_there : (v : Lent) (b : Bool) → ((o : List ℕ) → v.shown ≡ gives o → b ≡ is_empty o) → b ≡ false → Given v.shown → Some v
+some_there v b h e g = record {
+  inside = g;
+  some = λ o s. not_empty o (sym (h o s) ∙ e);
+}
+  where
+    not_empty : (o : List ℕ) → is_empty o ≡ false → 0 < length o
+    not_empty [] e = absurd (false≢true (sym e))
+    not_empty (b ∷ o) e = omega arith
+
+pub ready_if : (p : Page) (margin : ℕ) (c : Code) → Some (text_in p) → p.lay.newline ≡ false → p.lay.blank ≡ false → p.lay.gutter ≡ false
+    → c ≡ code.No → Ahead p margin c (leb margin p.lay.column.0)
+ready_if p margin c s n b g e =
     ⊎_elim
-    (λ (l : margin ≤ m.lay.column.0).
-    rw (le-leb margin m.lay.column.0 l)
-    (record { some = omega arith; inside = k; quiet = record { newline = n; blank = b; gutter = g; reached = l }; outside = e }))
-    (λ (l : m.lay.column.0 < margin). rw (lt-leb margin m.lay.column.0 l) tt)
-    (le_or_lt margin m.lay.column.0)
+    (λ (l : margin ≤ p.lay.column.0).
+    rw (le-leb margin p.lay.column.0 l) (record { there = s; quiet = record { newline = n; blank = b; gutter = g; reached = l }; outside = e }))
+    (λ (l : p.lay.column.0 < margin). rw (lt-leb margin p.lay.column.0 l) tt)
+    (le_or_lt margin p.lay.column.0)
 
-pub ready : (room : List ℕ) (m : Mark) (margin : ℕ) (c : Code) (b : Bool) → b ≡ true → Ahead room m margin c b → Ready room m margin c
-ready room m margin c true e r = r
-ready room m margin c false e r = absurd (false≢true e)
+pub ready : (p : Page) (margin : ℕ) (c : Code) (b : Bool) → b ≡ true → Ahead p margin c b → Ready p margin c
+ready p margin c true e r = r
+ready p margin c false e r = absurd (false≢true e)
 
-module _ (set : Settings) (margin : ℕ) (x : List ℕ) (c : Code) (old : List ℕ) (m : Mark) (at : ℕ) where
-  -- nothing moved
-  pub moves_none : Moves set margin x c old m at old m at
-  moves_none = record { order = omega arith; within = λ l. l; near = omega arith; skip = refl; same = λ p kept. refl }
+-- pages that agree in each part
+pub same_sheet : (a b : GName) (n k : ℕ) (s t : Result State) → a ≡ b → n ≡ k → s ≡ t
+    → (let p : Sheet = record { name = a; size = n; state = s } in p) ≡ (let p : Sheet = record { name = b; size = k; state = t } in p)
+same_sheet a b n k s t e f g = rw (e, f, g) refl
 
+module _ (set : Settings) (margin : ℕ) (x : List ℕ) (c : Code) (old : Page) (at : ℕ) where
   -- words followed
-  pub moves_on : Ready old m margin c → {n : GName} (t : Text) (col at' : ℕ) → LineAdvance set x (lent n old m.len.0) m.lay.column.0 at (text_of t) col at'
-      → (room : List ℕ) (k : ℕ) → seen room k ≡ (text_of t).shown
-      → Moves set margin x c old m at room (record { len = record { 0 = k }; lay = with_column col m.lay }) at'
-  unfolding shown
-  moves_on r t col at' o room k f = record {
+  pub moves_on : Ready old margin c → (new : Page) (at' : ℕ) → LineAdvance set x (text_in old) old.lay.column.0 at (text_in new) new.lay.column.0 at'
+      → new.lay ≡ with_column new.lay.column.0 old.lay → Moves set margin x c old at new at'
+  moves_on r new at' o e = record {
     order = o.words.order;
     within = o.words.within;
     near = o.near;
-    skip = refl;
+    skip = ap (λ (l : Lay). l.skip) e;
     same = λ p kept.
-        rw (r.outside, f)
-        (o.words.same (record { margin = margin; start = p }) kept m.lay (record { quiet = r.quiet; here = refl }));
+        same_sheet _ _ _ _ _ _ o.words.name o.words.size
+        (rw (r.outside, o.words.size, e)
+        (o.words.same (record { margin = margin; start = p }) kept old.lay (record { quiet = r.quiet; here = refl })));
   }
-
--- where a word follows, something stands in the room
-pub some_there : (n : GName) (room : List ℕ) (m : Mark) (margin : ℕ) (c : Code) → Ready room m margin c → Some (lent n room m.len.0)
-some_there n room m margin c r = record {
-  inside = subst Given (sym (seen_in room m.len.0 r.inside)) tt;
-  some = λ o e.
-      let g = seen_given (lent n room m.len.0) n room o m.len.0 refl e in
-      rw (← g.1) (omega (arith, length-take-le m.len.0 room r.inside, r.some));
-}

@@ -1,6 +1,6 @@
 -- What the functions of this crate promise each other and the console's walk; no rule of 01 stands here.
 use Rattle.std.specs.Prelude.{ℕ, ◌+◌, ◌-◌, ◌≤◌, ◌<◌, ◌≡◌, Bool, true, false, List, length}
-use Rattle.base.specs.Result.{Result, gives, ◌>>=◌}
+use Rattle.base.specs.Result.{Result, gives}
 use Rattle.room.specs.Lent.{Given, Lent}
 use Rattle.splitter.specs.Split.{Placed}
 use Rattle.splitter.specs.Answers.{placed_from, cursor}
@@ -11,8 +11,8 @@ use Rattle.words.specs.InnerAdvance as words
 use Rattle.console_rules.specs.Console.{State, with_column, measure_of, body_chunk}
 use Rattle.console_rules.specs.declared.Settings.{Settings}
 use Rattle.console_rules.specs.declared.Lay.{Lay}
-use Rattle.console_chunks.specs.InnerShown.{state_at}
-use Rattle.console_chunks.specs.declared.Mark.{Mark}
+use Rattle.console_chunks.specs.InnerShown.{text_in, page_of, ruled}
+use Rattle.console_chunks.specs.declared.Page.{Page}
 
 -- the chunks of a body that starts at a place, from a cursor on, as the console writes them
 abbrev pub console_from : Settings → ℕ → ℕ → ℕ → List ℕ → ℕ → Code → State → Result State
@@ -54,21 +54,20 @@ pub record LineAdvance (set : Settings) (x : List ℕ) (old : Lent) (col at : �
   pub words : words.Advance (full_of set) (rule_of set) (Plain col) (with_column col') x old at new at'
 
 -- a word would follow at once
-pub record Ready (room : List ℕ) (m : Mark) (margin : ℕ) (c : Code) : Type 0 where
-  pub some : 0 < m.len.0
-  pub inside : m.len.0 ≤ length room
-  pub quiet : Quiet margin m.lay
+pub record Ready (p : Page) (margin : ℕ) (c : Code) : Type 0 where
+  pub there : Some (text_in p)
+  pub quiet : Quiet margin p.lay
   pub outside : c ≡ code.No
 
-abbrev pub Ahead : List ℕ → Mark → ℕ → Code → Bool → Type 0
-Ahead room m margin c true = Ready room m margin c
-Ahead room m margin c false = Unit {0}
+abbrev pub Ahead : Page → ℕ → Code → Bool → Type 0
+Ahead p margin c true = Ready p margin c
+Ahead p margin c false = Unit {0}
 
 -- The chunks from the new place on give what those from the old one did; the column went on by as much as the place at most.
-pub record Moves (set : Settings) (margin : ℕ) (x : List ℕ) (c : Code) (old : List ℕ) (m : Mark) (at : ℕ) (new : List ℕ) (m' : Mark) (at' : ℕ) : Type 0 where
+pub record Moves (set : Settings) (margin : ℕ) (x : List ℕ) (c : Code) (old : Page) (at : ℕ) (new : Page) (at' : ℕ) : Type 0 where
   pub order : at ≤ at'
   pub within : at ≤ length x + 1 → at' ≤ length x + 1
-  pub near : m'.lay.column.0 ≤ m.lay.column.0 + (at' - at)
-  pub skip : m'.lay.skip ≡ m.lay.skip
+  pub near : new.lay.column.0 ≤ old.lay.column.0 + (at' - at)
+  pub skip : new.lay.skip ≡ old.lay.skip
   pub same : (start : ℕ) (kept : List ℕ)
-      → (state_at new kept m' >>= console_from set (length old) margin start x at' c) ≡ (state_at old kept m >>= console_from set (length old) margin start x at c)
+      → ruled (λ n. console_from set n margin start x at' c) (page_of new kept) ≡ ruled (λ n. console_from set n margin start x at c) (page_of old kept)

@@ -1,34 +1,20 @@
 -- The open blocks as an array of blocks holds them, by their indices. Assumes nothing.
-use Rattle.document.proofs.Names.{ℕ, ◌+◌, ◌-◌, ◌≤◌, ◌<◌, ◌≡◌, refl, sym, ap, ap₂, ◌∙◌, List, length, take, set, get_or, length-take-le, arith, le-ltb}
+use Rattle.document.proofs.Names.{ℕ, ◌+◌, ◌-◌, ◌≤◌, ◌<◌, ◌≡◌, refl, sym, ap, ap₂, ◌∙◌, List, length, take, set, get_or, length-take-le, arith, le_or_lt}
 use Rattle.document.proofs.Names.{push-take, pop_take, index, Block}
 use Rattle.document.proofs.Opening.{innermost-none, innermost-last}
 use Rattle.base.specs.Stack.{top, pushed, popped}
 use Rattle.records.specs.contracts.Block.{the_type}
-use Rattle.records.specs.declared.Block.TheVariants as block
-use Rattle.std.specs.Prelude.{map}
-use Rattle.std.proofs.lemmas.List.{length-map, get_or-map, map-set}
+use Rattle.records.proofs.Tables.{same_block}
+use Rattle.std.specs.Prelude.{map, Option, Some, None}
+use Rattle.std.specs.Option.{option_copied, option_eq}
+use Rattle.std.specs.List.{slice_get}
+use Rattle.std.specs.Borrow.{Bor}
+use Rattle.std.proofs.lemmas.Option.{none-some, slice_get-get_or, slice_get_within, get_or_from_slice_get}
+use mathlib.Core.Logic.{⊎_elim}
+use Rattle.std.proofs.lemmas.List.{length-map, get_or-map, get_or-take, map-set}
 use denote.Enum.Bare.{sameb}
-use denote.Enum.Declared.{tag_of}
-use lib.Dec.{eqb, leb, ltb}
+use lib.Dec.{eqb, leb}
 use mathlib.Core.Bool.{◌&&◌}
-
-tagged : (b : Block) → tag_of the_type b ≡ index b
-tagged block.Header = refl
-tagged block.Section2 = refl
-tagged block.Section3 = refl
-tagged block.Section4 = refl
-tagged block.ItemTerm = refl
-tagged block.ItemBody = refl
-tagged block.DefinitionList = refl
-tagged block.Block = refl
-tagged block.InlineBlock = refl
-tagged block.TermRef = refl
-tagged block.Meta = refl
-tagged block.Mono = refl
-
--- `==` of two blocks is that of their indices
-pub same_block : (a b : Block) → sameb the_type a b ≡ eqb (index a) (index b)
-same_block a b = ap₂ eqb (tagged a) (tagged b)
 
 module _ (blocks : List Block) (depth : ℕ) (h : depth ≤ length blocks) where
   room : depth ≤ length (map index blocks)
@@ -45,13 +31,23 @@ module _ (blocks : List Block) (depth : ℕ) (h : depth ≤ length blocks) where
   pub held_pop : take (depth - 1) (map index blocks) ≡ popped (take depth (map index blocks))
   held_pop = pop_take (map index blocks) depth room
 
-  pub held_none : (i : ℕ) → depth ≤ 0 → ltb 0 depth ≡ leb 1 (length (take depth (map index blocks))) && eqb (top (take depth (map index blocks))) i
-  held_none i z = le-ltb 0 depth z ∙ innermost-none (map index blocks) depth i room (omega arith)
-
-  pub held_last : (b d : Block) → 0 < depth
-      → sameb the_type (get_or blocks (depth - 1) d) b
-      ≡ leb 1 (length (take depth (map index blocks))) && eqb (top (take depth (map index blocks))) (index b)
-  held_last b d l =
-      same_block (get_or blocks (depth - 1) d) b
-      ∙ ap (λ (n : ℕ). eqb n (index b)) (sym (get_or-map index blocks (depth - 1) d 0 (omega arith)))
-      ∙ innermost-last (map index blocks) depth (index b) room (omega arith)
+  -- the innermost, as `last` gives it
+  pub held_last : (r : Option (Bor Block)) (b : Bor Block)
+      → option_copied r ≡ slice_get (take depth blocks) (length (take depth blocks) - 1)
+      → option_eq (λ x y. sameb the_type x.now y.now) r (Some b)
+      ≡ leb 1 (length (take depth (map index blocks))) && eqb (top (take depth (map index blocks))) (index b.now)
+  held_last None b e =
+      ⊎_elim
+      (λ (l : 1 ≤ depth). absurd (none-some _ (e ∙ slice_get-get_or (take depth blocks) _ b.now (omega (arith, l, length-take-le depth blocks h)))))
+      (λ (z : depth < 1). innermost-none (map index blocks) depth (index b.now) room z) (le_or_lt 1 depth)
+  held_last (Some x) b e =
+      let k = length-take-le depth blocks h in
+      let l : depth - 1 < depth = omega (arith, k, slice_get_within (take depth blocks) _ x.now (sym e)) in
+      let g : get_or blocks (depth - 1) b.now ≡ x.now =
+      sym (get_or-take depth blocks (depth - 1) b.now l)
+      ∙ ap (λ (n : ℕ). get_or (take depth blocks) (n - 1) b.now) (sym k)
+      ∙ get_or_from_slice_get (take depth blocks) (length (take depth blocks) - 1) x.now b.now (sym e) in
+      same_block x.now b.now
+      ∙ ap (λ (y : Block). eqb (index y) (index b.now)) (sym g)
+      ∙ ap (λ (n : ℕ). eqb n (index b.now)) (sym (get_or-map index blocks (depth - 1) b.now 0 (omega (arith, l))))
+      ∙ innermost-last (map index blocks) depth (index b.now) room (omega (arith, l))

@@ -5,6 +5,7 @@ pub use Rattle.base.proofs.Stack.{length-popped, length-pushed, pop_take, push-t
 pub use Rattle.base.specs.Bytes.{part}
 pub use Rattle.base.specs.Result.{Result, gives, refused}
 unfoldable pub use Rattle.base.specs.Result.{◌>>=◌}
+unfoldable pub use Rattle.document.specs.Answers.{checked}
 unfoldable pub use Rattle.document.specs.Document.{accept, bodiless, check, closed, closes, first, open_blocks, opens, reads, short}
 pub use Rattle.records.proofs.Tokens.{drop_past, next_at}
 pub use Rattle.records.specs.Answers.{Read}

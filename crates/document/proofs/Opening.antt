@@ -1,10 +1,11 @@
 -- The refusals of one record, as the code finds them on a stack kept in an array. Assumes nothing.
-use Rattle.document.proofs.Names.{ℕ, suc, ◌-◌, ◌≤◌, ◌<◌, ◌≡◌, sym, ap, ◌∙◌, true, false, List, [], length, take, drop, get_or}
-use Rattle.document.proofs.Names.{length-take-le, take_all, drop-cons, arith, le-leb, lt-leb, le-ltb, lt-ltb, ne_eqb}
+use Rattle.document.proofs.Names.{ℕ, suc, ◌-◌, ◌≤◌, ◌<◌, ◌≡◌, refl, sym, ap, ◌∙◌, true, false, List, [], ◌∷◌, length, take, drop, get_or}
+use Rattle.document.proofs.Names.{length-take-le, take_all, arith, le-leb, lt-leb, le-ltb, lt-ltb, ne_eqb, eqb-true, false≢true}
 use Rattle.document.proofs.Names.{part, Result, gives, refused, ◌>>=◌, top-take, Token, index}
-use Rattle.document.proofs.Names.{record_fits, opens, closes, bodiless, accept, first, reads, open_blocks, short, closed, check}
+use Rattle.document.proofs.Names.{record_fits, opens, closes, bodiless, accept, first, reads, open_blocks, short, closed, check, checked}
 use Rattle.document.proofs.Names.{Read, Head, Kind, Style, Block}
 use lib.Dec.{eqb, leb}
+use mathlib.Core.Logic.{◌⊎◌, ⊎_elim}
 use mathlib.Core.Bool.{◌&&◌}
 use Rattle.base.specs.Choice.{when◌then◌else◌}
 use Rattle.base.specs.Stack.{top, pushed, popped}
@@ -15,13 +16,15 @@ use Rattle.records.proofs.Reading.{read-token}
 
 -- 4
 
-pub body-none : (s : List ℕ) (a e p : ℕ) (r : Result (List ℕ)) → e ≤ a → bodiless p (part s a e) r ≡ r
+pub body-none : (p : ℕ) (body : List ℕ) (r : Result (List ℕ)) → true ≡ eqb (length body) 0 → bodiless p body r ≡ r
 unfolding bodiless
-body-none s a e p r h = let z : e - a ≡ 0 = omega arith in rw z
+body-none p [] r h = refl
+body-none p (b ∷ body) r h = let z : ⊥ = omega (arith, eqb-true (suc (length body)) 0 (sym h)) in absurd z
 
-pub body-some : (s : List ℕ) (a e p : ℕ) (r : Result (List ℕ)) → a < e → e ≤ length s → bodiless p (part s a e) r ≡ refused 4 p
+pub body-some : (p : ℕ) (body : List ℕ) (r : Result (List ℕ)) → false ≡ eqb (length body) 0 → bodiless p body r ≡ refused 4 p
 unfolding bodiless
-body-some s a e p r h l = let z : e - a ≡ suc (e - a - 1) = omega arith in rw (z, drop-cons s a 0 (omega arith))
+body-some p [] r h = absurd (false≢true h)
+body-some p (b ∷ body) r h = refl
 
 -- 6 and 7
 
@@ -65,22 +68,23 @@ module _ {k : Kind} (p : ℕ) (body stack : List ℕ) where
   unfolding accept when◌then◌else◌
   accept-other e v = rw (e, v)
 
-module _ {k : Kind} (p : ℕ) (s : List ℕ) (a e : ℕ) (stack : List ℕ) where
-  pub accept-start : {b : Block} → k ≡ kind.Start b → e ≤ a → opens p (index b) stack ≡ accept p k (part s a e) stack
+  pub accept-start : {b : Block} → k ≡ kind.Start b → true ≡ eqb (length body) 0 → opens p (index b) stack ≡ accept p k body stack
   unfolding accept
-  accept-start {b} q h = rw q (sym (body-none s a e p (opens p (index b) stack) h))
+  accept-start {b} q h = rw q (sym (body-none p body (opens p (index b) stack) h))
 
-  pub accept-end : {b : Block} → k ≡ kind.End b → e ≤ a → closes p (index b) stack ≡ accept p k (part s a e) stack
+  pub accept-end : {b : Block} → k ≡ kind.End b → true ≡ eqb (length body) 0 → closes p (index b) stack ≡ accept p k body stack
   unfolding accept
-  accept-end {b} q h = rw q (sym (body-none s a e p (closes p (index b) stack) h))
+  accept-end {b} q h = rw q (sym (body-none p body (closes p (index b) stack) h))
 
-  pub accept-start-body : {b : Block} → k ≡ kind.Start b → a < e → e ≤ length s → refused 4 p ≡ accept p k (part s a e) stack
+  -- .. of either kind
+  pub accept-body : ((b : Block) × (k ≡ kind.Start b)) ⊎ ((b : Block) × (k ≡ kind.End b)) → false ≡ eqb (length body) 0
+      → refused 4 p ≡ accept p k body stack
   unfolding accept
-  accept-start-body {b} q h l = rw q (sym (body-some s a e p (opens p (index b) stack) h l))
-
-  pub accept-end-body : {b : Block} → k ≡ kind.End b → a < e → e ≤ length s → refused 4 p ≡ accept p k (part s a e) stack
-  unfolding accept
-  accept-end-body {b} q h l = rw q (sym (body-some s a e p (closes p (index b) stack) h l))
+  accept-body q h =
+      ⊎_elim
+      (λ (s : (b : Block) × (k ≡ kind.Start b)). rw s.1 (sym (body-some p body (opens p (index s.0) stack) h)))
+      (λ (e : (b : Block) × (k ≡ kind.End b)). rw e.1 (sym (body-some p body (closes p (index e.0) stack) h)))
+      q
 
 -- a turn of the loop over the records
 
@@ -90,16 +94,16 @@ module _ (s : List ℕ) (at : ℕ) (stack : List ℕ) (l : at < length s) where
   reads-cut e = reads_at_refused s at stack 2 at l (rw e)
 
   module _ {h : Head} (r : Read s at h) (f : record_fits (drop at s) ≡ true) where
-    pub first_read : first at stack (drop at s) ≡ accept at h.kind (part s h.start h.stop) stack
+    pub first_read : first at stack (drop at s) ≡ accept at h.kind (part s h.start h.next) stack
     unfolding first when◌then◌else◌
     first_read = rw f (ap (λ (t : Token). accept at t.kind t.body stack) (read-token r l))
 
-    pub reads_on : {after : List ℕ} → accept at h.kind (part s h.start h.stop) stack ≡ gives after
+    pub reads_on : {after : List ℕ} → accept at h.kind (part s h.start h.next) stack ≡ gives after
         → reads at 0 stack (drop at s) ≡ reads h.next 0 after (drop h.next s)
     reads_on {after} e =
         reads_at_gives s at stack after l (first_read ∙ e) ∙ ap (λ (n : ℕ). reads n 0 after (drop n s)) (sym (r.whole l f).1)
 
-    pub reads-refused : {n p : ℕ} → accept at h.kind (part s h.start h.stop) stack ≡ refused n p → reads at 0 stack (drop at s) ≡ refused n p
+    pub reads-refused : {n p : ℕ} → accept at h.kind (part s h.start h.next) stack ≡ refused n p → reads at 0 stack (drop at s) ≡ refused n p
     reads-refused {n} {p} e = reads_at_refused s at stack n p l (first_read ∙ e)
 
 -- 1 and 8
@@ -125,3 +129,14 @@ module _ (s : List ℕ) (h : length s ≤ 32768) where
     pub check-left : (length stack ≡ 0 → ⊥) → refused 8 (length s) ≡ check s
     unfolding ◌>>=◌ closed when◌then◌else◌
     check-left n = sym (check_open e ∙ rw (ne_eqb (length stack) 0 n))
+
+-- a document and its check
+
+module _ (s : List ℕ) where
+  pub checked-refused : {n p : ℕ} → refused n p ≡ check s → refused n p ≡ checked s
+  unfolding checked ◌>>=◌
+  checked-refused e = ap (λ (r : Result (List ℕ)). r >>= λ _. gives s) e
+
+  pub checked-gives : {stack : List ℕ} → gives stack ≡ check s → gives s ≡ checked s
+  unfolding checked ◌>>=◌
+  checked-gives e = ap (λ (r : Result (List ℕ)). r >>= λ _. gives s) e

@@ -3,13 +3,14 @@
 use Rattle.document.proofs.Names.{ℕ, zero, suc, ◌+◌, ◌-◌, ◌≤◌, ◌<◌, ◌≡◌, refl, sym, ap, ◌∙◌, subst, true, false, false≢true, List, [], ◌∷◌, length}
 use Rattle.document.proofs.Names.{take, drop, get_or, set, length-drop, length-take-le, arith, leb-true, leb-false, ltb-false, eqb-true, part, Result}
 use Rattle.document.proofs.Names.{gives, refused, and_left, and_right, length-pushed, length-popped, push-take, pop_take, top-take, Token, index}
-use Rattle.document.proofs.Names.{size, record_fits, opens, closes, bodiless, accept, first, reads, open_blocks, short, closed, check, refusal_number}
+use Rattle.document.proofs.Names.{size, record_fits, opens, closes, bodiless, accept, first, reads, open_blocks, short, closed, check, checked, ◌>>=◌, refusal_number}
 use Rattle.document.proofs.Names.{refusal_place, Read, Kind, Style, Block, Head, Refusal, next_at}
 use lib.Dec.{leb, ltb, eqb}
 use Rattle.base.specs.Stack.{top, pushed, popped}
 use Rattle.utf8.proofs.Text.{Valid}
 use Rattle.records.specs.Records.{token_at, tokens, is_text}
 use Rattle.document.specs.Answers.{verdict_of}
+use Rattle.refusal.specs.Answers.{answered}
 use Rattle.records.specs.declared.Kind.TheVariants as kind
 use Rattle.std.specs.Prelude.{Result as Answer, Ok, Err}
 use Rattle.base.proofs.Results.{All, all_given, refused-gives, gives_same, bind_gives, if_gives, else_gives}
@@ -134,6 +135,23 @@ module _ {A : Type 0} (x : A) {c : Answer Unit Refusal} {r : Result A} where
   pub verdict_refused : {a : Refusal} → verdict_of c x ≡ r → c ≡ Err a → r ≡ refused (refusal_number a) (refusal_place a)
   verdict_refused e f = sym e ∙ ap (λ (c : Answer Unit Refusal). verdict_of c x) f
 
+-- what stands where the check gives a document, or refuses it
+given_refused : (m : Result (List ℕ)) (s : List ℕ) {n p : ℕ} → (m >>= λ _. gives s) ≡ refused n p → m ≡ refused n p
+unfolding ◌>>=◌
+given_refused (gives a) s e = absurd (refused-gives (sym e))
+given_refused (refused n p) s e = e
+
+module _ (s : List ℕ) {c : Answer (List ℕ) Refusal} where
+  pub of_gives : {x : List ℕ} → answered c ≡ checked s → c ≡ Ok x → (check s ≡ gives []) × (x ≡ s)
+  unfolding checked
+  of_gives e f =
+      let g = bind_gives (check s) (λ _. gives s) _ (sym e ∙ ap answered f) in
+      (g.1 ∙ ap gives (check-gives s g.0 g.1).2, sym (gives_same g.2))
+
+  pub of_refused : {a : Refusal} → answered c ≡ checked s → c ≡ Err a → check s ≡ refused (refusal_number a) (refusal_place a)
+  unfolding checked
+  of_refused e f = given_refused (check s) s (sym e ∙ ap answered f)
+
 -- Each record on the way
 
 -- At a place of a document these blocks are open, at most 32, and from there on nothing is refused; `left` are open at the end.
@@ -172,11 +190,11 @@ module _ {left document : List ℕ} {at : ℕ} {stack : List ℕ} {h : Head} (o 
   pub open_whole : (h.start ≡ at + 6) × (h.next ≡ next_at document at)
   open_whole = r.whole l open_fits
 
-  accepted : Sane h.kind (part document h.start h.stop) × Allowed h.kind stack × ((passed o l).0 ≡ open_after h.kind stack)
+  accepted : Sane h.kind (part document h.start h.next) × Allowed h.kind stack × ((passed o l).0 ≡ open_after h.kind stack)
   accepted =
-      accept-gives at h.kind (part document h.start h.stop) stack (passed o l).0 (sym (first_read document at stack l r open_fits) ∙ (passed o l).1)
+      accept-gives at h.kind (part document h.start h.next) stack (passed o l).0 (sym (first_read document at stack l r open_fits) ∙ (passed o l).1)
 
-  pub open_sane_here : Sane h.kind (part document h.start h.stop)
+  pub open_sane_here : Sane h.kind (part document h.start h.next)
   open_sane_here = accepted.0
 
   pub open_allowed : Allowed h.kind stack
@@ -198,21 +216,21 @@ module _ {left document : List ℕ} {at : ℕ} {stack : List ℕ} {h : Head} (o 
       few kind.Unknown a = o.shallow
 
   -- a block record has no body: the next record stands where that would start
-  pub open_empty : is_text h.kind ≡ false → part document h.start h.stop ≡ []
-  open_empty e = sane_empty h.kind (part document h.start h.stop) open_sane_here e
+  pub open_empty : is_text h.kind ≡ false → part document h.start h.next ≡ []
+  open_empty e = sane_empty h.kind (part document h.start h.next) open_sane_here e
 
   pub open_bare : is_text h.kind ≡ false → h.start ≡ h.next
   open_bare e =
-      let n = length-take-le (h.stop - h.start) (drop h.start document) (omega (arith, length-drop h.start document, r.high, r.ends)) in
-      omega (arith, n, ap length (open_empty e), r.order, r.ends)
+      let n = length-take-le (h.next - h.start) (drop h.start document) (omega (arith, length-drop h.start document, r.high)) in
+      omega (arith, n, ap length (open_empty e), r.order)
 
   -- by the kind that the code found
 
   pub open_known : h.kind ≡ kind.Unknown → ⊥
-  open_known e = subst (λ (k : Kind). Sane k (part document h.start h.stop)) e open_sane_here
+  open_known e = subst (λ (k : Kind). Sane k (part document h.start h.next)) e open_sane_here
 
-  pub text_valid : {st : Style} → h.kind ≡ kind.Text st → Valid (part document h.start h.stop)
-  text_valid e = subst (λ (k : Kind). Sane k (part document h.start h.stop)) e open_sane_here
+  pub text_valid : {st : Style} → h.kind ≡ kind.Text st → Valid (part document h.start h.next)
+  text_valid e = subst (λ (k : Kind). Sane k (part document h.start h.next)) e open_sane_here
 
   pub text-next : {st : Style} → h.kind ≡ kind.Text st → OpenAt left document h.next stack
   text-next e = subst (λ (k : Kind). OpenAt left document h.next (open_after k stack)) e open_next

@@ -9,21 +9,21 @@ use Rattle.draft.proofs.Names.{Calls, Answer, Ok, Err, IsErrAnd, answered}
 use Rattle.records.specs.declared.Kind.TheVariants as kind
 use Rattle.refusal.specs.Numbers.{refusal_number, refusal_place}
 use Rattle.std.proofs.lemmas.Result.{err_from_is_err_and}
-use Rattle.draft.proofs.Packing.{opens-same}
+use borrow.Author.Tests.{leb-true}
+use Rattle.base.proofs.Choice.{and_left, and_right}
+use Rattle.draft.proofs.Names.{leb, eqb, eqb-true, ◌&&◌}
 use Rattle.draft.proofs.Places.{placed}
 use Rattle.draft.proofs.Holding.{so_far_held, of_written, of_added, opens-on, closes-on, opens-given, closes-given}
 
 -- One more record
 
 module _ {d r : Draft} {k : Kind} {next : ℕ} where
-  pub turned-text : {s : Style} → k ≡ kind.Text s → r.length ≡ next → r.last ≡ d.length → r.style ≡ number s → r.depth ≡ d.depth
-      → r.inner ≡ d.inner → r.outer ≡ d.outer → Turned d k next r
-  turned-text e a b c f g h = record {
+  pub turned-text : {s : Style} → k ≡ kind.Text s → r.length ≡ next → r.last ≡ d.length → r.style ≡ number s → r.blocks ≡ d.blocks → Turned d k next r
+  turned-text e a b c f = record {
     long = a;
     last = b;
     style = c ∙ ap style_in (sym e);
-    opens = λ p body stack left t o.
-        subst (Opens r) (sym ((accept-gives p k body stack left t).2 ∙ ap (λ (k : Kind). open_after k stack) e)) (opens-same o f g h);
+    opens = λ p body stack left t o. rw (f, (accept-gives p k body stack left t).2 ∙ ap (λ (k : Kind). open_after k stack) e) o;
   }
 
   pub turned_unknown : k ≡ kind.Unknown → r.length ≡ next → r.last ≡ d.length → r.style ≡ 0 → Turned d k next r
@@ -34,27 +34,27 @@ module _ {d r : Draft} {k : Kind} {next : ℕ} where
     opens = λ p body stack left t o. absurd (subst (λ (k : Kind). Sane k body) e (accept-gives p k body stack left t).0);
   }
 
-  -- `m` has the place of the record, and the blocks that were open before it
-  module _ {m : Draft} (q : (r.length ≡ next) × (r.last ≡ d.length) × (r.style ≡ 0)) (same : (stack : List ℕ) → Opens d stack → Opens m stack) where
-    pub turned-start : {b : Block} → k ≡ kind.Start b → ((stack : List ℕ) → length stack < 32 → Opens m stack → Opens r (pushed (index b) stack))
-        → Turned d k next r
+  module _ (a : r.length ≡ next) (c : r.last ≡ d.length) (z : r.style ≡ 0) where
+    pub turned-start : {b : Block} → k ≡ kind.Start b
+        → ((stack : List ℕ) → length stack < 32 → Opens d.blocks stack → Opens r.blocks (pushed (index b) stack)) → Turned d k next r
     turned-start e f = record {
-      long = q.0;
-      last = q.1;
-      style = q.2 ∙ ap style_in (sym e);
+      long = a;
+      last = c;
+      style = z ∙ ap style_in (sym e);
       opens = λ p body stack left t o.
           let g = accept-gives p k body stack left t in
-          subst (Opens r) (sym (g.2 ∙ ap (λ (k : Kind). open_after k stack) e)) (f stack (subst (λ (k : Kind). Allowed k stack) e g.1) (same stack o));
+          rw (g.2 ∙ ap (λ (k : Kind). open_after k stack) e) (f stack (subst (λ (k : Kind). Allowed k stack) e g.1) o);
     }
 
-    pub turned-end : {b : Block} → k ≡ kind.End b → ((stack : List ℕ) → 1 ≤ length stack → Opens m stack → Opens r (popped stack)) → Turned d k next r
+    pub turned-end : {b : Block} → k ≡ kind.End b → ((stack : List ℕ) → 1 ≤ length stack → Opens d.blocks stack → Opens r.blocks (popped stack))
+        → Turned d k next r
     turned-end e f = record {
-      long = q.0;
-      last = q.1;
-      style = q.2 ∙ ap style_in (sym e);
+      long = a;
+      last = c;
+      style = z ∙ ap style_in (sym e);
       opens = λ p body stack left t o.
           let g = accept-gives p k body stack left t in
-          subst (Opens r) (sym (g.2 ∙ ap (λ (k : Kind). open_after k stack) e)) (f stack (subst (λ (k : Kind). Allowed k stack) e g.1).0 (same stack o));
+          rw (g.2 ∙ ap (λ (k : Kind). open_after k stack) e) (f stack (subst (λ (k : Kind). Allowed k stack) e g.1).0 o);
     }
 
 -- A check
@@ -91,6 +91,16 @@ pub call-refused : (room : List ℕ) (n : ℕ) {ready : Type 0} {s : Answer Draf
 call-refused room n {a} rule e k q =
     calls_refused room a (subst (λ (s : Answer Draft Refusal). Of01 (drafted_as s)) e k)
     (λ y. stops rule (so_far room n) (subst (Resumed room n) e (q y)))
+
+-- what a call promises by the draft that stands for another
+pub settled-calls : {room new : List ℕ} {n : ℕ} {e : Draft} {ready : Type 0} {r : Answer Draft Refusal} {s : Answer Draft Refusal}
+    (rule : ℕ → Result (List ℕ)) → s ≡ Ok e → (ready → Resumed room n s) → Calls (Holds e room) (rule e.length) room new r → Calls ready (rule n) room new r
+settled-calls {room} {new} {n} {e} {r = r} rule i f c = record {
+  numbers = c.numbers;
+  does = λ y.
+      let q : (e.length ≡ n) × Holds e room = subst (Resumed room n) i (f y) in
+      subst (λ (m : ℕ). Does (rule m) room new r) q.0 (c.does q.1);
+}
 
 measured-gives : {n : ℕ} (rule : Result (List ℕ)) → gives n ≡ measured rule → (new : List ℕ) × (rule ≡ gives new) × (n ≡ length new)
 measured-gives (gives new) e = (new, refl, gives_same e)
@@ -133,13 +143,17 @@ module _ {d : Draft} {room : List ℕ} (st : Style) (x : List ℕ) where
         follows_same (ap₂ (λ (i j : ℕ). fit room (longer (take d.length room) i j x)) ea ek ∙ goes o v) (p (i, o.inside, o.small))
 
     pub text-given : {n : ℕ} → b ≡ Ok n → Calls (Holds d room) (writes room d.length st x) room new
-        (Ok (record { length = n; last = at; style = k; depth = d.depth; inner = d.inner; outer = d.outer }))
-    text-given e = built_length e text-said refl (λ o y f l. of_written st x y o v (goes o v ∙ f) l ea ek refl refl refl)
+        (Ok (record { length = n; last = at; style = k; blocks = d.blocks }))
+    text-given e = built_length e text-said refl (λ o y f l. of_written st x y o v (goes o v ∙ f) l ea ek refl)
+
+-- what the test of the innermost block says
+pub innermost-is : {depth n m : ℕ} → (leb 1 depth && eqb n m) ≡ true → (1 ≤ depth) × (n ≡ m)
+innermost-is {depth} {n} {m} e = (leb-true 1 depth (and_left (leb 1 depth) _ e), eqb-true n m (and_right (leb 1 depth) _ e))
 
 -- a block's record
 module _ {d : Draft} {room : List ℕ} (b : Block) {new : List ℕ} {k : ℕ} {c : Answer ℕ Refusal}
     (p : d.length ≤ length room → Follows (fit room (take d.length room ++ stored k [])) room new c) where
-  module _ (h : d.depth < 32) (e : k ≡ 0x0100 + index b) where
+  module _ (h : d.blocks.depth < 32) (e : k ≡ 0x0100 + index b) where
     pub start-said : Holds d room → Follows (opens_block room d.length b) room new c
     start-said o = follows_same (ap (λ (i : ℕ). fit room (take d.length room ++ stored i [])) e ∙ sym (opens-given o b h)) (p o.inside)
 
@@ -149,7 +163,7 @@ module _ {d : Draft} {room : List ℕ} (b : Block) {new : List ℕ} {k : ℕ} {c
         built_length f start-said t.long (λ o x g l.
         of_added (0x0100 + index b) (kind.Start b) x o (omega (arith, index_small b)) (kind_opens b) (sym (opens-on o b) ∙ g) l t)
 
-  module _ (h : 1 ≤ d.depth) (q : d.inner % 16 ≡ index b) (e : k ≡ 0x0200 + index b) where
+  module _ (h : 1 ≤ d.blocks.depth) (q : d.blocks.inner % 16 ≡ index b) (e : k ≡ 0x0200 + index b) where
     pub end-said : Holds d room → Follows (closes_block room d.length b) room new c
     end-said o = follows_same (ap (λ (i : ℕ). fit room (take d.length room ++ stored i [])) e ∙ sym (closes-given o b h q)) (p o.inside)
 

@@ -1,23 +1,25 @@
 -- A draft after one more record, and after a call. Assumes nothing.
 use Rattle.draft.proofs.Names.{ℕ, suc, ◌+◌, ◌-◌, ◌%◌, ◌≤◌, ◌<◌, ◌≡◌, refl, sym, ap, ap₂, ◌∙◌, subst, true, false, ◌&&◌, List, [], ◌∷◌, ◌++◌, leb, eqb}
 use Rattle.draft.proofs.Names.{length, take, drop, length-append, length-drop, drop_of_length-le, length-take-le, take-add, take_all, take_at}
-use Rattle.draft.proofs.Names.{drop_at, arith, eq-eqb, ne_eqb, le-leb, lt-leb, Result, gives, refused, ◌>>=◌, top, pushed, popped, if_true, if_false}
+use Rattle.draft.proofs.Names.{drop_at, arith, eq-eqb, le-leb, lt-leb, Result, gives, refused, ◌>>=◌, top, pushed, popped, if_true, if_false}
 use Rattle.draft.proofs.Names.{and_both, bind_gives, gives_same, Token, token_at, size, number, index, kind_of, stored, text, start, end, Style, Block}
 use Rattle.draft.proofs.Names.{Kind, fits_room, read-token, kind_style, opens, closes, accept, first, reads, open_blocks, first_gives, utf8, fit, add}
 use Rattle.draft.proofs.Names.{writes, opens_block, closes_block, kept, longer, Accepted, length-stored, SoFar, so_far-given, so_far-on, so_far_in}
-use Rattle.draft.proofs.Names.{writes_in, fit_gives, after_write, style_in, one_record, Last, none, stands, Opens, Of, Holds, text_at, Turned, Draft}
+use Rattle.draft.proofs.Names.{writes_in, fit_gives, after_write, style_in, one_record, Last, none, stands, Of, Holds, text_at, Turned, Draft}
 use mathlib.Core.List.{append-nil}
+use mathlib.Core.Logic.{⊎_elim}
+use Rattle.base.proofs.Choice.{le_or_lt}
 use Rattle.records.specs.Answers.{Read}
 use Rattle.records.specs.declared.Head.{Head}
 use Rattle.records.specs.declared.Kind.TheVariants as kind
 use Rattle.records.proofs.Tokens.{next_at}
 use Rattle.records.specs.Records.{tokens_from}
-use Rattle.buffer.proofs.Taking.{Taken, taken, taken_end, none_left}
+use Rattle.records.proofs.Taking.{Taken, taken, taken_end, none_left}
 use Rattle.document.proofs.Refusals.{reads-some, reads_at}
 use Rattle.buffer.proofs.Records.{Holds_kind, Holds-size, number_small, stored-size, stored_kind, same_size, same-token, same_first, reads_before}
 use Rattle.buffer.proofs.Records.{reads-start, reads-finish}
 use Rattle.buffer.proofs.Blocks.{add-refused, add-given}
-use Rattle.draft.proofs.Packing.{opens-length, opens-top, opens-same, opens-none}
+use Rattle.draft.proofs.Packing.{opens-length, opens-top, opens-none}
 use Rattle.draft.proofs.Places.{one_long, placed}
 
 -- One more record
@@ -113,7 +115,12 @@ pub record Found (document : List ℕ) (at : ℕ) (d : Draft) : Type 0 where
 
 -- zeros
 abbrev pub Nothing : Draft
-Nothing = record { length = 0; last = 0; style = 0; depth = 0; inner = 0; outer = 0 }
+Nothing = record { length = 0; last = 0; style = 0; blocks = record { depth = 0; inner = 0; outer = 0 } }
+
+pub default-nothing : (d : Draft)
+    → (d.length ≡ 0) × ((d.last ≡ 0) × ((d.style ≡ 0) × ((d.blocks.depth ≡ 0) × ((d.blocks.inner ≡ 0) × (d.blocks.outer ≡ 0))))) → d ≡ Nothing
+default-nothing d (a, (b, (c, (e, (f, g))))) =
+    λ i. record { length = a i; last = b i; style = c i; blocks = record { depth = e i; inner = f i; outer = g i } }
 
 -- zeros are the draft of a document with no record
 pub of_none : Of Nothing []
@@ -214,10 +221,10 @@ holds_kept room {new} {d} o h =
 -- text was written
 pub of_written : {d r : Draft} {room : List ℕ} (st : Style) (x new : List ℕ) (o : Holds d room) → utf8 x ≡ true
     → fit room (longer (take d.length room) (text_at d st) (number st) x) ≡ gives new
-    → r.length ≡ length new → r.last ≡ text_at d st → r.style ≡ number st → r.depth ≡ d.depth → r.inner ≡ d.inner → r.outer ≡ d.outer
+    → r.length ≡ length new → r.last ≡ text_at d st → r.style ≡ number st → r.blocks ≡ d.blocks
     → Holds r (kept room (gives new))
 unfolding text
-of_written {d} {r} {room} st x new o v e a b c i j k =
+of_written {d} {r} {room} st x new o v e a b c i =
     let s = take d.length room in
     let at = text_at d st in
     let p = placed st o.of in
@@ -235,7 +242,7 @@ of_written {d} {r} {room} st x new o v e a b c i j k =
       long = a;
       stack = f.stack;
       accepted = f.opened;
-      opens = subst (Opens r) (sym z) (opens-same o.of.opens i j k);
+      opens = rw (i, z) o.of.opens;
       last = subst (λ (t : List ℕ). Last t r.last r.style) (sym g.0) (ends_one (take at s) (stored (number st) body) p.before (kind.Text st)
           p.whole (stored_one (number st) body y l) (stored_is (number st) body y l ∙ kind_style st) (b ∙ sym n) c);
     }) (omega (arith, ap length g.0, g.1))
@@ -261,17 +268,17 @@ module _ {d : Draft} {room : List ℕ} (o : Holds d room) (b : Block) where
   unfolding closes_block
   closes-on = so_far-on (so_far_held o) (λ doc stack. add room doc stack (end b))
 
-  deep : length o.of.stack ≡ d.depth
+  deep : length o.of.stack ≡ d.blocks.depth
   deep = opens-length o.of.opens
 
-  pub opens-refused : 32 ≤ d.depth → opens_block room d.length b ≡ refused 7 d.length
+  pub opens-refused : 32 ≤ d.blocks.depth → opens_block room d.length b ≡ refused 7 d.length
   unfolding opens
   opens-refused h =
       opens-on ∙ add-refused room (take d.length room) o.of.stack (start b) 7 d.length
       (ap (λ (p : ℕ). reads p 0 o.of.stack (start b)) (at_end o) ∙ reads-start d.length b o.of.stack
       ∙ if_true _ _ (le-leb 32 (length o.of.stack) (omega (arith, deep))))
 
-  pub opens-given : d.depth < 32 → opens_block room d.length b ≡ fit room (take d.length room ++ stored (0x0100 + index b) [])
+  pub opens-given : d.blocks.depth < 32 → opens_block room d.length b ≡ fit room (take d.length room ++ stored (0x0100 + index b) [])
   unfolding opens start
   opens-given h =
       let p = length (take d.length room) in
@@ -284,15 +291,14 @@ module _ {d : Draft} {room : List ℕ} (o : Holds d room) (b : Block) where
       closes-on ∙ add-refused room (take d.length room) o.of.stack (end b) 6 d.length
       (ap (λ (p : ℕ). reads p 0 o.of.stack (end b)) (at_end o) ∙ reads-finish d.length b o.of.stack ∙ if_false _ _ h)
 
-  pub closes-none : d.depth < 1 → closes_block room d.length b ≡ refused 6 d.length
-  closes-none h = closes-refused (rw (lt-leb 1 (length o.of.stack) (omega (arith, deep))))
+  pub closes-not : (leb 1 d.blocks.depth && eqb (d.blocks.inner % 16) (index b)) ≡ false → closes_block room d.length b ≡ refused 6 d.length
+  closes-not h = ⊎_elim
+      (λ (l : 1 ≤ d.blocks.depth). closes-refused (ap₂ (λ (i j : ℕ). leb 1 i && eqb j (index b)) deep (opens-top o.of.opens l) ∙ h))
+      (λ (l : d.blocks.depth < 1). closes-refused (rw (lt-leb 1 (length o.of.stack) (omega (arith, deep)))))
+      (le_or_lt 1 d.blocks.depth)
 
-  pub closes-other : 1 ≤ d.depth → (d.inner % 16 ≡ index b → ⊥) → closes_block room d.length b ≡ refused 6 d.length
-  closes-other h q =
-      closes-refused (rw (le-leb 1 (length o.of.stack) (omega (arith, deep)))
-      (ne_eqb (top o.of.stack) (index b) (λ e. q (sym (opens-top o.of.opens h) ∙ e))))
-
-  pub closes-given : 1 ≤ d.depth → d.inner % 16 ≡ index b → closes_block room d.length b ≡ fit room (take d.length room ++ stored (0x0200 + index b) [])
+  pub closes-given : 1 ≤ d.blocks.depth → d.blocks.inner % 16 ≡ index b
+      → closes_block room d.length b ≡ fit room (take d.length room ++ stored (0x0200 + index b) [])
   unfolding closes end
   closes-given h q =
       let p = length (take d.length room) in

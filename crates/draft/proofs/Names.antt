@@ -21,6 +21,7 @@ pub use Rattle.draft.specs.Draft.{Calls, Does, Holds, Last, Of, Opens, Resumed, 
 unfoldable pub use Rattle.draft.specs.Draft.{one_record, open_in, plausible}
 pub use Rattle.draft.specs.InnerParts.{Turned, text_at}
 pub use Rattle.draft.specs.declared.Draft.{Draft}
+pub use Rattle.draft.specs.declared.Packed.{Packed}
 pub use Rattle.records.proofs.Reading.{fits_room, read-token}
 pub use Rattle.records.proofs.Tables.{index_small, kind_closes, kind_opens, kind_style}
 pub use Rattle.records.specs.Records.{Token, index, kind_of, little, number}

@@ -1,6 +1,6 @@
 -- The open blocks in a draft's two words. Assumes nothing.
 use Rattle.draft.proofs.Names.{ℕ, zero, suc, ◌+◌, ◌-◌, ◌*◌, ◌/◌, ◌%◌, ◌^◌, ◌≤◌, ◌<◌, ◌≡◌, refl, sym, ap, ap₂, ◌∙◌, subst, List, [], ◌∷◌, ◌++◌, ⊎_elim}
-use Rattle.draft.proofs.Names.{length, get_or, length-append, mod-lt, arith, top, pushed, popped, le_or_lt, open_in, digits, Opens, Draft}
+use Rattle.draft.proofs.Names.{length, get_or, length-append, mod-lt, arith, top, pushed, popped, le_or_lt, open_in, digits, Opens, Packed}
 use lib.Pow.{pow_mono, pow-add}
 use native.Mathlib.Nat.{div-add-mod', mod-eq_of_lt, mul-le-mul_left, mul-le-mul_right}
 use Rattle.base.proofs.Stack.{length-pushed, popped-pushed}
@@ -91,12 +91,12 @@ below : (h x r i : ℕ) → x * h + r ≡ i → i < 16 * h → x < 16
 below h x r i e l =
     ⊎_elim (λ (j : 16 ≤ x). let z : ⊥ = omega (arith, mul-le-mul_right h j) in absurd z) (λ (j : x < 16). j) (le_or_lt 16 x)
 
-module _ {d : Draft} {stack : List ℕ} (o : Opens d stack) where
+module _ {d : Packed} {stack : List ℕ} (o : Opens d stack) where
   pub opens-length : length stack ≡ d.depth
   opens-length = ap length o.blocks ∙ length_open d.depth (digits d)
 
   -- a block is pushed
-  pub opens-more : (b : ℕ) {r : Draft} → b < 16 → length stack < 32 → r.depth ≡ d.depth + 1
+  pub opens-more : (b : ℕ) {r : Packed} → b < 16 → length stack < 32 → r.depth ≡ d.depth + 1
       → r.inner ≡ d.inner % 0x1000_0000_0000_0000 * 16 + b
       → r.outer ≡ d.outer % 0x1000_0000_0000_0000 * 16 + d.inner / 0x1000_0000_0000_0000 → Opens r (pushed b stack)
   opens-more b {r} h l e f g =
@@ -117,12 +117,12 @@ unfolding open_in
 split zero n h = let z : ⊥ = omega arith in absurd z
 split (suc k) n h = let e : k ≡ suc k - 1 = omega arith in ap (λ (m : ℕ). pushed (n % 16) (open_in m (n / 16))) e
 
-module _ {d : Draft} {stack : List ℕ} (o : Opens d stack) (h : 1 ≤ d.depth) where
+module _ {d : Packed} {stack : List ℕ} (o : Opens d stack) (h : 1 ≤ d.depth) where
   pub opens-top : top stack ≡ d.inner % 16
   opens-top = ap top (o.blocks ∙ split d.depth (digits d) h) ∙ top-pushed _ _ ∙ words_low d.inner d.outer
 
   -- it is popped
-  pub opens_less : {r : Draft} → r.depth ≡ d.depth - 1 → r.inner ≡ d.inner / 16 + d.outer % 16 * 0x1000_0000_0000_0000 → r.outer ≡ d.outer / 16
+  pub opens_less : {r : Packed} → r.depth ≡ d.depth - 1 → r.inner ≡ d.inner / 16 + d.outer % 16 * 0x1000_0000_0000_0000 → r.outer ≡ d.outer / 16
       → Opens r (popped stack)
   opens_less {r} e f g =
       let n : digits r ≡ digits d / 16 = ap₂ (λ (i q : ℕ). i + 0x1_0000_0000_0000_0000 * q) f g ∙ words_down d.inner d.outer in
@@ -132,17 +132,7 @@ module _ {d : Draft} {stack : List ℕ} (o : Opens d stack) (h : 1 ≤ d.depth) 
         low = low_down (digits r) (digits d) (2 ^ (4 * r.depth)) _ n o.low (power_up r.depth d.depth (omega arith));
       }
 
--- neither
-pub opens-same : {d r : Draft} {stack : List ℕ} → Opens d stack → r.depth ≡ d.depth → r.inner ≡ d.inner → r.outer ≡ d.outer → Opens r stack
-opens-same {d} {r} o e f g =
-    let n : digits r ≡ digits d = ap₂ (λ (i q : ℕ). i + 0x1_0000_0000_0000_0000 * q) f g in
-    record {
-      shallow = omega (arith, o.shallow);
-      blocks = o.blocks ∙ sym (ap₂ open_in e n);
-      low = subst (λ (m : ℕ). m < 2 ^ (4 * r.depth)) (sym n) (subst (λ (m : ℕ). digits d < 2 ^ (4 * m)) (sym e) o.low);
-    }
-
-pub opens-none : {d : Draft} → d.depth ≡ 0 → d.inner ≡ 0 → d.outer ≡ 0 → Opens d []
+pub opens-none : {d : Packed} → d.depth ≡ 0 → d.inner ≡ 0 → d.outer ≡ 0 → Opens d []
 unfolding open_in
 opens-none {d} e f g =
     let n : digits d ≡ 0 = ap₂ (λ (i q : ℕ). i + 0x1_0000_0000_0000_0000 * q) f g in

@@ -14,6 +14,7 @@ use Rattle.refusal.specs.declared.Refusal.{Refusal}
 use Rattle.buffer.specs.Builder.{so_far}
 use Rattle.buffer.specs.Answers.{kept, Of01}
 use Rattle.draft.specs.declared.Draft.{Draft}
+use Rattle.draft.specs.declared.Packed.{Packed}
 
 -- the draft in eight words, of which the last two say nothing: '`uint64_t draft[8]`'
 abbrev pub draft_in : List ℕ → Draft
@@ -21,9 +22,7 @@ draft_in words = record {
   length = get_or words 0 0;
   last = get_or words 1 0;
   style = get_or words 2 0;
-  depth = get_or words 3 0;
-  inner = get_or words 4 0;
-  outer = get_or words 5 0;
+  blocks = record { depth = get_or words 3 0; inner = get_or words 4 0; outer = get_or words 5 0 };
 }
 
 -- the blocks that so many hexadecimal digits of a number name by their indices, the innermost its lowest
@@ -31,15 +30,15 @@ unfoldable pub open_in : ℕ → ℕ → List ℕ
 open_in zero n = []
 open_in (suc depth) n = pushed (n % 16) (open_in depth (n / 16))
 
--- the number in a draft's two words of open blocks
-abbrev pub digits : Draft → ℕ
-digits d = d.inner + 0x1_0000_0000_0000_0000 * d.outer
+-- the number in the two words of open blocks
+abbrev pub digits : Packed → ℕ
+digits p = p.inner + 0x1_0000_0000_0000_0000 * p.outer
 
--- a draft's open blocks are these, and its words are zero beyond them
-pub record Opens (d : Draft) (stack : List ℕ) : Type 0 where
-  pub shallow : d.depth ≤ max_open
-  pub blocks : stack ≡ open_in d.depth (digits d)
-  pub low : digits d < 2 ^ (4 * d.depth)
+-- the open blocks are these, and the words are zero beyond them
+pub record Opens (p : Packed) (stack : List ℕ) : Type 0 where
+  pub shallow : p.depth ≤ max_open
+  pub blocks : stack ≡ open_in p.depth (digits p)
+  pub low : digits p < 2 ^ (4 * p.depth)
 
 -- the number of a text's style, or 0 where a record is no text
 abbrev pub style_in : Kind → ℕ
@@ -63,7 +62,7 @@ pub record Of (d : Draft) (s : List ℕ) : Type 0 where
   pub long : d.length ≡ length s
   pub stack : List ℕ
   pub accepted : open_blocks s ≡ gives stack
-  pub opens : Opens d stack
+  pub opens : Opens d.blocks stack
   pub last : Last s d.last d.style
 
 -- a draft holds of a room: it is that of the document in the room's first bytes, which is not refused with 13 or 1 either
@@ -75,7 +74,7 @@ pub record Holds (d : Draft) (room : List ℕ) : Type 0 where
 -- the quick test: a draft may hold of a room; where it fails, the draft does not hold
 unfoldable pub plausible : List ℕ → Draft → Bool
 plausible room d =
-    leb d.length (length room) && (leb d.length max_bytes && (leb d.depth max_open
+    leb d.length (length room) && (leb d.length max_bytes && (leb d.blocks.depth max_open
     && (when eqb d.length 0 then true else one_record (drop d.last (take d.length room)))))
 
 -- a draft can be built on: it holds, or the quick test shows that it does not, and then the document so far is checked

@@ -18,4 +18,4 @@ pub record Turned (d : Draft) (k : Kind) (next : ℕ) (r : Draft) : Type 0 where
   pub long : r.length ≡ next
   pub last : r.last ≡ d.length
   pub style : r.style ≡ style_in k
-  pub opens : (p : ℕ) (body stack left : List ℕ) → accept p k body stack ≡ gives left → Opens d stack → Opens r left
+  pub opens : (p : ℕ) (body stack left : List ℕ) → accept p k body stack ≡ gives left → Opens d.blocks stack → Opens r.blocks left

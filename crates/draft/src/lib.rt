@@ -1,16 +1,17 @@
 // A page built in linear time: a draft stands beside the document in a lent room, and the builder's calls (`buffer`, `buffer_doc`) read it instead
-// of the document. A refused call changes no byte of the room.
+// of the document. A refused call changes no byte of the room. (A room and its draft are two parameters, since each call of the C interface lends both
+// anew, as `buffer` says of a length.)
 
 #![tactic(auto)]
 
-ghost use Rattle.std.specs.Prelude.{◌≡◌, ℕ, ◌+◌, ◌-◌, ◌*◌, ◌/◌, ◌%◌, ◌≤◌, ◌<◌, List, length, drop};
+ghost use Rattle.std.specs.Prelude.{◌≡◌, ℕ, ◌%◌, ◌≤◌, ◌<◌, ◌&&◌, eqb, leb, List, length, drop};
 ghost use Rattle.base.specs.Stack.{pushed, popped};
 ghost use Rattle.records.specs.Records.{number, index};
 ghost use Rattle.buffer.specs.Builder.{writes, opens_block, closes_block, adds_as, adds_doc, adds_em_doc};
 ghost use Rattle.buffer.specs.Answers.{Of01};
 ghost use Rattle.buffer.specs.InnerParts.{Accepted};
 ghost use Rattle.buffer_doc.specs.InnerParts.{made_of};
-ghost use Rattle.draft.specs.Draft.{draft_in, Opens, Of, Holds, one_record, plausible, Sound, drafted_as, Resumed, Calls};
+ghost use Rattle.draft.specs.Draft.{draft_in, Opens, Of, one_record, plausible, Sound, drafted_as, Resumed, Calls};
 ghost use Rattle.draft.specs.InnerParts.{Turned, text_at};
 ghost use Rattle.document.specs.Document.{max_open};
 
@@ -20,31 +21,56 @@ use record_writer::{end_kind, start_kind};
 use records::{Block, Kind, Records, Style};
 use refusal::Refusal;
 
-// What a check would find out about a document: its length, where its last record stands and that record's style (its kind, or 0 where it
-// is no text), how many blocks are open, and their indices, four bits each, the 16 innermost in `inner`, the innermost lowest. A document
-// with no record has zeros. (Numbers, since these are the words that the C interface hands over.)
-#[derive(Clone, Copy)]
-pub struct Draft {
-    pub length: usize,
-    pub last: usize,
-    pub style: usize,
+// The open blocks: how many there are, and their indices, four bits each, the 16 innermost in `inner`, the innermost lowest. (Numbers, since these are
+// words that the C interface hands over.)
+#[derive(Clone, Copy, Default)]
+pub struct Packed {
     pub depth: usize,
     pub inner: usize,
     pub outer: usize,
 }
 
-// The outer word of open blocks after one more.
-fn outer_up(inner: usize, outer: usize) -> usize
-    ensures { result ≡ outer % 0x1000_0000_0000_0000 * 16 + inner / 0x1000_0000_0000_0000 }
-{
-    outer % 0x1000_0000_0000_0000 * 16 + inner / 0x1000_0000_0000_0000
+impl Packed {
+    // One more.
+    fn push(&mut self, b: Block)
+        ensures { (stack : List ℕ) → length stack < max_open → Opens self.old stack → Opens self.new (pushed (index b) stack) }
+    {
+        if MAX_OPEN <= self.depth {
+            return;
+        }
+        self.depth += 1;
+        self.outer = self.outer % 0x1000_0000_0000_0000 * 16 + self.inner / 0x1000_0000_0000_0000;
+        self.inner = self.inner % 0x1000_0000_0000_0000 * 16 + b.index();
+    }
+
+    // All but the innermost.
+    fn pop(&mut self)
+        ensures { (stack : List ℕ) → 1 ≤ length stack → Opens self.old stack → Opens self.new (popped stack) }
+    {
+        if self.depth < 1 {
+            return;
+        }
+        self.depth -= 1;
+        self.inner = self.inner / 16 + self.outer % 16 * 0x1000_0000_0000_0000;
+        self.outer /= 16;
+    }
+
+    // Whether a block is the innermost.
+    fn is_innermost(&self, b: Block) -> bool
+        ensures { result ≡ (leb 1 self.now.depth && eqb (self.now.inner % 16) (index b)) }
+    {
+        1 <= self.depth && self.inner % 16 == b.index()
+    }
 }
 
-// The inner word of open blocks without the innermost.
-fn inner_down(inner: usize, outer: usize) -> usize
-    ensures { result ≡ inner / 16 + outer % 16 * 0x1000_0000_0000_0000 }
-{
-    inner / 16 + outer % 16 * 0x1000_0000_0000_0000
+// What a check would find out about a document: its length, where its last record stands and that record's style (its kind, or 0 where it
+// is no text), and the open blocks. A document with no record has zeros. (Numbers, as C's eight words have them, so that any words are a draft.)
+#[derive(Clone, Copy, Default)]
+pub struct Draft {
+    pub length: usize,
+    pub last: usize,
+    pub style: usize,
+    pub blocks: Packed,
 }
 
 impl Draft {
@@ -63,61 +89,27 @@ impl Draft {
         let length = self.length;
         length <= room.len()
             && length <= MAX_BYTES
-            && self.depth <= MAX_OPEN
+            && self.blocks.depth <= MAX_OPEN
             && (length == 0 || self.ends(&room[..length]))
-    }
-
-    // With one more block.
-    fn opened(self, b: Block) -> Draft
-        ensures same { (result.length ≡ self.length) × (result.last ≡ self.last) × (result.style ≡ self.style) }
-        ensures open { (stack : List ℕ) → length stack < max_open → Opens self stack → Opens result (pushed (index b) stack) }
-    {
-        if MAX_OPEN <= self.depth {
-            return self;
-        }
-        Draft {
-            depth: self.depth + 1,
-            inner: self.inner % 0x1000_0000_0000_0000 * 16 + b.index(),
-            outer: outer_up(self.inner, self.outer),
-            ..self
-        }
-    }
-
-    // Without its innermost block.
-    fn closed(self) -> Draft
-        ensures same { (result.length ≡ self.length) × (result.last ≡ self.last) × (result.style ≡ self.style) }
-        ensures open { (stack : List ℕ) → 1 ≤ length stack → Opens self stack → Opens result (popped stack) }
-    {
-        if self.depth < 1 {
-            return self;
-        }
-        Draft {
-            depth: self.depth - 1,
-            inner: inner_down(self.inner, self.outer),
-            outer: self.outer / 16,
-            ..self
-        }
     }
 
     // After one more record, which starts at its end and has a kind.
     fn after_record(self, kind: Kind, next: usize) -> Draft
         ensures { Turned self kind next result }
     {
-        let d = Draft {
+        let mut d = Draft {
             length: next,
             last: self.length,
             style: 0,
             ..self
         };
         match kind {
-            Kind::Text(s) => Draft {
-                style: s.number(),
-                ..d
-            },
-            Kind::Start(b) => d.opened(b),
-            Kind::End(_) => d.closed(),
-            Kind::Unknown => d,
+            Kind::Text(s) => d.style = s.number(),
+            Kind::Start(b) => d.blocks.push(b),
+            Kind::End(_) => d.blocks.pop(),
+            Kind::Unknown => {}
         }
+        d
     }
 
     // Where the record starts that text of a style goes into: the last one, if it is of that style, else a new one at the end.
@@ -136,14 +128,7 @@ fn found(document: &[u8]) -> Draft
     requires { Accepted document.now }
     ensures { Of result document.now }
 {
-    let mut d = Draft {
-        length: 0,
-        last: 0,
-        style: 0,
-        depth: 0,
-        inner: 0,
-        outer: 0,
-    };
+    let mut d = Draft::default();
     for r in Records::of(document) {
         d = d.after_record(r.kind, r.start + r.body.len());
     }
@@ -170,63 +155,35 @@ fn settled(room: &[u8], d: Draft) -> Result<Draft, Refusal>
     resume(room, d.length)
 }
 
-// Text in a style, where the draft holds.
-fn add_text(room: &mut [u8], d: Draft, style: Style, text: &[u8]) -> Result<Draft, Refusal>
-    ensures { Calls (Holds d room.old) (writes room.old d.length style text.now) room.old room.new result }
-{
-    if !utf8::valid(text) {
-        return Err(Refusal::NotUtf8(0));
-    }
-    let last = d.text_at(style);
-    let kind = style.number();
-    let length = buffer::put_text(room, d.length, last, kind, text)?;
-    Ok(Draft {
-        length,
-        last,
-        style: kind,
-        ..d
-    })
-}
-
 // Text in a style.
 pub fn write_str(room: &mut [u8], d: Draft, style: Style, text: &[u8]) -> Result<Draft, Refusal>
     ensures { Calls (Sound room.old d) (writes room.old d.length style text.now) room.old room.new result }
 {
     let e = settled(room, d)?;
-    add_text(room, e, style, text)
-}
-
-// A block's start, where the draft holds. (Start and end are two functions, since other refusals come first.)
-fn add_start(room: &mut [u8], d: Draft, b: Block) -> Result<Draft, Refusal>
-    ensures { Calls (Holds d room.old) (opens_block room.old d.length b) room.old room.new result }
-{
-    if MAX_OPEN <= d.depth {
-        return Err(Refusal::TooDeep(d.length));
+    if !utf8::valid(text) {
+        return Err(Refusal::NotUtf8(0));
     }
-    let next = buffer::put_block(room, d.length, start_kind(b))?;
-    Ok(d.after_record(Kind::Start(b), next))
+    let last = e.text_at(style);
+    let kind = style.number();
+    let length = buffer::put_text(room, e.length, last, kind, text)?;
+    Ok(Draft {
+        length,
+        last,
+        style: kind,
+        ..e
+    })
 }
 
-// A block's start.
+// A block's start. (Start and end are two functions, since other refusals come first.)
 pub fn open_block(room: &mut [u8], d: Draft, b: Block) -> Result<Draft, Refusal>
     ensures { Calls (Sound room.old d) (opens_block room.old d.length b) room.old room.new result }
 {
     let e = settled(room, d)?;
-    add_start(room, e, b)
-}
-
-// A block's end, where the draft holds.
-fn add_end(room: &mut [u8], d: Draft, b: Block) -> Result<Draft, Refusal>
-    ensures { Calls (Holds d room.old) (closes_block room.old d.length b) room.old room.new result }
-{
-    if d.depth < 1 {
-        return Err(Refusal::WrongEnd(d.length));
+    if MAX_OPEN <= e.blocks.depth {
+        return Err(Refusal::TooDeep(e.length));
     }
-    if d.inner % 16 != b.index() {
-        return Err(Refusal::WrongEnd(d.length));
-    }
-    let next = buffer::put_block(room, d.length, end_kind(b))?;
-    Ok(d.after_record(Kind::End(b), next))
+    let next = buffer::put_block(room, e.length, start_kind(b))?;
+    Ok(e.after_record(Kind::Start(b), next))
 }
 
 // A block's end.
@@ -234,31 +191,28 @@ pub fn close_block(room: &mut [u8], d: Draft, b: Block) -> Result<Draft, Refusal
     ensures { Calls (Sound room.old d) (closes_block room.old d.length b) room.old room.new result }
 {
     let e = settled(room, d)?;
-    add_end(room, e, b)
+    if !e.blocks.is_innermost(b) {
+        return Err(Refusal::WrongEnd(e.length));
+    }
+    let next = buffer::put_block(room, e.length, end_kind(b))?;
+    Ok(e.after_record(Kind::End(b), next))
 }
 
-// A document's records in InlineBlock, or what `Doc::em_doc` makes of them, where the draft holds. The last record is that block's end.
-fn add_doc(room: &mut [u8], d: Draft, added: &[u8], form: Form) -> Result<Draft, Refusal>
-    ensures { Calls (Holds d room.old) (adds_as room.old d.length added.now (made_of form added.now)) room.old room.new result }
-{
-    let length = buffer_doc::add(room, d.length, d.depth, added, form)?;
-    Ok(Draft {
-        length,
-        last: length.saturating_sub(6),
-        style: 0,
-        ..d
-    })
-}
-
-// The same by any draft.
+// A document's records in InlineBlock, or what `Doc::em_doc` makes of them. The last record is that block's end.
 fn joined(room: &mut [u8], d: Draft, added: &[u8], form: Form) -> Result<Draft, Refusal>
     ensures { Calls (Sound room.old d) (adds_as room.old d.length added.now (made_of form added.now)) room.old room.new result }
 {
     let e = settled(room, d)?;
-    add_doc(room, e, added, form)
+    let length = buffer_doc::add(room, e.length, e.blocks.depth, added, form)?;
+    Ok(Draft {
+        length,
+        last: length.saturating_sub(6),
+        style: 0,
+        ..e
+    })
 }
 
-// A document, as `Doc::doc` adds it.
+// A document, as `Doc::doc` adds it. (This one and the next are two functions, as bpaf and the C interface have them.)
 pub fn doc(room: &mut [u8], d: Draft, added: &[u8]) -> Result<Draft, Refusal>
     ensures { Calls (Sound room.old d) (adds_doc room.old d.length added.now) room.old room.new result }
 {
@@ -282,9 +236,11 @@ impl From<[u64; 8]> for Draft {
             length: words[0] as usize,
             last: words[1] as usize,
             style: words[2] as usize,
-            depth: words[3] as usize,
-            inner: words[4] as usize,
-            outer: words[5] as usize,
+            blocks: Packed {
+                depth: words[3] as usize,
+                inner: words[4] as usize,
+                outer: words[5] as usize,
+            },
         }
     }
 }
@@ -298,9 +254,9 @@ impl From<Draft> for [u64; 8] {
             d.length as u64,
             d.last as u64,
             d.style as u64,
-            d.depth as u64,
-            d.inner as u64,
-            d.outer as u64,
+            d.blocks.depth as u64,
+            d.blocks.inner as u64,
+            d.blocks.outer as u64,
             0,
             0,
         ]

@@ -1,5 +1,5 @@
 -- A document's text in a room: the console's answer, and how many characters it prints. Assumes nothing.
-use Rattle.figures.proofs.Names.{ℕ, ◌+◌, ◌-◌, ◌≤◌, ◌≡◌, refl, sym, ap, ◌∙◌, true, List, [], ◌∷◌, length, take, drop, length-take, length-drop, arith}
+use Rattle.figures.proofs.Names.{ℕ, ◌+◌, ◌≤◌, ◌≡◌, refl, sym, ap, ◌∙◌, true, List, [], ◌∷◌, length, take, length-take, arith}
 use Rattle.figures.proofs.Names.{Result, gives, refused, measured, part, pick, if_true, console, shelf, full_text, printed_of, Few, lent}
 use Rattle.std.specs.Prelude.{Result as Answer, Ok, Err}
 use native.Mathlib.Nat.{sub-zero}
@@ -87,8 +87,5 @@ pub few_at_most : (most : ℕ) (p : Answer ℕ Refusal) (n : ℕ) → p ≡ Ok n
 few_at_most most p n t h = rw t at h
 
 -- the part of a room that is lent, and a document's size
-pub part-lent : (room : List ℕ) (most n : ℕ) → length room ≡ 65_536 → most ≡ lent n → length (part room 0 most) ≡ lent n
-part-lent room most n h e = omega (arith, length-take (most - 0) room)
-
-pub part-short : (s : List ℕ) (a e : ℕ) → length s ≤ 65_536 → length (part s a e) ≤ 65_536
-part-short s a e h = omega (arith, length-take (e - a) (drop a s), length-drop a s)
+pub taken-lent : (room : List ℕ) (most n : ℕ) → length room ≡ 65_536 → most ≡ lent n → length (take most room) ≡ lent n
+taken-lent room most n h e = omega (arith, length-take most room)

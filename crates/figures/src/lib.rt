@@ -8,7 +8,14 @@ ghost use Rattle.figures.specs.Bundle.{shelf, full_text, figures};
 ghost use Rattle.refusal.specs.Answers.{answered};
 ghost use Rattle.figures.specs.InnerParts.{printed_of, plus, nothing, Few, Bounded, from};
 
+use records::Records;
 use refusal::Refusal;
+
+// 'over 65,536 bytes'
+const MAX_BUNDLE: usize = 65_536;
+
+// 'a room of 65,536': an array, since no heap is used here
+const ROOM: usize = 65_536;
 
 // Bodies seen, those with a text, the others, and the printing characters of the texts.
 #[derive(Clone, Copy, Default)]
@@ -28,52 +35,45 @@ fn count_text(document: &[u8], room: &mut [u8]) -> Result<usize, Refusal>
     Ok(printing::count(&room[0..n]))
 }
 
-// Some figures, with those of one document more. Its text takes at most 54 bytes for each of the document's and 1 (02, point 10): no more of
-// the room is lent, so that a small document does not pay for clearing all of it.
-fn with_document(f: Figures, document: &[u8], room: &mut [u8]) -> Figures
-    requires { (length document.now ≤ 65_536) × (length room.old ≡ 65_536) × (f.documents ≤ 65_536) × Bounded f }
-    ensures value { result ≡ plus f (document.now ∷ []) }
-    ensures bounded { (result.documents ≡ f.documents + 1) × Bounded result }
-{
-    let documents = f.documents + 1;
-    let most = 65_536usize.min(54 * document.len() + 1);
-    match count_text(document, &mut room[0..most]) {
-        Ok(n) => Figures {
-            documents,
-            accepted: f.accepted + 1,
-            characters: f.characters + n,
-            ..f
-        },
-        Err(_) => Figures {
-            documents,
-            refused: f.refused + 1,
-            ..f
-        },
+impl Figures {
+    // One document more. Its text takes at most 54 bytes for each of the document's and 1 (02, point 10): no more of the room is lent, so that a small
+    // document does not pay for clearing all of it.
+    fn add(&mut self, document: &[u8], room: &mut [u8; ROOM])
+        requires { (length document.now ≤ 65_536) × (self.old.documents ≤ 65_536) × Bounded self.old }
+        ensures value { self.new ≡ plus self.old (document.now ∷ []) }
+        ensures bounded { (self.new.documents ≡ self.old.documents + 1) × Bounded self.new }
+    {
+        self.documents += 1;
+        let most = ROOM.min(54 * document.len() + 1);
+        match count_text(document, &mut room[..most]) {
+            Ok(n) => {
+                self.accepted += 1;
+                self.characters += n;
+            }
+            Err(_) => self.refused += 1,
+        }
     }
 }
 
-// 'kind 0x0300': the kind of a bundle's records, each of which holds a document.
+// 'kind 0x0300': the kind of a bundle's records, each of which holds a document. A number, since `records::Kind` has the kinds of a document's records, and
+// this is none of them.
 const DOCUMENT: usize = 0x0300;
 
-// The figures of a bundle, document by document: 15, then 14, at each record. The loop is no `for` over `records::Records`, which gives a record that is
-// cut short as one that is not, and each kind of a bundle as Unknown.
-fn count_all(bundle: &[u8], room: &mut [u8]) -> Result<Figures, Refusal>
-    requires { (length bundle.now ≤ 65_536) × (length room.old ≡ 65_536) }
+// The figures of a bundle, document by document: 15, then 14, at each record. Of a record that is cut short `Records` gives what is there: it is tested first
+// that it lies whole.
+fn count_all(bundle: &[u8], room: &mut [u8; ROOM]) -> Result<Figures, Refusal>
+    requires { length bundle.now ≤ 65_536 }
     ensures { answered result ≡ from bundle.now 0 nothing }
 {
     let mut f = Figures::default();
-    let mut at: usize = 0;
-    while at < bundle.len() {
-        if !records::fits_at(bundle, at) {
-            return Err(Refusal::BundleCutShort(at));
+    for r in Records::of(bundle) {
+        if !records::fits_at(bundle, r.place) {
+            return Err(Refusal::BundleCutShort(r.place));
         }
-        if records::two(bundle, at + 4) != DOCUMENT {
-            return Err(Refusal::BundleKind(at));
+        if records::raw_at(bundle, r.place).code != DOCUMENT {
+            return Err(Refusal::BundleKind(r.place));
         }
-        let start = at + 6;
-        let stop = start + records::four(bundle, at);
-        f = with_document(f, &bundle[start..stop], room);
-        at = stop;
+        f.add(r.body, room);
     }
     Ok(f)
 }
@@ -82,10 +82,8 @@ fn count_all(bundle: &[u8], room: &mut [u8]) -> Result<Figures, Refusal>
 pub fn figures_of(bundle: &[u8]) -> Result<Figures, Refusal>
     ensures { answered result ≡ figures bundle.now }
 {
-    if 65_536 < bundle.len() {
+    if MAX_BUNDLE < bundle.len() {
         return Err(Refusal::BundleTooLong);
     }
-    // an array, since no heap is used here: the room's size is fixed
-    let mut room = [0u8; 65536];
-    count_all(bundle, &mut room)
+    count_all(bundle, &mut [0; ROOM])
 }

@@ -39,7 +39,8 @@ fn show(rt: &HostRuntime, bundle: &[u8]) -> io::Result<()> {
 }
 
 // One byte more than a bundle may have is read, so that a longer one is refused. `help_text` has a main of the same form: one function of both
-// would take the name, the buffer and what is shown as parameters, and be no shorter.
+// would take a reader, a writer, the buffer, two messages and what is shown, with a contract that tells which of these came about: more than a main.
+// (An array: no heap is used, as in the library.)
 fn main(rt: HostRuntime) -> io::Result<()> {
     let mut space = [0u8; 65537];
     let Ok(n) = program::read_input(&mut rt.stdin(), &mut space) else {

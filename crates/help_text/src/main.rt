@@ -18,6 +18,7 @@ fn print_answer<W: Write>(
 }
 
 // The text of a document in a room of 65,536 bytes.
+// (An array: no heap is used, as in the library.)
 fn show(rt: &HostRuntime, document: &[u8]) -> io::Result<()> {
     let mut room = [0u8; 65536];
     let answer = console::monochrome(document, true, &mut room);
@@ -31,6 +32,7 @@ fn show(rt: &HostRuntime, document: &[u8]) -> io::Result<()> {
 }
 
 // One byte more than a document may have is read, so that a longer one is refused.
+// (`help_figures` has a main of the same form, and says why there are two.)
 fn main(rt: HostRuntime) -> io::Result<()> {
     let mut space = [0u8; 32769];
     let Ok(n) = program::read_input(&mut rt.stdin(), &mut space) else {

@@ -10,8 +10,8 @@ pub use Rattle.document.specs.Document.{check}
 pub use Rattle.html_rules.specs.Html.{State, br, closing, end_tag, escaped, in_list, initial, opening, plain, start_tag, with_skip, with_style}
 unfoldable pub use Rattle.html_rules.specs.Html.{blank_line, change, chunk, css, enter, finish, html, leave, tagged, turn}
 pub use Rattle.html_rules.specs.declared.Html.{Html}
-pub use Rattle.html_tags.specs.InnerParts.{chunk_text, closed}
 unfoldable pub use Rattle.html_tags.specs.InnerParts.{block_text, headed}
+pub use Rattle.html_tags.specs.InnerParts.{chunk_text, closed}
 pub use Rattle.records.specs.Records.{Token, index, tokens}
 pub use Rattle.records.specs.declared.Block.{Block}
 pub use Rattle.records.specs.declared.Style.{Style}
@@ -19,7 +19,7 @@ pub use Rattle.renderer.specs.Walk.{anywhere, body, last, page, walk, with_lay, 
 unfoldable pub use Rattle.renderer.specs.Walk.{write}
 pub use Rattle.room.specs.Room.{extended, seen}
 pub use Rattle.skip.specs.Counter.{hides, skip_end, skip_paragraph, skip_start}
-pub use Rattle.splitter.proofs.Answers.{Took, took}
+pub use Rattle.splitter.proofs.Answers.{Took}
 pub use Rattle.splitter.specs.Answers.{cursor}
 unfoldable pub use Rattle.splitter.specs.Split.{split}
 pub use borrow.Author.Rules.{rules}

@@ -28,6 +28,10 @@ use Rattle.html_lines.specs.InnerLines.{plain_line}
 use Rattle.html_lines.proofs.Chunks.{line-leads}
 use Rattle.html.proofs.Turns.{start_is, end_is, start_meta, end_meta, hidden_is, text-is, finish-is, chunk-on, chunk-last}
 
+-- the defaults of the fields are what stands before the first record
+pub default-plain : (l : Html) → (l.style ≡ style.Text) × (l.skip ≡ 0) → l ≡ plain
+default-plain l (a, b) = λ i. record { style = a i; skip = b i }
+
 module _ (name : GName) (limit : ℕ) (strict full : Bool) (sheet document : List ℕ) where
   -- some records, and the end
   abbrev rest : List Token → State → Result (List ℕ)

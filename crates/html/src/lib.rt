@@ -4,28 +4,27 @@
 
 ghost use Rattle.std.specs.Prelude.{◌≡◌, true, false, [], length};
 ghost use Rattle.base.specs.Choice.{when◌then◌else◌ as choose};
-ghost use Rattle.base.specs.Result.{gives, ◌>>=◌ as bind, measured};
+ghost use Rattle.base.specs.Result.{◌>>=◌ as bind, measured};
 ghost use Rattle.refusal.specs.Answers.{answered};
 ghost use Rattle.room.specs.Room.{extended};
 ghost use Rattle.room.specs.Lent.{text_of, wrote};
 ghost use Rattle.records.specs.Records.{tokens};
-ghost use Rattle.document.specs.Document.{check};
 ghost use Rattle.renderer.specs.Walk.{walk as records};
 ghost use Rattle.renderer.specs.Rendered.{standing, filled, Inside};
 ghost use Rattle.html_rules.specs.Html.{css as style_sheet, initial, turn, finish as finished, html};
 ghost use Rattle.html_tags.specs.InnerParts.{closed};
+ghost use Rattle.records.specs.declared.Style.TheVariants as style;
 
-use document::OpenBlocks;
+use document::{Accepted, OpenBlocks};
 use html_rules::Html;
-use records::{Kind, Records, Style};
+use records::{Block, Kind, Records, Style};
 use refusal::Refusal;
 use room::Text;
-use skip::Skip;
-use splitter::{Code, Cursor};
 
-// After the last record: the style is closed, and the style sheet follows.
-fn finish(t: &mut Text, st: Style, sheet: &[u8])
-    ensures { text_of t.new ≡ wrote (λ size x. bind (closed size st x) (extended size sheet.now)) (text_of t.old) }
+// After the last record: the style is closed, and the style sheet follows. (A text and a style, and what is said of it after a call: as in `html_tags`.)
+fn finish(t: &mut Text, st: &mut Style, sheet: &[u8])
+    ensures text { text_of t.new ≡ wrote (λ size x. bind (closed size st.old x) (extended size sheet.now)) (text_of t.old) }
+    ensures style { st.new ≡ style.Text }
 {
     html_tags::change_style(t, st, Style::Text);
     t.put_all(sheet);
@@ -33,76 +32,60 @@ fn finish(t: &mut Text, st: Style, sheet: &[u8])
 
 // The walk over an accepted document.
 fn walk(
-    document: &[u8],
+    document: &Accepted,
     sheet: &[u8],
     strict: bool,
     full: bool,
     room: &mut [u8],
 ) -> Result<usize, Refusal>
-    requires { check document.now ≡ gives [] }
     ensures text { standing room.new result ≡ bind (records (turn (length room.old) strict full) (tokens 0 0 document.now) initial) (finished (length room.old) sheet.now) }
     ensures inside { Inside (length room.old) result }
 {
     let mut t = Text::new(room);
-    let mut lay = Html {
-        style: Style::Text,
-        skip: Skip::new(),
-    };
+    let mut lay = Html::default();
     let mut blocks = OpenBlocks::new();
-    'records: for r in Records::of(document) {
+    'records: for r in Records::of(document.bytes()) {
         if t.is_full() {
             return Err(Refusal::NoRoom);
         }
-        if html_marks::is_meta(r.kind) {
-            return Err(html_tags::meet_meta(&mut t, lay.style, r.place));
+        if r.kind.is_of(Block::Meta) {
+            return Err(html_tags::meet_meta(&mut t, &mut lay.style, r.place));
         }
         match r.kind {
             Kind::Unknown => {}
             Kind::Start(b) => {
-                html_tags::put_start(&mut t, lay.style, b, &blocks);
+                html_tags::put_start(&mut t, &mut lay.style, b, &blocks);
                 blocks.push(b);
-                lay.style = Style::Text;
                 lay.skip.start(b);
             }
             Kind::End(b) => {
                 blocks.pop();
-                html_tags::put_end(&mut t, lay.style, b, &blocks);
-                lay.style = Style::Text;
+                html_tags::put_end(&mut t, &mut lay.style, b, &blocks);
                 lay.skip.end(b);
             }
             Kind::Text(st) => {
                 if lay.skip.enabled() {
                     continue 'records;
                 }
-                html_tags::change_style(&mut t, lay.style, st);
-                lay.style = st;
-                let body = r.body;
-                let mut cursor = Cursor {
-                    at: 0,
-                    code: Code::No,
-                };
-                // a line and then a chunk at a time, for which the splitter has no iterator: by chunks alone it took 1.7 to 2 times as long
+                html_tags::change_style(&mut t, &mut lay.style, st);
+                let mut chunks = splitter_iter::split(r.body);
+                // a line and then a chunk at a time: by chunks alone it took 1.7 to 2 times as long
                 'chunks: loop {
-                    cursor.at = html_lines::put_line(&mut t, body, cursor, strict);
-                    if body.len() <= cursor.at {
-                        break 'chunks;
-                    }
-                    let Some((piece, after)) = splitter::step_at(body, cursor) else {
+                    chunks.cursor.at = html_lines::put_line(&mut t, &chunks, strict);
+                    let Some((piece, _)) = chunks.next() else {
                         break 'chunks;
                     };
                     if renderer::ends_body(piece, full) {
                         lay.skip.enable();
                         continue 'records;
                     }
-                    html_tags::put_chunk(&mut t, body, piece, strict);
-                    cursor = after;
+                    html_tags::put_chunk(&mut t, chunks.input, piece, strict);
                 }
             }
         }
     }
-    finish(&mut t, lay.style, sheet);
-    let n = t.finish();
-    renderer::answer(room, n)
+    finish(&mut t, &mut lay.style, sheet);
+    renderer::finish(t)
 }
 
 // The style sheet, where one is asked for.
@@ -116,7 +99,7 @@ fn style_sheet(css: bool) -> &'static [u8]
     b""
 }
 
-// Refusals 1 to 8, and then the walk.
+// Refusals 1 to 8, and then the walk. Three parameters and no struct of them: two functions would make it, and this one take it apart.
 fn rendered(
     document: &[u8],
     strict: bool,
@@ -127,11 +110,12 @@ fn rendered(
     ensures text { standing room.new result ≡ html (length room.old) strict full css document.now }
     ensures inside { Inside (length room.old) result }
 {
-    document::check(document)?;
-    walk(document, style_sheet(css), strict, full, room)
+    let accepted = Accepted::of(document)?;
+    walk(&accepted, style_sheet(css), strict, full, room)
 }
 
-// HTML or strict HTML, and zeros after it.
+// HTML or strict HTML, and zeros after it. Each renderer has this line: one function for all would take the walk as a closure, and ask its promise
+// by a `requires`.
 fn render(
     document: &[u8],
     strict: bool,
@@ -142,9 +126,7 @@ fn render(
     ensures answer { answered result ≡ measured (html (length room.old) strict full css document.now) }
     ensures room { room.new ≡ filled (length room.old) (html (length room.old) strict full css document.now) }
 {
-    let answer = rendered(document, strict, full, css, room);
-    renderer::clear_after(room, answer);
-    answer
+    renderer::cleared(rendered(document, strict, full, css, room), room)
 }
 
 // A document as HTML, with or without the style sheet.

@@ -1,5 +1,5 @@
 -- What the functions of HTML and Markdown promise each other; no rule of 01 stands here.
-use Rattle.std.specs.Prelude.{ℕ, false, true, List}
+use Rattle.std.specs.Prelude.{ℕ, List}
 use Rattle.html_rules.specs.Html.{entity}
 use Rattle.html_rules.specs.Markdown.{bracket}
 use Rattle.html_escape.specs.declared.Escape.{Escape}
@@ -7,6 +7,5 @@ use Rattle.html_escape.specs.declared.Escape.TheVariants as escape
 
 -- what stands for a byte
 abbrev pub entity_of : Escape → ℕ → List ℕ
-entity_of escape.Html = entity false
-entity_of escape.Strict = entity true
+entity_of (escape.Html strict) = entity strict
 entity_of escape.Mono = bracket

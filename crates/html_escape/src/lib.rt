@@ -2,45 +2,33 @@
 
 #![tactic(auto)]
 
-ghost use Rattle.std.specs.Prelude.{◌≡◌, [], ◌∷◌, IfSome, IfNone};
+ghost use Rattle.std.specs.Prelude.{◌≡◌};
 ghost use Rattle.room.specs.Lent.{text_of, with_bytes};
 ghost use Rattle.html_rules.specs.Marks.{escaped_by};
 ghost use Rattle.html_escape.specs.InnerParts.{entity_of};
 
 use room::Text;
 
-// How the bytes of a chunk are escaped: as HTML, as strict HTML, as Markdown inside Mono. A name and no closure that escapes a byte:
+// How the bytes of a chunk are escaped: as HTML, strict or not, as Markdown inside Mono. A name and no closure that escapes a byte:
 // what such a closure writes would be asked of callers by a `requires`.
 #[derive(Clone, Copy)]
 pub enum Escape {
-    Html,
-    Strict,
+    Html { strict: bool },
     Mono,
 }
 
-// What stands for a byte that does not stand for itself.
+// A byte of a chunk, or what stands for it.
 #[tactic(auto, unfolding(utf8::specs::Utf8::bytes, utf8::specs::Utf8::encode, html_rules::specs::Html::entity, html_rules::specs::Markdown::bracket, crate::proofs::Names::choose))]
-fn replacement(byte: u8, how: Escape) -> Option<&'static [u8]>
-    ensures text { IfSome result (λ x. x.now ≡ entity_of how byte) }
-    ensures itself { IfNone result (byte ∷ [] ≡ entity_of how byte) }
-{
-    match (how, byte) {
-        (Escape::Html | Escape::Strict, b'<') => Some(b"&lt;"),
-        (Escape::Html | Escape::Strict, b'>') => Some(b"&gt;"),
-        (Escape::Strict, b'&') => Some(b"&amp;"),
-        (Escape::Mono, b'[') => Some(b"\\["),
-        (Escape::Mono, b']') => Some(b"\\]"),
-        _ => None,
-    }
-}
-
-// A byte of a chunk.
 fn put_escape(t: &mut Text, byte: u8, how: Escape)
     ensures { text_of t.new ≡ with_bytes (entity_of how byte) (text_of t.old) }
 {
-    match replacement(byte, how) {
-        Some(text) => t.put_all(text),
-        None => t.put(byte),
+    match (how, byte) {
+        (Escape::Html { .. }, b'<') => t.put_all(b"&lt;"),
+        (Escape::Html { .. }, b'>') => t.put_all(b"&gt;"),
+        (Escape::Html { strict: true }, b'&') => t.put_all(b"&amp;"),
+        (Escape::Mono, b'[') => t.put_all(b"\\["),
+        (Escape::Mono, b']') => t.put_all(b"\\]"),
+        _ => t.put(byte),
     }
 }
 

@@ -86,9 +86,6 @@ pub record Left (strict : Bool) (body : List ℕ) (at : ℕ) (old new : Lent) (i
   pub text : with_bytes (escaped strict (line (drop i body))) new ≡ with_bytes (escaped strict (line (drop at body))) old
 
 module _ (strict : Bool) (body : List ℕ) (at : ℕ) (old : Lent) where
-  pub left-start : Left strict body at old old at
-  left-start = record { ends = refl; text = refl }
-
   module _ {v : Lent} {i : ℕ} (l : Left strict body at old v i) where
     -- a part of it is written
     left-part : (new : Lent) (x : List ℕ) (to : ℕ) → line (drop i body) ≡ x ++ line (drop to body) → to ≡ i + length x

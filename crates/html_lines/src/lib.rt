@@ -9,8 +9,10 @@ ghost use Rattle.splitter.specs.Split.{line};
 ghost use Rattle.html_rules.specs.Html.{escaped};
 ghost use Rattle.html_lines.specs.InnerLines.{plain_line};
 
+use html_escape::Escape;
 use room::Text;
-use splitter::{Code, Cursor};
+use splitter::Code;
+use splitter_iter::Splitter;
 
 // The bytes of a body from a place up to the next line end, escaped; where in the body the line ends. The place goes on by a run and a byte at a time,
 // which no `for` counts.
@@ -25,18 +27,19 @@ fn put_up_to_end(t: &mut Text, body: &[u8], at: usize, strict: bool) -> usize
         if body.len() <= to || body[to] == b'\n' {
             return to;
         }
-        html_tags::put_text(t, base::get(body, to, to + 1), strict);
+        html_escape::put_escaped(t, base::get(body, to, to + 1), Escape::Html { strict });
         i = to + 1;
     }
 }
 
-// What is left of a line at a cursor outside ticks, and where it ends; in ticks nothing, since each line there is a chunk.
-pub fn put_line(t: &mut Text, body: &[u8], c: Cursor, strict: bool) -> usize
-    ensures text { text_of t.new ≡ with_bytes (escaped strict (plain_line body.now c)) (text_of t.old) }
-    ensures place { result ≡ c.at + length (plain_line body.now c) }
+// What is left of a line where the splitter stands outside ticks, and where it ends; in ticks nothing, since each line there is a chunk.
+// `strict` and no Escape, as html_tags::put_chunk says.
+pub fn put_line(t: &mut Text, chunks: &Splitter, strict: bool) -> usize
+    ensures text { text_of t.new ≡ with_bytes (escaped strict (plain_line chunks.now.input.now chunks.now.cursor)) (text_of t.old) }
+    ensures place { result ≡ chunks.now.cursor.at + length (plain_line chunks.now.input.now chunks.now.cursor) }
 {
-    match c.code {
-        Code::No => put_up_to_end(t, body, c.at, strict),
-        Code::First | Code::Rest => c.at,
+    match chunks.cursor.code {
+        Code::No => put_up_to_end(t, chunks.input, chunks.cursor.at, strict),
+        Code::First | Code::Rest => chunks.cursor.at,
     }
 }

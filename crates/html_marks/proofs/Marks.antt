@@ -1,13 +1,13 @@
--- A line of its own, and a refusal after a text. Assumes nothing.
+-- A line of its own. Assumes nothing.
 use Prim.Native.Nat.{ℕ}
 use mathlib.Core.Path.{◌≡◌, refl, sym, ◌∙◌}
 use mathlib.Core.Bool.{Bool, true, false, ◌||◌}
 use mathlib.Core.List.{List, [], ◌∷◌}
 use Rattle.base.specs.Bytes.{ends_with}
-use Rattle.base.specs.Result.{Result, gives, refused, ◌>>=◌}
+use Rattle.base.specs.Result.{gives}
 use Rattle.base.proofs.Choice.{if_true, if_false}
 use Rattle.room.specs.Room.{extended}
-use Rattle.room.specs.Lent.{Given, Lent, wrote, with_bytes, is_empty}
+use Rattle.room.specs.Lent.{Lent, wrote, with_bytes, is_empty}
 use Rattle.room.proofs.Lents.{wrote-none, wrote_same}
 use Rattle.renderer.specs.Walk.{empty}
 use Rattle.html_rules.specs.Marks.{separated}
@@ -39,20 +39,3 @@ module _ (mark : List ℕ) (v : Lent) where
       none : (o : List ℕ) → false ≡ is_empty o → false ≡ ends_with mark o → empty o || ends_with mark o ≡ false
       none [] e f = cc
       none (b ∷ o) e f = sym f
-
--- 11 after a text that was refused by 13, and after one that stands there
-module _ (s : Result (List ℕ)) (at : ℕ) where
-  abbrev eleven : Result (List ℕ)
-  eleven = refused 11 at
-
-  pub eleven_full : s ≡ refused 13 0 → refused 13 0 ≡ (s >>= λ _. eleven)
-  unfolding ◌>>=◌
-  eleven_full e = rw e
-
-  pub eleven_given : Given s → eleven ≡ (s >>= λ _. eleven)
-  unfolding ◌>>=◌
-  eleven_given g = go s g
-    where
-      go : (r : Result (List ℕ)) → Given r → eleven ≡ (r >>= λ _. eleven)
-      go (gives o) g = refl
-      go (refused n p) g = absurd g

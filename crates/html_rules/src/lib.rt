@@ -6,14 +6,14 @@ use records::Style;
 use skip::Skip;
 
 // What HTML keeps from one record to the next, beside the text and the open blocks: the open style, and the skip counter.
-#[derive(Clone, Copy)]
+#[derive(Clone, Copy, Default)]
 pub struct Html {
     pub style: Style,
     pub skip: Skip,
 }
 
 // What Markdown keeps from one record to the next, beside the text.
-#[derive(Clone, Copy)]
+#[derive(Clone, Copy, Default)]
 pub struct Markdown {
     pub style: Style,
     pub skip: Skip,

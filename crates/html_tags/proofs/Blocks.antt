@@ -13,8 +13,7 @@ use Rattle.room.specs.Lent.{Lent, wrote, with_bytes}
 use Rattle.room.proofs.Lents.{wrote_same, wrote_after}
 use Rattle.records.specs.declared.Style.{Style}
 use Rattle.records.specs.declared.Block.{Block}
-use Rattle.records.specs.declared.Block.TheVariants as block
-use Rattle.records.proofs.Tables.{index-apart}
+use Rattle.records.specs.Records.{index}
 use Rattle.splitter.specs.Answers.{chunk_of}
 use Rattle.splitter.specs.declared.Piece.{Piece}
 use Rattle.splitter.specs.declared.Piece.TheVariants.{Space}
@@ -27,13 +26,13 @@ br-is = refl
 
 -- A block's text: the style is closed, and the tag follows
 module _ (st : Style) (b : Block) (tag : List ℕ) (old mid new : Lent) (closes : mid ≡ wrote (λ size. closed size st) old) where
-  pub block-other : (b ≡ block.Header → ⊥) → new ≡ with_bytes tag mid → new ≡ wrote (λ size. block_text size st b tag) old
+  pub block-other : eqb (index b) 0 ≡ false → new ≡ with_bytes tag mid → new ≡ wrote (λ size. block_text size st b tag) old
   unfolding block_text headed when◌then◌else◌ ◌>>=◌
   block-other h w =
       wrote_after old mid new (λ size. closed size st) (λ size. headed size b tag) closes
-      (w ∙ wrote_same mid (λ size. extended size tag) (λ size. headed size b tag) (λ x e. rw (index-apart b block.Header h)))
+      (w ∙ wrote_same mid (λ size. extended size tag) (λ size. headed size b tag) (λ x e. rw h))
 
-  pub block_header : (apart : Lent) → b ≡ block.Header → apart ≡ wrote (λ size. separated size (0x3C ∷ 0x62 ∷ 0x72 ∷ 0x3E ∷ 0x0A ∷ [])) mid
+  pub block_header : (apart : Lent) → eqb (index b) 0 ≡ true → apart ≡ wrote (λ size. separated size (0x3C ∷ 0x62 ∷ 0x72 ∷ 0x3E ∷ 0x0A ∷ [])) mid
       → new ≡ with_bytes tag apart → new ≡ wrote (λ size. block_text size st b tag) old
   unfolding block_text headed when◌then◌else◌
   block_header apart h v w =

@@ -6,9 +6,10 @@ ghost use Rattle.std.specs.Prelude.{◌≡◌, ◌++◌};
 ghost use Rattle.base.specs.Result.{refused, ◌>>=◌ as bind};
 ghost use Rattle.room.specs.Lent.{text_of, with_bytes, wrote};
 ghost use Rattle.splitter.specs.Answers.{chunk_of};
-ghost use Rattle.html_rules.specs.Html.{opening, closing, start_tag, end_tag, escaped, in_list};
-ghost use Rattle.html_marks.specs.InnerParts.{told};
+ghost use Rattle.html_rules.specs.Html.{opening, closing, start_tag, end_tag, in_list};
+ghost use Rattle.renderer.specs.Rendered.{told};
 ghost use Rattle.html_tags.specs.InnerParts.{chunk_text, closed, block_text};
+ghost use Rattle.records.specs.declared.Style.TheVariants as style;
 
 use document::OpenBlocks;
 use html_escape::Escape;
@@ -50,63 +51,65 @@ fn block_tags(b: Block, blocks: &OpenBlocks) -> (&'static [u8], &'static [u8])
     }
 }
 
-// The open style is closed, and another opened.
-pub fn change_style(t: &mut Text, old: Style, new: Style)
-    ensures { text_of t.new ≡ with_bytes (closing old ++ opening new) (text_of t.old) }
+// The open style is closed, and another opened (the source's `change_style`).
+// Functions of a text and a style, for the reason in `markdown_marks`. That the style is Text after a call is no invariant, so each contract says it.
+pub fn change_style(t: &mut Text, st: &mut Style, new: Style)
+    ensures text { text_of t.new ≡ with_bytes (closing st.old ++ opening new) (text_of t.old) }
+    ensures style { st.new ≡ new }
 {
-    html_marks::put_both(t, style_tags(old).1, style_tags(new).0);
+    t.put_all(style_tags(*st).1);
+    t.put_all(style_tags(new).0);
+    *st = new;
 }
 
 // A block's start or end that is not Meta's: the style is closed, and the tag follows.
-fn put_block(t: &mut Text, st: Style, b: Block, tag: &[u8])
-    ensures { text_of t.new ≡ wrote (λ size. block_text size st b tag.now) (text_of t.old) }
+fn put_block(t: &mut Text, st: &mut Style, b: Block, tag: &[u8])
+    ensures text { text_of t.new ≡ wrote (λ size. block_text size st.old b tag.now) (text_of t.old) }
+    ensures style { st.new ≡ style.Text }
 {
     change_style(t, st, Style::Text);
-    match b {
-        Block::Header => html_marks::separate(t, b"<br>\n"),
-        _ => {}
+    if b == Block::Header {
+        html_marks::separate(t, b"<br>\n");
     }
     t.put_all(tag);
 }
 
 // A block's start, by the blocks that are open before it.
-pub fn put_start(t: &mut Text, st: Style, b: Block, blocks: &OpenBlocks)
-    ensures { text_of t.new ≡ wrote (λ size. block_text size st b (start_tag (in_list blocks.now) b)) (text_of t.old) }
+pub fn put_start(t: &mut Text, st: &mut Style, b: Block, blocks: &OpenBlocks)
+    ensures text { text_of t.new ≡ wrote (λ size. block_text size st.old b (start_tag (in_list blocks.now) b)) (text_of t.old) }
+    ensures style { st.new ≡ style.Text }
 {
     put_block(t, st, b, block_tags(b, blocks).0);
 }
 
 // A block's end, by the blocks that are open after it. Two functions, as the source has an arm for each: one would be told which tag to write.
-pub fn put_end(t: &mut Text, st: Style, b: Block, blocks: &OpenBlocks)
-    ensures { text_of t.new ≡ wrote (λ size. block_text size st b (end_tag (in_list blocks.now) b)) (text_of t.old) }
+pub fn put_end(t: &mut Text, st: &mut Style, b: Block, blocks: &OpenBlocks)
+    ensures text { text_of t.new ≡ wrote (λ size. block_text size st.old b (end_tag (in_list blocks.now) b)) (text_of t.old) }
+    ensures style { st.new ≡ style.Text }
 {
     put_block(t, st, b, block_tags(b, blocks).1);
 }
 
 // Meta: the style is closed, and then 11 is met. Markdown has the same with its own marks: one function for both would take the text that closes
 // the style, and only the call of change_style would go.
-pub fn meet_meta(t: &mut Text, st: Style, at: usize) -> Refusal
-    ensures { told result ≡ bind (text_of t.old).shown (λ x. bind (closed (text_of t.old).size st x) (λ _. refused 11 at)) }
+pub fn meet_meta(t: &mut Text, st: &mut Style, at: usize) -> Refusal
+    ensures told { told result ≡ bind (text_of t.old).shown (λ x. bind (closed (text_of t.old).size st.old x) (λ _. refused 11 at)) }
+    ensures style { st.new ≡ style.Text }
 {
     change_style(t, st, Style::Text);
-    html_marks::no_form(t, at)
+    renderer::no_form(t, at)
 }
 
-// A chunk's bytes.
-pub fn put_text(t: &mut Text, text: &[u8], strict: bool)
-    ensures { text_of t.new ≡ with_bytes (escaped strict text.now) (text_of t.old) }
-{
-    let how = if strict { Escape::Strict } else { Escape::Html };
-    html_escape::put_escaped(t, text, how);
-}
-
-// A chunk that does not end the walk of its body.
+// A chunk that does not end the walk of its body. It has places and no text, since the C interface gives places (`next_chunk`).
+// `strict` and no Escape: an Escape may be Markdown's, which no chunk of HTML has.
 #[tactic(auto, unfolding(utf8::specs::Utf8::bytes, utf8::specs::Utf8::encode, html_rules::specs::Html::br, crate::proofs::Names::choose))]
 pub fn put_chunk(t: &mut Text, body: &[u8], piece: Piece, strict: bool)
     ensures { text_of t.new ≡ with_bytes (chunk_text strict (chunk_of body.now piece)) (text_of t.old) }
 {
     match piece {
-        Piece::Raw(_, _, _) => put_text(t, splitter::text_of(body, piece), strict),
+        Piece::Raw { .. } => {
+            html_escape::put_escaped(t, piece.text_of(body), Escape::Html { strict });
+        }
         Piece::Space(_) => t.put(b' '),
         Piece::Paragraph(_) | Piece::LineBreak(_) => t.put_all(b"<br>\n"),
     }

@@ -2,8 +2,8 @@
 use Rattle.std.specs.Prelude.{◌^◌, min, Bool, true, false}
 use borrow.Author.Tests.{leb-false}
 use Rattle.joined.proofs.Names.{ℕ, ◌+◌, ◌-◌, ◌≤◌, ◌<◌, ◌≡◌, refl, sym, subst, ap, ap₂, ◌∙◌, List, [], ◌∷◌}
-use Rattle.joined.proofs.Names.{leb, leb-true, take, arith, le-leb, lt-leb, if_true}
-use Rattle.joined.proofs.Names.{if_false, little, size, records_at, heads_in}
+use Rattle.joined.proofs.Names.{leb, leb-true, arith, le-leb, lt-leb, if_true}
+use Rattle.joined.proofs.Names.{if_false, size, records_at, heads_in}
 use Rattle.base.specs.Choice.{when◌then◌else◌}
 use Rattle.joined_rules.specs.Places.{place_from, place_in, byte_from, byte_in}
 
@@ -46,10 +46,6 @@ module _ (p q at : ℕ) {hs : List (List ℕ)} where
 pub placing_start : (j : List ℕ) (p : ℕ) {q : ℕ} {hs : List (List ℕ)} → q ≡ records_at j → hs ≡ heads_in j → place_from q 0 hs p ≡ place_in j p
 unfolding place_in
 placing_start j p e f = rw (e, f)
-
-pub start_at : (j : List ℕ) {n : ℕ} → n ≡ little (take 4 j) → 4 + n ≡ records_at j
-unfolding records_at size
-start_at j e = rw e
 
 -- The same of a byte, with its record's text at `from`: at most four more than `at`, which is not past the place.
 pub record Finding (j : List ℕ) (p at from : ℕ) (hs : List (List ℕ)) : Type 0 where

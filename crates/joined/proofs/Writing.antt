@@ -84,13 +84,6 @@ module _ {d : List ℕ} {old v : Lent} {left rest : List Token} {t : Token} (w :
   first_head : Heads d (t ∷ rest) w.hs
   first_head = subst (λ (ts : List Token). Heads d ts w.hs) e w.firsts
 
-  pub heading_within : (t.place ≤ t.start) × (t.start ≤ length d)
-  heading_within = go w.hs first_head
-    where
-      go : (hs : List (List ℕ)) → Heads d (t ∷ rest) hs → (t.place ≤ t.start) × (t.start ≤ length d)
-      go [] k = elim k [ ]
-      go (h ∷ hs) (more l f k) = l
-
   pub heading_more : (new : Lent) → new ≡ with_bytes (part d t.place t.start) v → Heading d old rest new
   heading_more new n = go w.hs first_head w.putting
     where
@@ -122,9 +115,6 @@ module _ {j text h : List ℕ} {old t : Lent} {hs rest : List (List ℕ)} (w : S
   first = shared_first (subst (Shared text) e w.shared)
 
   module _ {n : ℕ} (f : n ≡ size h) where
-    pub sharing_fits : n ≤ length text
-    sharing_fits = omega (arith, first.1, f)
-
     -- its first bytes and its share are written
     pub sharing_more : {x y : List ℕ} (one two : Lent) → one ≡ with_bytes h t → two ≡ with_bytes x one → x ≡ take n text → y ≡ drop n text
         → Sharing j old y rest two

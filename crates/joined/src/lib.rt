@@ -15,7 +15,7 @@ ghost use Rattle.joined_rules.specs.Joined.{heads_of, unjoined, check_joined, jo
 ghost use Rattle.joined_rules.specs.Places.{place_in, byte_in};
 
 use joined_check::Shares;
-use records::{Records, four};
+use records::Records;
 use refusal::Refusal;
 use room::Text;
 
@@ -27,6 +27,7 @@ fn put_four(t: &mut Text, n: usize)
 }
 
 // A number in the first four bytes of a room; a smaller room stays as it was.
+// (No method of `Text`, whose contracts speak of what stands after the text, and not of bytes within it.)
 fn set_four(room: &mut [u8], n: usize)
     ensures { room.new ≡ overwritten room.old 0 (little_bytes 4 n) }
 {
@@ -70,14 +71,12 @@ fn joined_into(document: &[u8], room: &mut [u8]) -> Result<usize, Refusal>
     renderer::answer(room, end)
 }
 
-// A document into the joined form. The room is 0 beyond it, and all 0 after a refusal.
+// A document into the joined form. The room is 0 beyond it, and all 0 after a refusal. (A line that each renderer has: console::render_console says why.)
 pub fn join(document: &[u8], room: &mut [u8]) -> Result<usize, Refusal>
     ensures answer { answered result ≡ measured (joins_into (length room.old) document.now) }
     ensures room { room.new ≡ filled (length room.old) (joins_into (length room.old) document.now) }
 {
-    let answer = joined_into(document, room);
-    renderer::clear_after(room, answer);
-    answer
+    renderer::cleared(joined_into(document, room), room)
 }
 
 // Each record's first bytes with its share of the text, of an accepted joined form.
@@ -102,8 +101,7 @@ fn unjoined_into(joined: &[u8], room: &mut [u8]) -> Result<usize, Refusal>
     joined_check::check(joined)?;
     let mut t = Text::new(room);
     put_records(joined, &mut t);
-    let end = t.finish();
-    renderer::answer(room, end)
+    renderer::finish(t)
 }
 
 // A joined form into a document. The room is 0 beyond it, and all 0 after a refusal.
@@ -111,24 +109,24 @@ pub fn unjoin(joined: &[u8], room: &mut [u8]) -> Result<usize, Refusal>
     ensures answer { answered result ≡ measured (unjoins_into (length room.old) joined.now) }
     ensures room { room.new ≡ filled (length room.old) (unjoins_into (length room.old) joined.now) }
 {
-    let answer = unjoined_into(joined, room);
-    renderer::clear_after(room, answer);
-    answer
+    renderer::cleared(unjoined_into(joined, room), room)
 }
+
 // Where the record stands that the document has at place `p`.
+// (The document's places are counted along, here and in `byte_in`: an item of `Shares` that had them would still leave the end to be counted.)
 pub fn place_in(joined: &[u8], p: usize) -> usize
     ensures { result ≡ place_in joined.now p }
 {
-    let mut end = 4 + four(joined, 0);
+    let mut records = Shares::of(joined);
     let mut at: usize = 0;
-    for s in Shares::of(joined) {
+    // `while let`, since the place that the iterator ends at is read: a `for` lends it to the loop alone
+    while let Some(s) = records.next() {
         if p <= at {
             return s.place;
         }
         at = at.saturating_add(6 + s.size());
-        end = s.next;
     }
-    end
+    records.at
 }
 
 // Where the byte of a body stands, or the body's end, that the document has at place `p`.

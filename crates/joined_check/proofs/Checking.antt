@@ -2,14 +2,15 @@
 use Rattle.joined_check.proofs.Names.{ℕ, ◌+◌, ◌-◌, ◌≤◌, ◌<◌, ◌≡◌, refl, sym, ap, ◌∙◌, length, take, arith, utf8, opens, closes}
 use mathlib.Core.Bool.{true, false}
 use mathlib.Core.List.{List, [], ◌∷◌}
-use lib.Dec.{leb}
+use lib.Dec.{leb, ltb}
 use lib.ListN.{drop}
 use lib.Seq.{take_all}
-use borrow.Author.Tests.{le-leb, lt-leb, le-ltb, lt-ltb, eq-eqb, ne_eqb}
+use borrow.Author.Tests.{le-leb, lt-leb, le-ltb, lt-ltb, ltb-false, eq-eqb, ne_eqb}
 use Rattle.base.specs.Bytes.{part}
 use Rattle.base.specs.Choice.{when◌then◌else◌}
-use Rattle.base.specs.Result.{gives, refused, ◌>>=◌}
+use Rattle.base.specs.Result.{Result, gives, refused, ◌>>=◌}
 use Rattle.base.proofs.Choice.{if_true, if_false}
+use Rattle.base.proofs.Results.{bind_gives, else_gives, if_gives, gives_same}
 use Rattle.records.specs.Records.{little, index, size}
 use Rattle.records.specs.declared.Block.{Block}
 use Rattle.records.specs.declared.Style.{Style}
@@ -63,21 +64,21 @@ module _ {k : Kind} (p n : ℕ) (text stack : List ℕ) where
   unfolding accept_share
   share-text e = rw e
 
-  pub share-start : {b : Block} → k ≡ kind.Start b → n ≤ 0 → opens p (index b) stack ≡ accept_share p k n text stack
+  pub share-start : {b : Block} → k ≡ kind.Start b → n ≡ 0 → opens p (index b) stack ≡ accept_share p k n text stack
   unfolding accept_share lengthless
-  share-start e h = rw e (sym (if_true _ _ (eq-eqb n 0 (omega arith))))
+  share-start e h = rw e (sym (if_true _ _ (eq-eqb n 0 h)))
 
-  pub share-end : {b : Block} → k ≡ kind.End b → n ≤ 0 → closes p (index b) stack ≡ accept_share p k n text stack
+  pub share-end : {b : Block} → k ≡ kind.End b → n ≡ 0 → closes p (index b) stack ≡ accept_share p k n text stack
   unfolding accept_share lengthless
-  share-end e h = rw e (sym (if_true _ _ (eq-eqb n 0 (omega arith))))
+  share-end e h = rw e (sym (if_true _ _ (eq-eqb n 0 h)))
 
   pub share-start-length : {b : Block} → k ≡ kind.Start b → 0 < n → refused 4 p ≡ accept_share p k n text stack
   unfolding accept_share lengthless
-  share-start-length e h = rw e (sym (if_false _ _ (ne_eqb n 0 (omega arith))))
+  share-start-length e h = rw e (sym (if_false _ _ (ne_eqb n 0 (omega (arith, h)))))
 
   pub share-end-length : {b : Block} → k ≡ kind.End b → 0 < n → refused 4 p ≡ accept_share p k n text stack
   unfolding accept_share lengthless
-  share-end-length e h = rw e (sym (if_false _ _ (ne_eqb n 0 (omega arith))))
+  share-end-length e h = rw e (sym (if_false _ _ (ne_eqb n 0 (omega (arith, h)))))
 
 -- The records that are left
 
@@ -137,14 +138,34 @@ left_start j text e f g = rw (e, f, g)
 
 -- 1 and 17
 
-pub check_long : (j : List ℕ) → 32_772 < length j → refused 1 0 ≡ check_joined j
-unfolding check_joined short_joined when◌then◌else◌ ◌>>=◌
-check_long j h = rw (lt-ltb 32_772 (length j) h)
+module _ (j : List ℕ) where
+  pub text_long : 32_772 < length j → refused 1 0 ≡ (short_joined j >>= whole_text)
+  unfolding short_joined when◌then◌else◌ ◌>>=◌
+  text_long h = rw (lt-ltb 32_772 (length j) h)
 
-pub check-textless : (j : List ℕ) → length j ≤ 32_772 → has_text j ≡ false → refused 17 0 ≡ check_joined j
-unfolding check_joined short_joined whole_text when◌then◌else◌ ◌>>=◌
-check-textless j h e = rw (le-ltb 32_772 (length j) h, e)
+  module _ (h : length j ≤ 32_772) where
+    pub text_none : has_text j ≡ false → refused 17 0 ≡ (short_joined j >>= whole_text)
+    unfolding short_joined whole_text when◌then◌else◌ ◌>>=◌
+    text_none e = rw (le-ltb 32_772 (length j) h, e)
 
-pub check-reads : (j : List ℕ) → length j ≤ 32_772 → has_text j ≡ true → reads_joined j ≡ check_joined j
-unfolding check_joined short_joined whole_text when◌then◌else◌ ◌>>=◌
-check-reads j h e = rw (le-ltb 32_772 (length j) h, e)
+    pub text_whole : has_text j ≡ true → gives j ≡ (short_joined j >>= whole_text)
+    unfolding short_joined whole_text when◌then◌else◌ ◌>>=◌
+    text_whole e = rw (le-ltb 32_772 (length j) h, e)
+
+  -- a form that has neither is at most so long, and has its text
+  pub text_there : {x : List ℕ} → (short_joined j >>= whole_text) ≡ gives x → (length j ≤ 32_772) × (has_text j ≡ true)
+  unfolding short_joined whole_text
+  text_there {x} e =
+      let m = bind_gives (short_joined j) whole_text x e in
+      let s = else_gives (ltb 32_772 (length j)) (gives j) 1 0 m.0 m.1 in
+      let t = if_gives (has_text m.0) (gives m.0) 17 0 x m.2 in
+      (ltb-false 32_772 (length j) s.0, ap has_text (gives_same s.1) ∙ t.0)
+
+  -- the check has them first
+  pub check-refused : {n p : ℕ} → (short_joined j >>= whole_text) ≡ refused n p → refused n p ≡ check_joined j
+  unfolding check_joined ◌>>=◌
+  check-refused e = ap (λ (r : Result (List ℕ)). r >>= reads_joined) (sym e)
+
+  pub check-reads : (short_joined j >>= whole_text) ≡ gives j → reads_joined j ≡ check_joined j
+  unfolding check_joined ◌>>=◌
+  check-reads e = ap (λ (r : Result (List ℕ)). r >>= reads_joined) (sym e)

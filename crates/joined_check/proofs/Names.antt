@@ -2,7 +2,6 @@
 pub use Prim.Native.Nat.{◌+◌, ◌-◌, ◌<◌, ◌≤◌, ℕ}
 pub use Rattle.document.specs.Document.{closes, opens}
 pub use Rattle.utf8.specs.Utf8.{utf8}
-pub use borrow.Author.Rules.{rules}
 pub use lib.ListN.{length, take}
-pub use mathlib.Core.Path.{◌∙◌, ◌≡◌, ap, ap₂, refl, sym}
+pub use mathlib.Core.Path.{◌∙◌, ◌≡◌, ap, refl, sym}
 pub use native.Mathlib.Omega.{arith}

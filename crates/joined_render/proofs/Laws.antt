@@ -1,7 +1,8 @@
 -- A joined form that is moved into a buffer, rendered from there, and the place of a refusal. Assumes nothing.
-use Rattle.joined_render.proofs.Names.{ℕ, ◌+◌, ◌-◌, ◌≤◌, ◌<◌, ◌≡◌, refl, sym, ap, ap₂, ◌∙◌, length, take, replicate, take_at, length-take-le, arith}
-use Rattle.joined_render.proofs.Names.{le-ltb, lt-ltb, extended_in, length-padded}
-use mathlib.Core.Bool.{true, false, false≢true}
+use Rattle.joined_render.proofs.Names.{ℕ, ◌+◌, ◌-◌, ◌≤◌, ◌≡◌, refl, sym, ap, ap₂, ◌∙◌, length, take, take_at, length-take-le, arith}
+use Rattle.joined_render.proofs.Names.{extended_in, length-padded}
+use mathlib.Core.Bool.{Bool, true, false, false≢true}
+use lib.Dec.{ltb}
 use mathlib.Core.List.{List, []}
 use Rattle.base.specs.Choice.{when◌then◌else◌}
 use Rattle.base.specs.Result.{Result, gives, refused, measured, ◌>>=◌}
@@ -11,13 +12,13 @@ use Rattle.refusal.specs.Numbers.{refusal_number, refusal_place}
 use Rattle.refusal.specs.declared.Refusal.{Refusal}
 use Rattle.std.specs.Prelude.{Result as Answer, Ok, Err}
 use Rattle.refusal.specs.Answers.{answered}
-use Rattle.renderer.specs.Rendered.{filled}
-use Rattle.console_rules.specs.Console.{measure_of, narrow, console}
+use Rattle.renderer.specs.Rendered.{standing, filled}
+use Rattle.console_rules.specs.Console.{measure_of, narrow, console, console_on}
 use Rattle.console_rules.specs.declared.Settings.{Settings}
-use Rattle.joined_rules.specs.Joined.{has_text, short_joined, whole_text, check_joined, unjoined, unjoins, unjoins_into}
+use Rattle.joined_rules.specs.Joined.{short_joined, whole_text, reads_joined, check_joined, tokens_in, unjoined, unjoins, unjoins_into}
 use Rattle.joined_rules.specs.Places.{back_in, relocated}
 use Rattle.joined_rules.proofs.Forms.{joined-none, unjoined-length}
-use Rattle.joined_check.proofs.Checking.{check_long, check-textless, check-reads}
+use Rattle.joined_check.proofs.Checking.{check-refused, check-reads}
 use Rattle.joined_render_rules.specs.Render.{joined_console_by, joined_console, joined_html, joined_markdown, joined_roff}
 use Rattle.joined_render_rules.proofs.Laws.{from-joined}
 use Rattle.any_renderer.specs.InnerRenders.{renders, too_wide}
@@ -78,6 +79,13 @@ module _ (j buffer new : List ℕ) (m : Answer ℕ Refusal) (l : length j ≤ le
 
 -- 1, 17 and 9 come before
 
+-- in the console too
+text_first : {B : Type 0} (b : Bool) (j : List ℕ) (f : Result B) → ((when b then refused 1 0 else gives j) >>= λ _. whole_text j >>= λ _. f)
+    ≡ ((when b then refused 1 0 else gives j) >>= whole_text >>= λ _. f)
+unfolding when◌then◌else◌ ◌>>=◌
+text_first true j f = refl
+text_first false j f = refl
+
 module _ (room : ℕ) (j : List ℕ) where
   -- the check's refusal, where the console has it too
   checked_refused : {n p : ℕ} → check_joined j ≡ refused n p → (a : Asked)
@@ -89,28 +97,40 @@ module _ (room : ℕ) (j : List ℕ) where
   checked_refused e (asked.Markdown full) k = rw e
   checked_refused e asked.Roff k = rw e
 
-  pub joined_long : (a : Asked) → 32_772 < length j → renders_joined a room j ≡ refused 1 0
-  unfolding joined_console joined_console_by short_joined when◌then◌else◌ ◌>>=◌
-  joined_long a h = checked_refused (sym (check_long j h)) a λ set e. rw (lt-ltb 32_772 (length j) h)
+  console_text : {B : Type 0} (f : Result B) → (short_joined j >>= λ _. whole_text j >>= λ _. f) ≡ (short_joined j >>= whole_text >>= λ _. f)
+  unfolding short_joined
+  console_text f = text_first (ltb 32_772 (length j)) j f
 
-  module _ (few : length j ≤ 32_772) where
-    pub joined-textless : (a : Asked) → has_text j ≡ false → renders_joined a room j ≡ refused 17 0
-    unfolding joined_console joined_console_by short_joined whole_text when◌then◌else◌ ◌>>=◌
-    joined-textless a e = checked_refused (sym (check-textless j few e)) a λ set _. rw (le-ltb 32_772 (length j) few, e)
+  -- what the console asks after them
+  abbrev then_console : Settings → Result (List ℕ)
+  then_console set = narrow set.width >>= λ _. reads_joined j >>= λ _. console_on (measure_of set) set room (tokens_in j)
 
-    module _ (e : has_text j ≡ true) where
-      pub joined-wide : (a : Asked) → too_wide a ≡ true → renders_joined a room j ≡ refused 9 0
-      unfolding joined_console joined_console_by short_joined whole_text narrow when◌then◌else◌ ◌>>=◌
-      joined-wide (asked.Console set) h = rw (le-ltb 32_772 (length j) few, e, h)
-      joined-wide (asked.Html full sheet) h = absurd (false≢true h)
-      joined-wide (asked.StrictHtml full sheet) h = absurd (false≢true h)
-      joined-wide (asked.Markdown full) h = absurd (false≢true h)
-      joined-wide asked.Roff h = absurd (false≢true h)
+  console_split : (set : Settings) → joined_console set room j ≡ (short_joined j >>= whole_text >>= λ _. then_console set)
+  unfolding joined_console joined_console_by ◌>>=◌
+  console_split set = console_text (then_console set)
 
-      pub joined-refused : (a : Asked) → too_wide a ≡ false → {n p : ℕ} → check_joined j ≡ refused n p → renders_joined a room j ≡ refused n p
-      unfolding joined_console joined_console_by short_joined whole_text narrow when◌then◌else◌ ◌>>=◌
-      joined-refused a h f =
-          checked_refused f a λ set g. rw (le-ltb 32_772 (length j) few, e, sym (ap too_wide g) ∙ h, check-reads j few e ∙ f)
+  pub joined-short : {n p : ℕ} → (short_joined j >>= whole_text) ≡ refused n p → (a : Asked) → renders_joined a room j ≡ refused n p
+  unfolding ◌>>=◌
+  joined-short e a =
+      checked_refused (sym (check-refused j e)) a λ set _. console_split set ∙ ap (λ (r : Result (List ℕ)). r >>= λ _. then_console set) e
+
+  module _ (t : (short_joined j >>= whole_text) ≡ gives j) where
+    console_then : (set : Settings) → joined_console set room j ≡ then_console set
+    unfolding ◌>>=◌
+    console_then set = console_split set ∙ ap (λ (r : Result (List ℕ)). r >>= λ _. then_console set) t
+
+    pub joined-wide : (a : Asked) → too_wide a ≡ true → renders_joined a room j ≡ refused 9 0
+    unfolding narrow when◌then◌else◌ ◌>>=◌
+    joined-wide (asked.Console set) h = console_then set ∙ rw h refl
+    joined-wide (asked.Html full sheet) h = absurd (false≢true h)
+    joined-wide (asked.StrictHtml full sheet) h = absurd (false≢true h)
+    joined-wide (asked.Markdown full) h = absurd (false≢true h)
+    joined-wide asked.Roff h = absurd (false≢true h)
+
+    pub joined-refused : (a : Asked) → too_wide a ≡ false → {n p : ℕ} → check_joined j ≡ refused n p → renders_joined a room j ≡ refused n p
+    unfolding narrow when◌then◌else◌ ◌>>=◌
+    joined-refused a h f =
+        checked_refused f a λ set g. console_then set ∙ rw (sym (ap too_wide g) ∙ h, check-reads j t ∙ f) refl
 
   -- and of an accepted joined form what is asked for is the document's, the place aside
   joined-renders : check_joined j ≡ gives [] → (a : Asked) → renders_joined a room j ≡ relocated (back_in j) (renders a room (unjoined j))
@@ -123,10 +143,17 @@ module _ (room : ℕ) (j : List ℕ) where
 
 -- Answers
 
--- a refusal: the answer and the room
-pub refused_both : (room : ℕ) (new : List ℕ) {r : Result ℕ} {x : Result (List ℕ)} {n p : ℕ} → r ≡ refused n p → new ≡ replicate room 0 → x ≡ refused n p
-    → (r ≡ measured x) × (new ≡ filled room x)
-refused_both room new e f g = (e ∙ ap measured (sym g), f ∙ ap (filled room) (sym g))
+-- a refusal: the answer, and what stands in the room
+pub refused_both : {x : Result (List ℕ)} {n p : ℕ} → x ≡ refused n p → (◌≡◌ {A = Result ℕ} (refused n p) (measured x)) × (refused n p ≡ x)
+refused_both g = (ap measured (sym g), sym g)
+
+-- what was answered, and left in the room, is what stands there
+standing-filled : (room : ℕ) (new : List ℕ) (m : Answer ℕ Refusal) (x : Result (List ℕ)) → answered m ≡ measured x → new ≡ filled room x → standing new m ≡ x
+unfolding padded
+standing-filled room new (Ok k) (gives t) e f = ap gives (ap (take k) f ∙ take_at t _ k (sym (gives_same e)))
+standing-filled room new (Ok k) (refused n p) e f = absurd (refused-gives (sym e))
+standing-filled room new (Err a) (gives t) e f = absurd (refused-gives e)
+standing-filled room new (Err a) (refused n p) e f = same-refusal e
 
 relocated-measured : (back : ℕ → ℕ → ℕ) (r : Result (List ℕ)) → relocated back (measured r) ≡ measured (relocated back r)
 relocated-measured back (gives x) = refl
@@ -139,11 +166,11 @@ relocated-filled back room (refused n p) = refl
 -- the document was rendered, and its answer got the place in the joined form
 pub rendered_both : (a : Asked) (room : ℕ) (j doc new : List ℕ) (m r : Answer ℕ Refusal) → check_joined j ≡ gives [] → doc ≡ unjoined j
     → answered r ≡ measured (renders a room doc) → new ≡ filled room (renders a room doc) → answered m ≡ relocated (back_in j) (answered r)
-    → (answered m ≡ measured (renders_joined a room j)) × (new ≡ filled room (renders_joined a room j))
+    → (answered m ≡ measured (renders_joined a room j)) × (standing new m ≡ renders_joined a room j)
 rendered_both a room j doc new m r e d f g q =
     let k : renders_joined a room j ≡ relocated (back_in j) (renders a room doc) =
     joined-renders room j e a ∙ ap (λ (x : List ℕ). relocated (back_in j) (renders a room x)) (sym d)
-    in (
-      q ∙ ap (relocated (back_in j)) f ∙ relocated-measured (back_in j) (renders a room doc) ∙ ap measured (sym k),
-      g ∙ sym (relocated-filled (back_in j) room (renders a room doc)) ∙ ap (filled room) (sym k),
-    )
+    in
+    let answer = q ∙ ap (relocated (back_in j)) f ∙ relocated-measured (back_in j) (renders a room doc) ∙ ap measured (sym k) in
+    let left = g ∙ sym (relocated-filled (back_in j) room (renders a room doc)) ∙ ap (filled room) (sym k) in
+    (answer, standing-filled room new m (renders_joined a room j) answer left)

@@ -1,9 +1,8 @@
 -- Names of other crates and libraries that the proofs of this crate cite, by where they are from.
-pub use Prim.Native.Nat.{◌+◌, ◌-◌, ◌<◌, ◌≤◌, ℕ}
-pub use Rattle.room.proofs.Laws.{extended_in, length-padded, padded-none}
+pub use Prim.Native.Nat.{◌+◌, ◌-◌, ◌≤◌, ℕ}
+pub use Rattle.room.proofs.Laws.{extended_in, length-padded}
 pub use borrow.Author.Rules.{rules}
-pub use borrow.Author.Tests.{le-ltb, leb-true, lt-ltb, not-false, not-true}
-pub use lib.ListN.{length, length-replicate, replicate, take}
+pub use lib.ListN.{length, take}
 pub use lib.Seq.{length-take-le, take_at}
 pub use mathlib.Core.Path.{◌∙◌, ◌≡◌, ap, ap₂, refl, sym}
 pub use native.Mathlib.Omega.{arith}

@@ -3,13 +3,12 @@
 
 #![tactic(auto)]
 
-ghost use Rattle.std.specs.Prelude.{◌≡◌, true, false, ◌+◌, ◌≤◌, length, replicate};
-ghost use Rattle.base.specs.Result.{refused, measured};
-ghost use Rattle.refusal.specs.Numbers.{refusal_number, refusal_place};
+ghost use Rattle.std.specs.Prelude.{◌≡◌, true, false, ◌+◌, ◌≤◌, length};
+ghost use Rattle.base.specs.Result.{gives, measured, ◌>>=◌ as bind};
 ghost use Rattle.refusal.specs.Answers.{answered};
-ghost use Rattle.renderer.specs.Rendered.{filled};
+ghost use Rattle.renderer.specs.Rendered.{standing, filled};
 ghost use Rattle.any_renderer.specs.InnerRenders.{too_wide};
-ghost use Rattle.joined_rules.specs.Joined.{has_text};
+ghost use Rattle.joined_rules.specs.Joined.{short_joined, whole_text};
 ghost use Rattle.joined_render_rules.specs.Render.{joined_console, joined_html, joined_markdown, joined_roff};
 ghost use Rattle.joined_render.specs.InnerParts.{renders_joined};
 
@@ -18,15 +17,6 @@ use console_rules::Settings;
 use document::MAX_BYTES;
 use refusal::Refusal;
 
-// A refusal, and an empty room.
-fn refuse(room: &mut [u8], a: Refusal) -> Result<usize, Refusal>
-    ensures answer { answered result ≡ refused (refusal_number a) (refusal_place a) }
-    ensures room { room.new ≡ replicate (length room.old) 0 }
-{
-    room::clear_from(room, 0);
-    Err(a)
-}
-
 // What is asked for of a joined form, through a buffer that takes the document: what follows 1, 17 and 9.
 fn through(
     joined: &[u8],
@@ -34,41 +24,40 @@ fn through(
     buffer: &mut [u8],
     room: &mut [u8],
 ) -> Result<usize, Refusal>
-    requires { (length joined.now ≤ 32_772) × (has_text joined.now ≡ true) × (too_wide asked ≡ false) × (length joined.now ≤ length buffer.old + 4) }
+    requires { (bind (short_joined joined.now) whole_text ≡ gives joined.now) × (too_wide asked ≡ false) × (length joined.now ≤ length buffer.old + 4) }
     ensures answer { answered result ≡ measured (renders_joined asked (length room.old) joined.now) }
-    ensures room { room.new ≡ filled (length room.old) (renders_joined asked (length room.old) joined.now) }
+    ensures text { standing room.new result ≡ renders_joined asked (length room.old) joined.now }
 {
-    match joined::unjoin(joined, buffer) {
-        Err(a) => refuse(room, a),
-        Ok(n) => {
-            let answer = any_renderer::render_any(&buffer[..n], asked, room);
-            joined_places::placed(joined, answer)
-        }
-    }
+    let n = joined::unjoin(joined, buffer)?;
+    let answer = any_renderer::render_any(&buffer[..n], asked, room);
+    joined_places::placed(joined, answer)
 }
 
 // What is asked for of a joined form, or its refusal: 1, 17, 9, then the rest.
-fn render(joined: &[u8], asked: Asked, room: &mut [u8]) -> Result<usize, Refusal>
+fn rendered(joined: &[u8], asked: Asked, room: &mut [u8]) -> Result<usize, Refusal>
     ensures answer { answered result ≡ measured (renders_joined asked (length room.old) joined.now) }
-    ensures room { room.new ≡ filled (length room.old) (renders_joined asked (length room.old) joined.now) }
+    ensures text { standing room.new result ≡ renders_joined asked (length room.old) joined.now }
 {
-    if joined_check::MAX_BYTES < joined.len() {
-        return refuse(room, Refusal::TooLong);
-    }
-    if !joined_check::has_text(joined) {
-        return refuse(room, Refusal::NoJoinedText);
-    }
+    joined_check::check_text(joined)?;
     if any_renderer::too_wide(asked) {
-        return refuse(room, Refusal::TooWide);
+        return Err(Refusal::TooWide);
     }
     let n = joined.len() - 4;
-    // Arrays, since the library has no heap; two of them, since zeros for the large one would take a small form much of its time.
+    // Arrays, since the library has no heap; two of them, since zeros for the large one would cost a page of 2 KB a tenth of its time.
     if n <= 4_096 {
         let mut small: [u8; 4_096] = [0; 4_096];
         return through(joined, asked, &mut small[..n], room);
     }
     let mut buffer: [u8; MAX_BYTES] = [0; MAX_BYTES];
     through(joined, asked, &mut buffer[..n], room)
+}
+
+// The same; the room is 0 beyond the text, and all 0 after a refusal.
+fn render(joined: &[u8], asked: Asked, room: &mut [u8]) -> Result<usize, Refusal>
+    ensures answer { answered result ≡ measured (renders_joined asked (length room.old) joined.now) }
+    ensures room { room.new ≡ filled (length room.old) (renders_joined asked (length room.old) joined.now) }
+{
+    renderer::cleared(rendered(joined, asked, room), room)
 }
 
 // The console text of a joined form. As with a document the room is 0 beyond the text, and all 0 after a refusal; so with the others.
@@ -80,6 +69,7 @@ pub fn joined_console(joined: &[u8], set: Settings, room: &mut [u8]) -> Result<u
 }
 
 // Its HTML. This one and the next are two functions, as the C interface has them.
+// (So are the two flags, which a struct would hold for one call.)
 pub fn joined_html(joined: &[u8], full: bool, css: bool, room: &mut [u8]) -> Result<usize, Refusal>
     ensures answer { answered result ≡ measured (joined_html (length room.old) false full css joined.now) }
     ensures room { room.new ≡ filled (length room.old) (joined_html (length room.old) false full css joined.now) }

@@ -1,17 +1,20 @@
 -- What a block's start or end pushes, and what it does to capture. Assumes nothing.
 use Rattle.manpage.proofs.Names.{ℕ, ◌≡◌, refl, sym, ap, ◌∙◌, Bool, true, false, false≢true, List, [], eqb, when◌then◌else◌, gives}
-use Rattle.manpage.proofs.Names.{refused, if_true, if_false, bytes, index, Block, Style, Roff, Piece, Records, Composed, roff_of, pushed, stripped}
+use Rattle.manpage.proofs.Names.{refused, if_true, if_false, bytes, index, Block, Style, Roff, Piece, Composed, roff_of, pushed, stripped}
 use Rattle.manpage.proofs.Names.{pushed_none, Locals, Outcome}
 use Rattle.manpage.proofs.Names.{subsection, heading, started, ended, locals, Follows, is_heading, is_term_ref, opening, closing, closed, opened, shut}
-use Rattle.std.specs.Prelude.{Option, Some, None, is_some, unwrap_or}
+use Rattle.std.specs.Prelude.{Option, Some, None, is_some}
 use Rattle.records.specs.declared.Block.TheVariants as block
 use Rattle.records.specs.declared.Kind.TheVariants as kind
 use Rattle.records.specs.declared.Style.TheVariants as style
+use Rattle.records.specs.contracts.Style.{the_type}
+use Rattle.records.specs.contracts.Block.{the_type as block_type}
+use denote.Enum.Bare.{sameb}
 
 -- Capture
 
-module _ (b : Block) (captured : Option Records) where
-  module _ (from : Records) where
+module _ (b : Block) (captured : Option ℕ) where
+  module _ (from : ℕ) where
     pub opened-heading : is_heading b ≡ true → Some from ≡ opened b captured from
     unfolding opened
     opened-heading e = sym (if_true _ _ e)
@@ -29,14 +32,6 @@ module _ (b : Block) (captured : Option Records) where
         go true = refl
         go false = refl
 
-    pub opened-from : unwrap_or captured from ≡ from → unwrap_or (opened b captured from) from ≡ from
-    unfolding opened when◌then◌else◌
-    opened-from e = go (is_heading b)
-      where
-        go : (c : Bool) → unwrap_or (when c then Some from else captured) from ≡ from
-        go true = refl
-        go false = e
-
   pub shut-heading : is_heading b ≡ true → None ≡ shut b captured
   unfolding shut
   shut-heading e = sym (if_true _ _ e)
@@ -53,24 +48,24 @@ module _ (b : Block) (captured : Option Records) where
       go true = refl
       go false = refl
 
-  pub shut-from : (from : Records) → unwrap_or captured from ≡ from → unwrap_or (shut b captured) from ≡ from
-  unfolding shut when◌then◌else◌
-  shut-from from e = go (is_heading b)
-    where
-      go : (c : Bool) → unwrap_or (when c then None else captured) from ≡ from
-      go true = refl
-      go false = e
-
 -- What is pushed
 
--- before text without emphasis nothing is
-pub subsection-nothing : (st : Style) → (st ≡ style.Emphasis → ⊥) → subsection st ≡ []
+-- before emphasis what `subsection` says of it, and before other text nothing
+pub subsection_where : (st : Style) → true ≡ sameb the_type st style.Emphasis → subsection st ≡ subsection style.Emphasis
 unfolding subsection
-subsection-nothing style.Text h = refl
-subsection-nothing style.Emphasis h = absurd (h refl)
-subsection-nothing style.Literal h = refl
-subsection-nothing style.Metavar h = refl
-subsection-nothing style.Invalid h = refl
+subsection_where style.Text e = absurd (false≢true (sym e))
+subsection_where style.Emphasis e = refl
+subsection_where style.Literal e = absurd (false≢true (sym e))
+subsection_where style.Metavar e = absurd (false≢true (sym e))
+subsection_where style.Invalid e = absurd (false≢true (sym e))
+
+pub subsection-nothing : (st : Style) → false ≡ sameb the_type st style.Emphasis → subsection st ≡ []
+unfolding subsection
+subsection-nothing style.Text e = refl
+subsection-nothing style.Emphasis e = absurd (false≢true e)
+subsection-nothing style.Literal e = refl
+subsection-nothing style.Metavar e = refl
+subsection-nothing style.Invalid e = refl
 
 module _ (p : ℕ) (kept : List ℕ) (capture : Bool) (m : Roff) where
   -- nothing, at the start of these blocks and at the end of those
@@ -106,11 +101,26 @@ module _ (p : ℕ) (kept : List ℕ) (capture : Bool) (m : Roff) where
   ended-nothing block.Meta e h0 h1 h2 = absurd (h2 refl)
   ended-nothing block.Mono e h0 h1 h2 = pushed_none m
 
--- a heading that is no Header
-pub ended-section : (p : ℕ) (l : Locals) (b : Block) → is_heading b ≡ true
-    → (b ≡ block.Header → ⊥) → ended p b l ≡ heading (bytes "SS") l
+-- the end of a heading: of Header, and of another
+pub ended-header : (p : ℕ) (l : Locals) (b : Block) → true ≡ sameb block_type b block.Header → ended p b l ≡ heading (bytes "SH") l
 unfolding ended
-ended-section p l block.Header e h = absurd (h refl)
+ended-header p l block.Header e = refl
+ended-header p l block.Section2 e = absurd (false≢true (sym e))
+ended-header p l block.Section3 e = absurd (false≢true (sym e))
+ended-header p l block.Section4 e = absurd (false≢true (sym e))
+ended-header p l block.ItemTerm e = absurd (false≢true (sym e))
+ended-header p l block.ItemBody e = absurd (false≢true (sym e))
+ended-header p l block.DefinitionList e = absurd (false≢true (sym e))
+ended-header p l block.Block e = absurd (false≢true (sym e))
+ended-header p l block.InlineBlock e = absurd (false≢true (sym e))
+ended-header p l block.TermRef e = absurd (false≢true (sym e))
+ended-header p l block.Meta e = absurd (false≢true (sym e))
+ended-header p l block.Mono e = absurd (false≢true (sym e))
+
+pub ended-section : (p : ℕ) (l : Locals) (b : Block) → is_heading b ≡ true
+    → false ≡ sameb block_type b block.Header → ended p b l ≡ heading (bytes "SS") l
+unfolding ended
+ended-section p l block.Header e h = absurd (false≢true h)
 ended-section p l block.Section2 e h = refl
 ended-section p l block.Section3 e h = refl
 ended-section p l block.Section4 e h = refl

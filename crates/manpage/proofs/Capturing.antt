@@ -68,15 +68,6 @@ module _ {ts us : List Token} (r : Record) (first : ts ≡ token r ∷ us) where
         go false [] = refl
         go false (b ∷ x) = rw (ne_eqb (length (b ∷ x)) 0 (λ e. let z : ⊥ = omega arith in z)) refl
 
--- whether a text is empty, by its length
-pub not-empty : (x : List ℕ) → eqb (length x) 0 ≡ false → 1 ≤ length x
-not-empty [] e = absurd (false≢true (sym e))
-not-empty (b ∷ x) e = omega arith
-
-pub is_nothing : (x : List ℕ) → eqb (length x) 0 ≡ true → x ≡ []
-is_nothing [] e = refl
-is_nothing (b ∷ x) e = absurd (false≢true (sym (ne_eqb (length (b ∷ x)) 0 (λ z. let w : ⊥ = omega arith in w)) ∙ e))
-
 -- no record is left
 pub nothing_captured : heading_text [] ≡ []
 unfolding heading_text
@@ -101,15 +92,6 @@ pub captured_all : (some : Bool) (x y : List ℕ) → x ≡ [] → not some && e
 unfolding empty
 captured_all true x y z e = ap not e
 captured_all false x y z e = ap (λ (l : List ℕ). not (empty l)) (sym z) ∙ ap not e
-
--- there was some, where a text is not empty
-pub captured_some : (some : Bool) (n : ℕ) (x y z : List ℕ) → 1 ≤ n → not some && empty x ≡ not (some || not (eqb n 0)) && empty y
-    → not some && empty x ≡ empty z → true ≡ not (empty z)
-captured_some some n x y z h e f = ap not (go some (ne_eqb n 0 (λ w. let v : ⊥ = omega arith in v)) ∙ sym e ∙ f)
-  where
-    go : (s : Bool) → eqb n 0 ≡ false → false ≡ not (s || not (eqb n 0)) && empty y
-    go true z = refl
-    go false z = rw z refl
 
 -- The argument
 

@@ -1,6 +1,5 @@
 mod Names
 pub mod Capturing
-pub mod Casing
 pub mod Blocks
 pub mod Walking
 pub mod Whole

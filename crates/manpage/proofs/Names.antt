@@ -21,7 +21,7 @@ pub use Rattle.records.specs.declared.Style.{Style}
 unfoldable pub use Rattle.renderer.specs.Walk.{empty, walk}
 pub use Rattle.roff_escape.proofs.Buffer.{all_append, pushes-writes, writes-pushes}
 pub use Rattle.roff_escape.proofs.Composing.{payload_same, piece-put, pushed_none, pushed-same, pushed_then}
-pub use Rattle.roff_escape.proofs.Escaping.{escape-append, escaped-none, escaped_then}
+pub use Rattle.roff_escape.proofs.Escaping.{escape-append}
 unfoldable pub use Rattle.roff_escape.specs.Composer.{argument, control, control0, font_escape, linebreak, plaintext, text}
 unfoldable pub use Rattle.roff_escape.specs.Escape.{escape, line_start, preamble}
 pub use Rattle.roff_escape.specs.InnerParts.{Composed, pushed, roff_of, stripped, with_escaped}

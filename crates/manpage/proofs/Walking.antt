@@ -17,7 +17,6 @@ use Rattle.records.specs.declared.Kind.TheVariants as kind
 use Rattle.records.proofs.Tokens.{tokens_at, tokens-end, next_at}
 use Rattle.refusal.specs.declared.Refusal.{Refusal}
 use Rattle.std.specs.Prelude.{Result as Answer, Ok, Err, Option, Some, None, is_some, unwrap_or}
-use Rattle.room.specs.Lent.{Given}
 use Rattle.room.proofs.Lents.{past_room}
 use Rattle.renderer.proofs.Leads.{Leads, leads-on, leads-out, leads-refused, leads-end}
 use Rattle.manpage.specs.InnerParts.{HasBegun, IsSameRoom}
@@ -76,6 +75,17 @@ placed_first document at t us e =
     subst (Placed document) same (placed document at h))
     (le_or_lt (length document) at)
 
+place_first : (document : List ℕ) (at : ℕ) (t : Token) (us : List Token) → t ∷ us ≡ tokens_from document at → t.place ≡ at
+unfolding token_at
+place_first document at t us e =
+    ⊎_elim
+    (λ (h : length document ≤ at). let z : ⊥ = omega (arith, ap length (e ∙ tokens-end document at h)) in absurd z)
+    (λ (h : at < length document).
+    let q = e ∙ tokens_at document at h in
+    let same : token_at at (drop at document) ≡ t = cc in
+    subst (λ (t : Token). t.place ≡ at) same refl)
+    (le_or_lt (length document) at)
+
 -- The state
 
 -- what a `Roff` holds, with some locals
@@ -130,11 +140,6 @@ module _ (limit p q : ℕ) (k : Kind) (x : List ℕ) (ts : List Token) (l : Loca
       ∙ sym (seen_then old len _ _ (λ y h. turn-writes (record { out = y; fresh = start }) (omega (arith, size))))
       ∙ bind_assoc (seen old len) _ (turn limit p q k x ts)
 
--- a text that stands in a room fits it
-pub inside : (room : List ℕ) (len : ℕ) → Given (seen room len) → len ≤ length room
-inside room len g =
-    ⊎_elim (λ (h : len ≤ length room). h) (λ (h : length room < len). absurd (subst Given (seen-out room len h) g)) (le_or_lt len (length room))
-
 -- The whole
 
 abbrev pub whole : ℕ → List ℕ → Result State
@@ -145,53 +150,64 @@ pub whole-refused : (limit : ℕ) (document : List ℕ) (n p : ℕ) → whole li
 unfolding ◌>>=◌
 whole-refused limit document n p e = sym (ap (λ (s : Result State). s >>= λ s. gives s.written.out) e)
 
+-- The records from the place on where capture began; while it is off, those that are left.
+abbrev pub since : List ℕ → Option ℕ → List Token → List Token
+since document None ts = ts
+since document (Some at) ts = tokens_from document at
+
+since_here : (document : List ℕ) (captured : Option ℕ) (at : ℕ) (ts : List Token) → tokens_from document at ≡ ts
+    → tokens_from document (unwrap_or captured at) ≡ since document captured ts
+since_here document None at ts e = e
+since_here document (Some from) at ts e = refl
+
 -- What is captured before some records: the text from where capture began up to there. From where it began on, text is UTF-8.
-pub record Holds (captured : Option Records) (records : Records) (kept : List ℕ) : Type 0 where
-  pub valid : texts_valid (left (unwrap_or captured records)) ≡ true
-  pub chain : heading_text (left (unwrap_or captured records)) ≡ kept ++ heading_text (left records)
+pub record Holds (document : List ℕ) (captured : Option ℕ) (ts : List Token) (kept : List ℕ) : Type 0 where
+  pub valid : texts_valid (since document captured ts) ≡ true
+  pub chain : heading_text (since document captured ts) ≡ kept ++ heading_text ts
   pub none : is_some captured ≡ false → kept ≡ []
 
-module _ (records after : Records) (kept : List ℕ) (ahead : texts_valid (left after) ≡ true) where
-  holds_none : Holds None after []
+module _ (document : List ℕ) (ts us : List Token) (kept : List ℕ) (ahead : texts_valid us ≡ true) where
+  holds_none : Holds document None us []
   holds_none = record { valid = ahead; chain = refl; none = λ z. refl }
 
   -- while capture is off
-  holds_off : (captured : Option Records) → is_some captured ≡ false → Holds captured records kept → Holds captured after kept
+  holds_off : (captured : Option ℕ) → is_some captured ≡ false → Holds document captured ts kept → Holds document captured us kept
   holds_off (Some x) e h = absurd (false≢true (sym e))
-  holds_off None e h = subst (Holds None after) (sym (h.none refl)) holds_none
+  holds_off None e h = subst (Holds document None us) (sym (h.none refl)) holds_none
 
   -- after captured text
-  holds_more : (x : List ℕ) (captured : Option Records) → is_some captured ≡ true → heading_text (left records) ≡ x ++ heading_text (left after)
-      → Holds captured records kept → Holds captured after (kept ++ x)
+  holds_more : (x : List ℕ) (captured : Option ℕ) → is_some captured ≡ true → heading_text ts ≡ x ++ heading_text us
+      → Holds document captured ts kept → Holds document captured us (kept ++ x)
   holds_more x None e f h = absurd (false≢true e)
   holds_more x (Some from) e f h = record {
     valid = h.valid;
-    chain = h.chain ∙ ap (λ (y : List ℕ). kept ++ y) f ∙ sym (append_assoc kept x (heading_text (left after)));
+    chain = h.chain ∙ ap (λ (y : List ℕ). kept ++ y) f ∙ sym (append_assoc kept x (heading_text us));
     none = λ z. absurd (false≢true (sym z));
   }
 
-  module _ (same : heading_text (left records) ≡ heading_text (left after)) where
+  module _ (same : heading_text ts ≡ heading_text us) where
     -- after a record that has no text
-    holds_on : (captured : Option Records) → Holds captured records kept → Holds captured after kept
+    holds_on : (captured : Option ℕ) → Holds document captured ts kept → Holds document captured us kept
     holds_on (Some from) h = record { valid = h.valid; chain = h.chain ∙ ap (λ (y : List ℕ). kept ++ y) same; none = h.none }
     holds_on None h = holds_off None refl h
 
     -- after a heading's start
-    holds_some : (captured : Option Records) → Holds captured records kept → Holds (Some (unwrap_or captured records)) after kept
-    holds_some captured h = record {
-      valid = h.valid;
-      chain = h.chain ∙ ap (λ (y : List ℕ). kept ++ y) same;
+    holds_some : (captured : Option ℕ) (at : ℕ) → tokens_from document at ≡ ts → Holds document captured ts kept
+        → Holds document (Some (unwrap_or captured at)) us kept
+    holds_some captured at e h = record {
+      valid = ap texts_valid (since_here document captured at ts e) ∙ h.valid;
+      chain = ap heading_text (since_here document captured at ts e) ∙ h.chain ∙ ap (λ (y : List ℕ). kept ++ y) same;
       none = λ z. absurd (false≢true (sym z));
     }
 
 -- Before a record.
-pub record On (first : Composed) (document : List ℕ) (m : Roff) (captured : Option Records) (records : Records) : Type 0 where
+pub record On (first : Composed) (document : List ℕ) (m : Roff) (captured : Option ℕ) (records : Records) : Type 0 where
   pub same : IsSameRoom first (roff_of m)
   pub at : ℕ
   pub among : left records ≡ tokens_from document at
   pub ahead : texts_valid (left records) ≡ true
   pub kept : List ℕ
-  pub holds : Holds captured records kept
+  pub holds : Holds document captured (left records) kept
   pub leads : Leads (whole first.payload.text.size document) (walk (turn first.payload.text.size) (left records))
       (marked m (locals m.strip kept (is_some captured)))
 
@@ -224,7 +240,7 @@ opening_off : (b : Block) (on : Bool) → opening b on ≡ false → on ≡ fals
 unfolding opening
 opening_off b on = pick (λ (c : Bool). c ≡ false → on ≡ false) (is_heading b) (λ _ e. absurd (false≢true (sym e))) (λ _ e. e)
 
-module _ {start : Composed} {document : List ℕ} {m : Roff} {captured : Option Records} {records : Records} (o : On start document m captured records) where
+module _ {start : Composed} {document : List ℕ} {m : Roff} {captured : Option ℕ} {records : Records} (o : On start document m captured records) where
   abbrev limit : ℕ
   limit = start.payload.text.size
 
@@ -237,15 +253,23 @@ module _ {start : Composed} {document : List ℕ} {m : Roff} {captured : Option 
       (leads-out (whole limit document) (walk (turn limit) (left records)) (marked m here) o.leads 13 0
       (marked-out m here (past_room m.text.now.room.now m.text.now.len h)))
 
-  pub done : left records ≡ [] → m.text.now.len ≤ length m.text.now.room.now
+  done_in : left records ≡ [] → m.text.now.len ≤ length m.text.now.room.now
       → seen m.text.now.room.now m.text.now.len ≡ roff_on limit (tokens 0 0 document)
   unfolding ◌>>=◌ walk
-  done h i =
+  done_in h i =
       seen_in m.text.now.room.now m.text.now.len i
       ∙ sym (ap (λ (s : Result State). s >>= λ s. gives s.written.out)
       (sym (leads-end (whole limit document) (walk (turn limit) (left records)) (marked m here) o.leads
       (λ s. ap (λ (ts : List Token). walk (turn limit) ts s) h))
       ∙ marked_in m here i))
+
+  -- a text that is longer than the room
+  done_out : length m.text.now.room.now < m.text.now.len → seen m.text.now.room.now m.text.now.len ≡ roff_on limit (tokens 0 0 document)
+  done_out i = let out = seen-out m.text.now.room.now m.text.now.len i in out ∙ refused_13 out
+
+  -- no record is left
+  pub done : left records ≡ [] → seen m.text.now.room.now m.text.now.len ≡ roff_on limit (tokens 0 0 document)
+  done h = ⊎_elim (done_in h) done_out (le_or_lt m.text.now.len (length m.text.now.room.now))
 
   -- at a record
   module _ (r : Record) (after : Records) (first : left records ≡ listed r ∷ left after) where
@@ -260,13 +284,23 @@ module _ {start : Composed} {document : List ℕ} {m : Roff} {captured : Option 
     pub places : Placed document (listed r)
     places = placed_first document o.at (listed r) (left after) (sym first ∙ o.among)
 
+    -- the records from its place on are those that are left
+    from_here : tokens_from document r.place ≡ left records
+    from_here = ap (tokens_from document) (place_first document o.at (listed r) (left after) (sym first ∙ o.among)) ∙ sym o.among
+
+    from_captured : tokens_from document (unwrap_or captured r.place) ≡ since document captured (left records)
+    from_captured = since_here document captured r.place (left records) from_here
+
+    pub from_valid : texts_valid (tokens_from document (unwrap_or captured r.place)) ≡ true
+    from_valid = ap texts_valid from_captured ∙ o.holds.valid
+
     pub ahead-on : texts_valid (left after) ≡ true
     ahead-on = valid_after r first o.ahead
 
     -- its token was followed
-    next : (m' : Roff) (captured' : Option Records) (kept' : List ℕ) (q : Outcome) → token r.place r.kind r.body.now here ≡ gives q
+    next : (m' : Roff) (captured' : Option ℕ) (kept' : List ℕ) (q : Outcome) → token r.place r.kind r.body.now here ≡ gives q
         → roff_of m' ≡ stripped q.after.strip (pushed q.pushed (roff_of m)) → q.after.kept ≡ kept' → q.after.capture ≡ is_some captured'
-        → Holds captured' after kept' → On start document m' captured' after
+        → Holds document captured' (left after) kept' → On start document m' captured' after
     next m' captured' kept' q e w k c h =
         let tail = listed_after document o.at (listed r) (left after) (sym first ∙ o.among) in
         record {
@@ -298,14 +332,14 @@ module _ {start : Composed} {document : List ℕ} {m : Roff} {captured : Option 
     unfolding token
     on_unknown e =
         next m captured o.kept _ (as_kind kind.Unknown _ e refl) (pushed_none m) refl refl
-        (holds_on records after o.kept ahead-on (passes kind.Unknown e refl refl) captured o.holds)
+        (holds_on document (left records) (left after) o.kept ahead-on (passes kind.Unknown e refl refl) captured o.holds)
 
     pub on_started : {b : Block} (m' : Roff) → r.kind ≡ kind.Start b → is_term_ref (kind.Start b) ≡ false
         → ((p : ℕ) (kept : List ℕ) (capture : Bool) → Follows (started p b (locals m.strip kept capture)) (roff_of m) (roff_of m'))
-        → On start document m' (opened b captured (unwrap_or captured records)) after
+        → On start document m' (opened b captured (unwrap_or captured r.place)) after
     unfolding token
     on_started {b} m' e q w =
-        let from = unwrap_or captured records in
+        let from = unwrap_or captured r.place in
         let g = started-gives r.place here b q in
         let same = passes (kind.Start b) e refl refl in
         next m' (opened b captured from) o.kept g.0 (as_kind (kind.Start b) (gives g.0) e g.1)
@@ -313,35 +347,36 @@ module _ {start : Composed} {document : List ℕ} {m : Roff} {captured : Option 
         g.2.keeps (g.2.captures ∙ sym (opened-on b captured from)) (go (is_heading b) refl same)
       where
         go : (c : Bool) → is_heading b ≡ c → heading_text (left records) ≡ heading_text (left after)
-            → Holds (opened b captured (unwrap_or captured records)) after o.kept
+            → Holds document (opened b captured (unwrap_or captured r.place)) (left after) o.kept
         go true h same =
-            subst (λ (q : Option Records). Holds q after o.kept) (opened-heading b captured (unwrap_or captured records) h)
-            (holds_some records after o.kept ahead-on same captured o.holds)
+            subst (λ (q : Option ℕ). Holds document q (left after) o.kept) (opened-heading b captured (unwrap_or captured r.place) h)
+            (holds_some document (left records) (left after) o.kept ahead-on same captured r.place from_here o.holds)
         go false h same =
-            subst (λ (q : Option Records). Holds q after o.kept) (opened-other b captured (unwrap_or captured records) h)
-            (holds_on records after o.kept ahead-on same captured o.holds)
+            subst (λ (q : Option ℕ). Holds document q (left after) o.kept) (opened-other b captured (unwrap_or captured r.place) h)
+            (holds_on document (left records) (left after) o.kept ahead-on same captured o.holds)
 
     pub on_ended : {b : Block} (m' : Roff) → r.kind ≡ kind.End b → is_term_ref (kind.End b) ≡ false
-        → ((p : ℕ) (kept : List ℕ) (capture : Bool) → (is_heading b ≡ true → heading_text (left (unwrap_or captured records)) ≡ kept)
+        → ((p : ℕ) (kept : List ℕ) (capture : Bool) → (is_heading b ≡ true → heading_text (tokens_from document (unwrap_or captured r.place)) ≡ kept)
         → Follows (ended p b (locals m.strip kept capture)) (roff_of m) (roff_of m'))
         → On start document m' (shut b captured) after
     unfolding token closed
     on_ended {b} m' e q w =
         let g = ended-gives r.place here b q in
-        let all : is_heading b ≡ true → heading_text (left (unwrap_or captured records)) ≡ o.kept =
-        λ h. o.holds.chain ∙ ap (λ (y : List ℕ). o.kept ++ y) (heading-ends r first (ap ends_heading e ∙ h)) ∙ append-nil o.kept in
+        let all : is_heading b ≡ true → heading_text (tokens_from document (unwrap_or captured r.place)) ≡ o.kept =
+        λ h. ap heading_text from_captured ∙ o.holds.chain ∙ ap (λ (y : List ℕ). o.kept ++ y) (heading-ends r first (ap ends_heading e ∙ h))
+        ∙ append-nil o.kept in
         next m' (shut b captured) (closed b o.kept) g.0 (as_kind (kind.End b) (gives g.0) e g.1)
         (subst (λ (v : Result Outcome). Follows v (roff_of m) (roff_of m')) g.1 (w r.place o.kept (is_some captured) all))
         g.2.keeps (g.2.captures ∙ sym (shut-on b captured)) (go (is_heading b) refl)
       where
-        go : (c : Bool) → is_heading b ≡ c → Holds (shut b captured) after (closed b o.kept)
+        go : (c : Bool) → is_heading b ≡ c → Holds document (shut b captured) (left after) (closed b o.kept)
         go true h =
-            subst (λ (q : Option Records). Holds q after (closed b o.kept)) (shut-heading b captured h)
-            (subst (Holds None after) (sym (if_true _ _ h)) (holds_none records after o.kept ahead-on))
+            subst (λ (q : Option ℕ). Holds document q (left after) (closed b o.kept)) (shut-heading b captured h)
+            (subst (Holds document None (left after)) (sym (if_true _ _ h)) (holds_none document (left records) (left after) o.kept ahead-on))
         go false h =
-            subst (λ (q : Option Records). Holds q after (closed b o.kept)) (shut-other b captured h)
-            (subst (Holds captured after) (sym (if_false _ _ h))
-            (holds_on records after o.kept ahead-on (passes (kind.End b) e h refl) captured o.holds))
+            subst (λ (q : Option ℕ). Holds document q (left after) (closed b o.kept)) (shut-other b captured h)
+            (subst (Holds document captured (left after)) (sym (if_false _ _ h))
+            (holds_on document (left records) (left after) o.kept ahead-on (passes (kind.End b) e h refl) captured o.holds))
 
     pub on_text : {st : Style} (m' : Roff) → r.kind ≡ kind.Text st → is_some captured ≡ false
         → roff_of m' ≡ pushed (subsection st ++ text m.strip (font_of st) (part document r.start (r.start + length r.body.now))) (roff_of m)
@@ -350,23 +385,35 @@ module _ {start : Composed} {document : List ℕ} {m : Roff} {captured : Option 
     on_text {st} m' e q w =
         next m' captured o.kept _ (as_kind (kind.Text st) _ e (if_false _ _ q))
         (w ∙ ap (λ (x : List ℕ). pushed (subsection st ++ text m.strip (font_of st) x) (roff_of m)) places.1)
-        refl refl (holds_off records after o.kept ahead-on captured q o.holds)
+        refl refl (holds_off document (left records) (left after) o.kept ahead-on captured q o.holds)
 
     pub on_captured : {st : Style} → r.kind ≡ kind.Text st → is_some captured ≡ true → On start document m captured after
     unfolding token captures
     on_captured {st} e q =
         next m captured (o.kept ++ r.body.now) _ (as_kind (kind.Text st) _ e (if_true _ _ q)) (pushed_none m) refl refl
-        (holds_more records after o.kept ahead-on r.body.now captured q
+        (holds_more document (left records) (left after) o.kept ahead-on r.body.now captured q
         (heading_on r first r.body.now (sym (ap (λ (k : Kind). record_text k r.body.now) e)) (ap ends_heading e)) o.holds)
 
-    -- 11, where no refusal by 13 was met before
-    pub refused_11 : m.text.now.len ≤ length m.text.now.room.now → is_term_ref r.kind ≡ true
-        → refused 11 r.place ≡ roff_on limit (tokens 0 0 document)
+    -- 11, or 13 where that was met before
+    refused_in : m.text.now.len ≤ length m.text.now.room.now → is_term_ref r.kind ≡ true
+        → (seen m.text.now.room.now m.text.now.len >>= λ x. refused 11 r.place) ≡ roff_on limit (tokens 0 0 document)
     unfolding turn ◌>>=◌
-    refused_11 i e =
-        whole-refused limit document 11 r.place
+    refused_in i e =
+        rw (seen_in m.text.now.room.now m.text.now.len i)
+        (whole-refused limit document 11 r.place
         (leads-refused (whole limit document) (walk (turn limit) (left records)) (marked m here) o.leads turned (walk (turn limit) (left after)) 11 r.place
-        walks (rw (marked_in m here i, token-refused r.place r.kind r.body.now here e) refl))
+        walks (rw (marked_in m here i, token-refused r.place r.kind r.body.now here e) refl)))
+
+    refused_out : length m.text.now.room.now < m.text.now.len
+        → (seen m.text.now.room.now m.text.now.len >>= λ x. refused 11 r.place) ≡ roff_on limit (tokens 0 0 document)
+    unfolding ◌>>=◌
+    refused_out i =
+        let out = seen-out m.text.now.room.now m.text.now.len i in
+        rw out (refused_13 out)
+
+    pub refused_11 : is_term_ref r.kind ≡ true
+        → (seen m.text.now.room.now m.text.now.len >>= λ x. refused 11 r.place) ≡ roff_on limit (tokens 0 0 document)
+    refused_11 e = ⊎_elim (λ i. refused_in i e) refused_out (le_or_lt m.text.now.len (length m.text.now.room.now))
 
 -- The document
 

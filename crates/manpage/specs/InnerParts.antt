@@ -4,11 +4,10 @@ use Rattle.base.specs.Choice.{when◌then◌else◌}
 use Rattle.base.specs.Result.{Result, gives, refused}
 use Rattle.utf8.specs.Utf8.{utf8, bytes}
 use Rattle.upper.specs.Upper.{upper}
-use Rattle.records.specs.Records.{Token, index}
+use Rattle.records.specs.Records.{Token, index, is_of}
 use Rattle.records.specs.declared.Block.{Block}
 use Rattle.records.specs.declared.Kind.{Kind}
 use Rattle.records.specs.declared.Kind.TheVariants as kind
-use Rattle.records.specs.declared.Records.{Records}
 use Rattle.roff_escape.specs.declared.escape.Escape.TheVariants as mode
 use Rattle.roff_escape.specs.Monoid.{Piece, piece}
 use Rattle.roff_escape.specs.Composer.{argument}
@@ -45,10 +44,7 @@ is_heading b = leb (index b) 3
 
 -- the start or the end of TermRef
 abbrev pub is_term_ref : Kind → Bool
-is_term_ref (kind.Text st) = false
-is_term_ref (kind.Start b) = eqb (index b) 9
-is_term_ref (kind.End b) = eqb (index b) 9
-is_term_ref kind.Unknown = false
+is_term_ref = is_of 9
 
 -- the end of a heading
 abbrev pub ends_heading : Kind → Bool
@@ -87,11 +83,11 @@ opening b capture = when is_heading b then true else capture
 unfoldable pub closing : Block → Bool → Bool
 closing b capture = when is_heading b then false else capture
 
--- and from where on, if it is
-unfoldable pub opened : Block → Option Records → Records → Option Records
+-- and from which place on, if it is
+unfoldable pub opened : Block → Option ℕ → ℕ → Option ℕ
 opened b captured from = when is_heading b then Some from else captured
 
-unfoldable pub shut : Block → Option Records → Option Records
+unfoldable pub shut : Block → Option ℕ → Option ℕ
 shut b captured = when is_heading b then None else captured
 
 -- what is captured after a block's end

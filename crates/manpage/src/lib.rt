@@ -7,9 +7,7 @@ ghost use Rattle.base.specs.Bytes.{part};
 ghost use Rattle.base.specs.Result.{measured, ◌>>=◌ as bind};
 ghost use Rattle.utf8.specs.Utf8.{utf8};
 ghost use Rattle.upper.specs.Upper.{upper};
-ghost use Rattle.upper.specs.InnerParts.{Columns};
 ghost use Rattle.records.specs.Records.{tokens};
-ghost use Rattle.records.specs.Listed.{left as tokens_left};
 ghost use Rattle.records.specs.declared.Kind.TheVariants as kind;
 ghost use Rattle.renderer.specs.Walk.{empty};
 ghost use Rattle.refusal.specs.Answers.{answered};
@@ -18,16 +16,18 @@ ghost use Rattle.roff_escape.specs.declared.escape.Escape.TheVariants as mode;
 ghost use Rattle.roff_escape.specs.Composer.{control, text};
 ghost use Rattle.roff_escape.specs.InnerParts.{roff_of, with_escaped, pushed};
 ghost use Rattle.manpage.specs.Roff.{font_of, subsection, started, ended, roff_on, roff};
-ghost use Rattle.manpage.specs.InnerParts.{HasBegun, IsSameRoom, argument_pieces, locals, Follows, CasedTo, is_heading, ends_heading, is_term_ref, record_text, texts_valid, heading_text, opened, shut};
+ghost use Rattle.manpage.specs.InnerParts.{HasBegun, IsSameRoom, argument_pieces, locals, Follows, CasedTo, is_heading, ends_heading, record_text, texts_valid, opened, shut};
 
+use document::Accepted;
 use records::{Block, Kind, Record, Records, Style};
 use refusal::Refusal;
 use roff_escape::escape::Escape;
 use roff_escape::roff;
 use roff_escape::roff::{Font, Roff};
 use room::Text;
+use std::marker::Model;
 
-// `From<Style> for Font`
+// `From<Style> for Font`, which stands here as in the Rust: no `impl From`, since neither type is of this crate, and `roff_escape` has no records.
 fn font_of(style: Style) -> Font
     ensures { result ≡ font_of style }
 {
@@ -50,27 +50,14 @@ fn is_heading(b: Block) -> bool
     )
 }
 
-// What roff has no form for: refusal 11.
-fn is_term_ref(kind: Kind) -> bool
-    ensures { result ≡ is_term_ref kind }
-{
-    matches!(
-        kind,
-        Kind::Start(Block::TermRef) | Kind::End(Block::TermRef)
-    )
-}
-
 // What ends all capture: the end of a heading.
 fn ends_heading(kind: Kind) -> bool
     ensures { result ≡ ends_heading kind }
 {
-    matches!(
-        kind,
-        Kind::End(Block::Header | Block::Section2 | Block::Section3 | Block::Section4)
-    )
+    matches!(kind, Kind::End(b) if is_heading(b))
 }
 
-// The text of a record; a block record has none.
+// The text of a record; a block record has none. An empty part and no Option: to a heading it adds as much as no text does.
 fn text_of<'a>(r: Record<'a>) -> &'a [u8]
     ensures { result.now ≡ record_text r.entry.kind r.entry.body.now }
 {
@@ -80,17 +67,17 @@ fn text_of<'a>(r: Record<'a>) -> &'a [u8]
     }
 }
 
-// Text of a heading in upper case by the table, of which two columns are lent. The steps are whole characters, so no `for`.
-fn escape_mapped(m: &mut Roff, characters: &[u16], capitals: &[u16], bytes: &[u8])
-    requires { Columns characters.now capitals.now × (utf8 bytes.now ≡ true) }
+// Text of a heading in upper case by the table. The steps are whole characters, so no `for`.
+// Bytes and no `&str`, here and in the next two functions: the check has tested them, and from_utf8 would test each text again.
+// The bytes of `cased` are cut here alone, so by no method of `Uppercased`.
+fn escape_mapped(m: &mut Roff, bytes: &[u8])
+    requires { utf8 bytes.now ≡ true }
     ensures { roff_of m.new ≡ with_escaped mode.Spaces (upper bytes.now) (roff_of m.old) }
 {
     let mut i: usize = 0;
     while i < bytes.len() {
-        let cased = upper::to_uppercase(characters, capitals, bytes, i);
-        let stop = cased.len;
-        let mapped = cased.bytes;
-        m.escape_bytes(Escape::Spaces, &mapped[..stop]);
+        let cased = upper::to_uppercase(bytes, i);
+        m.escape_bytes(Escape::Spaces, &cased.bytes[..cased.len]);
         i = cased.next;
     }
 }
@@ -101,83 +88,76 @@ fn escape_upper<'a>(m: &mut Roff, bytes: &'a [u8]) -> &'a [u8]
     ensures { CasedTo bytes.now (roff_of m.old) (roff_of m.new) result.now }
 {
     for (i, &b) in bytes.iter().enumerate() {
-        if 0x7F < b {
+        if !b.is_ascii() {
             return &bytes[i..];
         }
-        m.put_byte(Escape::Spaces, upper::to_ascii_uppercase(b));
+        m.put_byte(Escape::Spaces, b.to_ascii_uppercase());
     }
     &bytes[bytes.len()..]
 }
 
-// Text of a heading in upper case, ASCII first and then by the table, of which two columns are lent.
-fn escape_cased(m: &mut Roff, characters: &[u16], capitals: &[u16], bytes: &[u8])
-    requires { Columns characters.now capitals.now × (utf8 bytes.now ≡ true) }
+// Text of a heading in upper case, ASCII first and then by the table.
+fn escape_cased(m: &mut Roff, bytes: &[u8])
+    requires { utf8 bytes.now ≡ true }
     ensures { roff_of m.new ≡ with_escaped mode.Spaces (upper bytes.now) (roff_of m.old) }
 {
     let rest = escape_upper(m, bytes);
-    escape_mapped(m, characters, capitals, rest);
+    escape_mapped(m, rest);
 }
 
-// The rest of a record's text, from its first byte beyond ASCII on, and then that of the records up to the heading's end, all in upper case: the
-// columns are named here once for a heading, and lent.
-fn put_mapped(m: &mut Roff, rest: &[u8], records: Records)
-    requires { (utf8 rest.now ≡ true) × (texts_valid (tokens_left records) ≡ true) }
-    ensures { roff_of m.new ≡ with_escaped mode.Spaces (upper rest.now ++ upper (heading_text (tokens_left records.entry))) (roff_of m.old) }
-{
-    let characters = upper::from_column();
-    let capitals = upper::to_column();
-    escape_mapped(m, &characters, &capitals, rest);
-    for r in records {
-        if ends_heading(r.kind) {
-            return;
-        }
-        escape_cased(m, &characters, &capitals, text_of(r));
-    }
+// What is captured for a heading: the records up to its end, of which each has text that is UTF-8 by itself. Contracts see it as their text.
+#[derive(Drop)]
+struct Heading<'a> {
+    records: Records<'a>,
 }
 
-// The text of the records up to a heading's end in upper case; whether there was any. From the first byte beyond ASCII on the table is needed, and
-// the records that are left then are passed on: so no `for`.
-fn put_captured(m: &mut Roff, records: Records) -> bool
-    requires { texts_valid (tokens_left records) ≡ true }
-    ensures text { roff_of m.new ≡ with_escaped mode.Spaces (upper (heading_text (tokens_left records.entry))) (roff_of m.old) }
-    ensures some { result ≡ not (empty (heading_text (tokens_left records.entry))) }
+impl<'a> Model for Heading<'a> {
+    ghost use Rattle.std.specs.Prelude.{List, ℕ, ◌≡◌, true};
+    ghost use Rattle.records.specs.Listed.{left as tokens_left};
+    ghost use Rattle.manpage.specs.InnerParts.{heading_text, texts_valid};
+
+    ghost Value = { List ℕ };
+
+    ghost view = { λ h. heading_text (tokens_left h.records) };
+
+    ghost invariant = { λ h. texts_valid (tokens_left h.records) ≡ true };
+}
+
+// The text of a heading in upper case; whether there was any.
+fn put_captured(m: &mut Roff, heading: Heading) -> bool
+    ensures text { roff_of m.new ≡ with_escaped mode.Spaces (upper heading.entry) (roff_of m.old) }
+    ensures some { result ≡ not (empty heading.entry) }
+    ensures valid { utf8 heading.entry ≡ true }
 {
-    let mut after = records;
     let mut some = false;
-    while let Some(r) = after.next() {
+    for r in heading.records {
         if ends_heading(r.kind) {
             return some;
         }
         let body = text_of(r);
-        let rest = escape_upper(m, body);
-        if !rest.is_empty() {
-            put_mapped(m, rest, after);
-            return true;
-        }
+        escape_cased(m, body);
         some |= !body.is_empty();
     }
     some
 }
 
 // The argument of a heading's control line, and the space before it; an empty one is `""`.
-fn put_argument(m: &mut Roff, records: Records)
-    requires { texts_valid (tokens_left records) ≡ true }
-    ensures { roff_of m.new ≡ pushed (argument_pieces (upper (heading_text (tokens_left records.entry)))) (roff_of m.old) }
+fn put_argument(m: &mut Roff, heading: Heading)
+    ensures { roff_of m.new ≡ pushed (argument_pieces (upper heading.entry)) (roff_of m.old) }
 {
     m.push(Escape::Unescaped, b" ");
-    if put_captured(m, records) {
+    if put_captured(m, heading) {
         return;
     }
     m.push(Escape::Spaces, b"\"\"");
 }
 
-// `Roff::control` with the text of the records up to a heading's end as its argument.
-fn control(m: &mut Roff, name: &[u8], records: Records)
-    requires { texts_valid (tokens_left records) ≡ true }
-    ensures { roff_of m.new ≡ pushed (control name.now (upper (heading_text (tokens_left records.entry)))) (roff_of m.old) }
+// `Roff::control` with the text of a heading as its argument.
+fn control(m: &mut Roff, name: &[u8], heading: Heading)
+    ensures { roff_of m.new ≡ pushed (control name.now (upper heading.entry)) (roff_of m.old) }
 {
     m.control_name(name);
-    put_argument(m, records);
+    put_argument(m, heading);
     m.roff_linebreak();
 }
 
@@ -185,13 +165,12 @@ fn control(m: &mut Roff, name: &[u8], records: Records)
 fn put_subsection(m: &mut Roff, style: Style)
     ensures { roff_of m.new ≡ pushed (subsection style) (roff_of m.old) }
 {
-    match style {
-        Style::Emphasis => m.control0(b"SS"),
-        _ => {}
+    if style == Style::Emphasis {
+        m.control0(b"SS");
     }
 }
 
-// The text between two places of a document, which is not captured.
+// The text between two places of a document, which is not captured. Not the text alone: `Roff::text` says why.
 fn put_text(m: &mut Roff, style: Style, document: &[u8], from: usize, to: usize)
     ensures { roff_of m.new ≡ pushed (subsection style ++ text m.old.strip (font_of style) (part document.now from to)) (roff_of m.old) }
 {
@@ -214,15 +193,14 @@ fn started(m: &mut Roff, b: Block)
     }
 }
 
-// The end of a heading, where the text of some records up to it is captured.
-fn headed(m: &mut Roff, b: Block, records: Records)
-    requires { (is_heading b ≡ true) × (texts_valid (tokens_left records) ≡ true) }
-    ensures { (p : ℕ) (capture : Bool) → Follows (ended p b (locals m.old.strip (heading_text (tokens_left records.entry)) capture)) (roff_of m.old) (roff_of m.new) }
+// The end of a heading. `control` is called from one place, so that the compiler puts it into the
+// walk, and holds the length in a register there: from two places prose takes 1.07 to 1.08 of the time, and a page of headings 1.3.
+fn headed(m: &mut Roff, b: Block, heading: Heading)
+    requires { is_heading b ≡ true }
+    ensures { (p : ℕ) (capture : Bool) → Follows (ended p b (locals m.old.strip heading.entry capture)) (roff_of m.old) (roff_of m.new) }
 {
-    match b {
-        Block::Header => control(m, b"SH", records),
-        _ => control(m, b"SS", records),
-    }
+    let name = if b == Block::Header { b"SH" } else { b"SS" };
+    control(m, name, heading);
 }
 
 // The end of a block that is no heading; the text that is captured does not matter.
@@ -244,61 +222,55 @@ fn left(m: &mut Roff, b: Block)
     }
 }
 
-// `Token::BlockEnd`, where the text of some records up to it is captured. TermRef is refused before. Headings, which are few, stand apart: the others
+// `Token::BlockEnd`; where it ends a heading, that is given. TermRef is refused before. Headings, which are few, stand apart: the others
 // then need nothing of the records at hand.
-fn ended(m: &mut Roff, b: Block, records: Records)
-    requires { texts_valid (tokens_left records) ≡ true }
-    ensures { (p : ℕ) (kept : List ℕ) (capture : Bool) → (is_heading b ≡ true → heading_text (tokens_left records.entry) ≡ kept) → Follows (ended p b (locals m.old.strip kept capture)) (roff_of m.old) (roff_of m.new) }
+fn ended(m: &mut Roff, b: Block, heading: Heading)
+    ensures { (p : ℕ) (kept : List ℕ) (capture : Bool) → (is_heading b ≡ true → heading.entry ≡ kept) → Follows (ended p b (locals m.old.strip kept capture)) (roff_of m.old) (roff_of m.new) }
 {
     if is_heading(b) {
-        headed(m, b, records);
+        headed(m, b, heading);
     } else {
         left(m, b);
     }
 }
 
-// From where on text is captured after a block's start, if it is.
-fn opens_capture<'a>(
-    b: Block,
-    captured: Option<Records<'a>>,
-    from: Records<'a>,
-) -> Option<Records<'a>>
-    ensures { result ≡ opened b captured.entry from.entry }
+// From which place on text is captured after a block's start, if it is.
+#[tactic(auto, using(crate::proofs::Names::if_true, crate::proofs::Names::if_false), unfolding(crate::specs::InnerParts::opened))]
+fn opens_capture(b: Block, captured: Option<usize>, from: usize) -> Option<usize>
+    ensures { result ≡ opened b captured from }
 {
     if is_heading(b) { Some(from) } else { captured }
 }
 
 // And after a block's end.
-fn ends_capture<'a>(b: Block, captured: Option<Records<'a>>) -> Option<Records<'a>>
-    ensures { result ≡ shut b captured.entry }
+#[tactic(auto, using(crate::proofs::Names::if_true, crate::proofs::Names::if_false), unfolding(crate::specs::InnerParts::shut))]
+fn ends_capture(b: Block, captured: Option<usize>) -> Option<usize>
+    ensures { result ≡ shut b captured }
 {
     if is_heading(b) { None } else { captured }
 }
 
-// The walk over the records of a document. Text is captured from a record on, or not; a heading's end reads the records from there again: the
-// iterator is at hand for that, so no `for`. No record is captured by two headings, so each is read twice at most.
-fn walk(m: &mut Roff, document: &[u8]) -> Result<(), Refusal>
-    requires begun { HasBegun (roff_of m.old) }
-    requires valid { texts_valid (tokens 0 0 document.now) ≡ true }
+// The walk over the records of a document. Text is captured from a place on, or not; a heading's end reads the records from there again. No record is
+// captured by two headings, so each is read twice at most. Whether the room is full is asked before text alone: at each record that took 1.05 of the time.
+fn walk(m: &mut Roff, accepted: &Accepted) -> Result<(), Refusal>
+    requires { HasBegun (roff_of m.old) }
     ensures same { IsSameRoom (roff_of m.old) (roff_of m.new) }
-    ensures text { bind (answered result) (λ _. (roff_of m.new).payload.text.shown) ≡ roff_on (roff_of m.old).payload.text.size (tokens 0 0 document.now) }
+    ensures text { bind (answered result) (λ _. (roff_of m.new).payload.text.shown) ≡ roff_on (roff_of m.old).payload.text.size (tokens 0 0 accepted.now) }
 {
-    let mut records = Records::of(document);
-    let mut captured: Option<Records> = None;
-    loop {
-        if m.text.is_full() {
-            return Err(Refusal::NoRoom);
-        }
-        let from = captured.unwrap_or(records);
-        let Some(r) = records.next() else {
-            return Ok(());
-        };
-        if is_term_ref(r.kind) {
-            return Err(Refusal::NoForm(r.place));
+    let document = accepted.bytes();
+    let mut captured: Option<usize> = None;
+    for r in Records::of(document) {
+        let from = captured.unwrap_or(r.place);
+        // what roff has no form for: refusal 11
+        if r.kind.is_of(Block::TermRef) {
+            return Err(renderer::no_form(&*m.text, r.place));
         }
         match r.kind {
             Kind::Text(style) => {
                 if captured.is_none() {
+                    if m.text.is_full() {
+                        return Err(Refusal::NoRoom);
+                    }
                     put_text(m, style, document, r.start, r.start + r.body.len());
                 }
             }
@@ -307,12 +279,14 @@ fn walk(m: &mut Roff, document: &[u8]) -> Result<(), Refusal>
                 captured = opens_capture(b, captured, from);
             }
             Kind::End(b) => {
-                ended(m, b, from);
+                let records = Records::from_place(document, from);
+                ended(m, b, Heading { records });
                 captured = ends_capture(b, captured);
             }
             Kind::Unknown => {}
         }
     }
+    Ok(())
 }
 
 // Refusals 1 to 8, and then the walk.
@@ -320,7 +294,7 @@ fn rendered(document: &[u8], room: &mut [u8]) -> Result<usize, Refusal>
     ensures text { standing room.new result ≡ roff (length room.old) document.now }
     ensures inside { Inside (length room.old) result }
 {
-    document::check(document)?;
+    let accepted = Accepted::of(document)?;
     let mut text = Text::new(room);
     roff::put_preamble(&mut text);
     // made here and not by a function, since Rattle tells what a text is after a loan of it in a struct only where both are made
@@ -329,17 +303,15 @@ fn rendered(document: &[u8], room: &mut [u8]) -> Result<usize, Refusal>
         fresh: true,
         strip: false,
     };
-    walk(&mut m, document)?;
-    let len = text.finish();
-    renderer::answer(room, len)
+    walk(&mut m, &accepted)?;
+    renderer::finish(text)
 }
 
 // `Doc::render_roff` given `Roff::new()`: the text stands in the room, with zeros beyond it; after a refusal the room is all zeros.
+// Each renderer has this line: console::render_console says why.
 pub fn render_roff(document: &[u8], room: &mut [u8]) -> Result<usize, Refusal>
     ensures answer { answered result ≡ measured (roff (length room.old) document.now) }
     ensures text { room.new ≡ filled (length room.old) (roff (length room.old) document.now) }
 {
-    let answer = rendered(document, room);
-    renderer::clear_after(room, answer);
-    answer
+    renderer::cleared(rendered(document, room), room)
 }

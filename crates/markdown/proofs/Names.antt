@@ -4,10 +4,9 @@ pub use Rattle.base.proofs.Results.{bind_assoc, bind_end, bind_same}
 unfoldable pub use Rattle.base.specs.Choice.{when◌then◌else◌}
 pub use Rattle.base.specs.Result.{Result, gives, refused}
 unfoldable pub use Rattle.base.specs.Result.{◌>>=◌}
-pub use Rattle.document.proofs.Walks.{verdict_gives, verdict_refused}
 pub use Rattle.document.specs.Document.{check}
 pub use Rattle.html_rules.specs.declared.Markdown.{Markdown}
-pub use Rattle.markdown_chunks.specs.InnerParts.{chunk_rule, fence_after}
+pub use Rattle.markdown_chunks.specs.InnerParts.{chunk_rule, fencing}
 pub use Rattle.markdown_marks.specs.InnerParts.{closed, end_of, met_term, start_of}
 unfoldable pub use Rattle.markdown_marks.specs.InnerParts.{start_rule}
 pub use Rattle.records.specs.Records.{Token, index, size}

@@ -1,7 +1,7 @@
 -- The turns of Markdown on a page, each as one rule on its text beside a change of the numbers and flags. Assumes nothing.
 use Rattle.markdown.proofs.Names.{ℕ, ◌≡◌, refl, sym, ap, ◌∙◌, Bool, true, false, List, when◌then◌else◌, Result, gives, refused, ◌>>=◌, bind_assoc}
 use Rattle.markdown.proofs.Names.{bind_same, bind_end, bytes, extended, Token, index, Style, Block, split, with_out, with_lay, page, write, last}
-use Rattle.markdown.proofs.Names.{anywhere, body, hides, Markdown, met_term, start_of, end_of, closed, start_rule, chunk_rule, fence_after}
+use Rattle.markdown.proofs.Names.{anywhere, body, hides, Markdown, met_term, start_of, end_of, closed, start_rule, chunk_rule, fencing}
 use lib.Dec.{eqb}
 use borrow.Author.Tests.{eq-eqb, ne_eqb, not-true, not-false}
 use Rattle.base.proofs.Choice.{if_true, if_false}
@@ -107,10 +107,6 @@ module _ (limit : ℕ) (full : Bool) (p q : ℕ) (y : List ℕ) (ts : List Token
   finish-is =
       sym (bind_assoc (closed limit lay.style x) (λ z. gives (with_out z (with_lay (with_style style.Text) here))) (λ s₁. gives s₁.out))
       ∙ bind_end (closed limit lay.style x)
-
--- a chunk's change of the flags
-abbrev pub fencing : Chunk → Markdown → Markdown
-fencing c l = with_fenced (fence_after c l.fenced) l
 
 module _ (limit : ℕ) (s : State) where
   raw-is : (x : List ℕ) (w : ℕ) → raw_chunk limit x w s ≡ lift (raw_rule limit s.lay x w) (with_lay (fencing (raw x w)) s)

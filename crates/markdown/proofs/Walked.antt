@@ -3,7 +3,7 @@ use Rattle.markdown.proofs.Names.{ℕ, zero, suc, ◌+◌, ◌≤◌, ◌≡◌,
 use Rattle.markdown.proofs.Names.{drop, length-take, length-drop}
 use Rattle.markdown.proofs.Names.{arith, Result, gives, refused, ◌>>=◌, bind_assoc, bind_same, bind_end, extended, seen, index, size, token_at, tokens}
 use Rattle.markdown.proofs.Names.{Token, check, Style, Block, split, chunk_of, placed_from, cursor, start, page, with_lay, write, shown, last, anywhere}
-use Rattle.markdown.proofs.Names.{walk, body, hides, skip_paragraph, Markdown, met_term, start_of, end_of, closed, start_rule, chunk_rule, fence_after}
+use Rattle.markdown.proofs.Names.{walk, body, hides, skip_paragraph, Markdown, met_term, start_of, end_of, closed, start_rule, chunk_rule, fencing}
 use borrow.Author.Tests.{eqb-true, eqb-false}
 use Rattle.std.specs.Borrow.{GName}
 use Rattle.document.proofs.Walks.{check-gives}
@@ -16,7 +16,6 @@ use Rattle.room.proofs.Lents.{same_room, sees, past_room}
 use Rattle.splitter.specs.declared.Code.{Code}
 use Rattle.splitter.specs.declared.Cursor.{Cursor}
 use Rattle.splitter.specs.declared.Piece.{Piece}
-use Rattle.splitter.specs.declared.Piece.TheVariants.{Raw, Space, Paragraph, LineBreak}
 use Rattle.splitter.proofs.Answers.{Took}
 use Rattle.renderer.proofs.Shown.{shown_then, shown_by, shown-write, shown_changed}
 use Rattle.renderer.proofs.Leads.{Leads, leads-start, leads-on, chunks_then}
@@ -29,13 +28,7 @@ use Rattle.html_rules.proofs.Listed as walking
 use Rattle.html_rules.proofs.Rest.{chunks-on, chunks-stop, chunks-done}
 use Rattle.markdown_chunks.specs.InnerAdvance.{marked_from, Moves}
 use Rattle.markdown_marks.proofs.Flags.{start_few, end_few, met_few, met_skip, met_mono, met_style, met_styled}
-use Rattle.markdown.proofs.Turns.{start_is, end_is, start_meta, end_meta, unknown_is, hidden_is, text-is, finish-is, fencing, chunk-on, chunk-last}
-
-fence_any : (p : Piece) (y : List ℕ) (f : Bool) → fence_after (chunk_of y p) f ≡ fence_after (chunk_of [] p) f
-fence_any (Raw from to width) y f = refl
-fence_any (Space at) y f = refl
-fence_any (Paragraph at) y f = refl
-fence_any (LineBreak at) y f = refl
+use Rattle.markdown.proofs.Turns.{start_is, end_is, start_meta, end_meta, unknown_is, hidden_is, text-is, finish-is, chunk-on, chunk-last}
 
 -- The bodies of some records are as short as an accepted document.
 abbrev Short : List Token → Type 0
@@ -51,6 +44,13 @@ short_from (b ∷ s) p zero h = (
   omega (arith, h, length-take (size (b ∷ s)) (drop 6 (b ∷ s)), length-drop 6 (b ∷ s)),
   short_from s (p + 1) (5 + size (b ∷ s)) (omega (arith, h)),
 )
+
+-- the defaults of the fields are what stands before the first record
+pub default-plain : (l : Markdown)
+    → (l.style ≡ style.Text)
+    × ((l.skip ≡ 0) × ((l.bare ≡ false) × ((l.mono ≡ 0) × ((l.listed ≡ false) × ((l.fenced ≡ false) × (l.titled ≡ false)))))) → l ≡ plain
+default-plain l (a, (b, (c, (d, (e, (f, g)))))) =
+    λ i. record { style = a i; skip = b i; bare = c i; mono = d i; listed = e i; fenced = f i; titled = g i }
 
 module _ (name : GName) (limit : ℕ) (full : Bool) (document : List ℕ) where
   -- some records, and the end; after a body, its end first
@@ -127,23 +127,24 @@ module _ (name : GName) (limit : ℕ) (full : Bool) (document : List ℕ) where
 
   module _ {t : Text} {ts : List Token} {lay : Markdown} {y : List ℕ} {c : Cursor} (i : InBody t ts lay y c) where
     -- a chunk that goes on
-    pub body-on : {p : Piece} {d : Cursor} → Took y c p d → (u : Text) (f : Bool) → last full (chunk_of y p) ≡ false
-        → text_of u ≡ wrote (λ size. chunk_rule size lay (chunk_of y p)) (text_of t) → f ≡ fence_after (chunk_of [] p) lay.fenced
-        → InBody u ts (with_fenced f lay) y d
-    body-on {p} took u f e w g = record {
-      short = i.short;
-      same = still t u (λ n. chunk_rule n lay (chunk_of y p)) i.same w;
-      few = i.few;
-      open_few = i.open_few;
-      leads = chunks-on full (chunk limit full) (after ts) whole y c (shows t lay) i.leads took (shows u (with_fenced f lay))
-          (shown_by (with_lay (fencing (chunk_of y p))) [] [] lay (with_fenced f lay)
-          (λ x. ap (λ (b : Bool). page [] (with_fenced b lay) x) (fence_any p y lay.fenced ∙ sym g))
-          (chunk_rule limit lay (chunk_of y p)) t.room.now u.room.now t.len u.len (at_limit t u (λ n. chunk_rule n lay (chunk_of y p)) i.same w)
-          ∙ sym (shown_then t.room.now t.len [] lay (chunk limit full (chunk_of y p)) _ (λ x. chunk-on limit (page [] lay x) full (chunk_of y p) e))) e;
-    }
+    pub body-on : {p : Piece} {d : Cursor} → Took y c p d → (u : Text) (lay' : Markdown) → last full (chunk_of y p) ≡ false
+        → text_of u ≡ wrote (λ size. chunk_rule size lay (chunk_of y p)) (text_of t) → lay' ≡ fencing (chunk_of y p) lay → InBody u ts lay' y d
+    body-on {p} took u lay' e w g =
+        let skip : lay'.skip ≡ lay.skip = ap (λ (l : Markdown). l.skip) g in
+        let mono : lay'.mono ≡ lay.mono = ap (λ (l : Markdown). l.mono) g in
+        record {
+          short = i.short;
+          same = still t u (λ n. chunk_rule n lay (chunk_of y p)) i.same w;
+          few = omega (arith, i.few, skip);
+          open_few = omega (arith, i.open_few, mono);
+          leads = chunks-on full (chunk limit full) (after ts) whole y c (shows t lay) i.leads took (shows u lay')
+              (shown_by (with_lay (fencing (chunk_of y p))) [] [] lay lay' (λ x. ap (λ (l : Markdown). page [] l x) (sym g))
+              (chunk_rule limit lay (chunk_of y p)) t.room.now u.room.now t.len u.len (at_limit t u (λ n. chunk_rule n lay (chunk_of y p)) i.same w)
+              ∙ sym (shown_then t.room.now t.len [] lay (chunk limit full (chunk_of y p)) _ (λ x. chunk-on limit (page [] lay x) full (chunk_of y p) e))) e;
+        }
 
     -- the chunks are done, or one ended the walk of the body; the code lines end
-    module _ (u : Text) (w : text_of u ≡ with_bytes (code_ends lay) (text_of t)) where
+    module _ (u : Text) (w : text_of u ≡ with_bytes (code_ends lay) (text_of t)) (lay' : Markdown) (v : lay' ≡ with_fenced false lay) where
       ends : (l : Markdown) → l.fenced ≡ lay.fenced → Leads whole (after ts) (shows t l) → Leads whole (rest ts) (shows u (with_fenced false l))
       unfolding body_ends
       ends l f g =
@@ -153,27 +154,32 @@ module _ (name : GName) (limit : ℕ) (full : Bool) (document : List ℕ) where
           ∙ ap (λ (b : Bool). seen t.room.now t.len >>= extended limit (code_ends (with_fenced b l))) (sym f))
           ∙ sym (shown_then t.room.now t.len [] l (body_ends limit) (λ s. write limit (code_ends l) (with_lay (with_fenced false) s)) (λ x. refl)))
 
-      pub on-done : placed_from y c ≡ [] → On u ts (with_fenced false lay)
-      on-done f = record {
-        short = i.short.1;
-        same = still t u (λ n. extended n (code_ends lay)) i.same w;
-        few = omega (arith, i.few);
-        open_few = i.open_few;
-        leads = ends lay refl (chunks-done full (chunk limit full) (after ts) whole y c (shows t lay) i.leads f);
-      }
+      pub on-done : placed_from y c ≡ [] → On u ts lay'
+      on-done f =
+          let o : On u ts (with_fenced false lay) = record {
+            short = i.short.1;
+            same = still t u (λ n. extended n (code_ends lay)) i.same w;
+            few = omega (arith, i.few);
+            open_few = i.open_few;
+            leads = ends lay refl (chunks-done full (chunk limit full) (after ts) whole y c (shows t lay) i.leads f);
+          } in
+          subst (λ (l : Markdown). On u ts l) (sym v) o
 
       pub on_stopped : {p : Piece} {d : Cursor} → Took y c p d → last full (chunk_of y p) ≡ true
-          → (k : ℕ) → k ≡ skip_paragraph lay.skip → On u ts (with_fenced false (with_skip k lay))
-      on_stopped {p} took f k g = record {
-        short = i.short.1;
-        same = still t u (λ n. extended n (code_ends lay)) i.same w;
-        few = omega (arith, i.few, g);
-        open_few = i.open_few;
-        leads = ends (with_skip k lay) refl
-            (chunks-stop full (chunk limit full) (after ts) whole y c (shows t lay) i.leads took (shows t (with_skip k lay))
-            (shown_changed (with_lay (with_skip 1)) [] [] lay (with_skip k lay) (λ x. ap (λ (n : ℕ). page [] (with_skip n lay) x) (sym g)) t.room.now t.len
-            ∙ sym (bind_same (shows t lay) _ _ (λ s. chunk-last limit s full (chunk_of y p) f))) f);
-      }
+          → (k : ℕ) → k ≡ skip_paragraph lay'.skip → On u ts (with_skip k lay')
+      on_stopped {p} took f k h =
+          let g : k ≡ skip_paragraph lay.skip = h ∙ ap (λ (l : Markdown). skip_paragraph l.skip) v in
+          let o : On u ts (with_fenced false (with_skip k lay)) = record {
+            short = i.short.1;
+            same = still t u (λ n. extended n (code_ends lay)) i.same w;
+            few = omega (arith, i.few, g);
+            open_few = i.open_few;
+            leads = ends (with_skip k lay) refl
+                (chunks-stop full (chunk limit full) (after ts) whole y c (shows t lay) i.leads took (shows t (with_skip k lay))
+                (shown_changed (with_lay (with_skip 1)) [] [] lay (with_skip k lay) (λ x. ap (λ (n : ℕ). page [] (with_skip n lay) x) (sym g)) t.room.now t.len
+                ∙ sym (bind_same (shows t lay) _ _ (λ s. chunk-last limit s full (chunk_of y p) f))) f);
+          } in
+          subst (λ (l : Markdown). On u ts (with_skip k l)) (sym v) o
 
   module _ {t : Text} {ts : List Token} {lay : Markdown} (o : On t ts lay) where
     -- more was written than the room holds

@@ -1,9 +1,8 @@
 -- The texts of Markdown's chunks, and whether code lines are being written after one. Assumes nothing.
 use Prim.Native.Nat.{ℕ, ◌≤◌, ◌<◌}
 use mathlib.Core.Path.{◌≡◌, refl, sym, ◌∙◌}
-use mathlib.Core.Bool.{Bool, true, false}
+use mathlib.Core.Bool.{true, false}
 use mathlib.Core.List.{List, [], ◌∷◌}
-use lib.Dec.{eqb}
 use borrow.Author.Tests.{ne_eqb, lt-ltb, le-ltb}
 use Rattle.base.specs.Choice.{when◌then◌else◌}
 use Rattle.base.specs.Result.{◌>>=◌}
@@ -13,12 +12,13 @@ use Rattle.room.specs.Room.{extended}
 use Rattle.room.specs.Lent.{Lent, wrote, with_bytes}
 use Rattle.room.proofs.Lents.{wrote_same, wrote_after, with_both}
 use Rattle.splitter.specs.Answers.{chunk_of}
+use Rattle.splitter.specs.Split.{raw}
 use Rattle.splitter.specs.declared.Piece.{Piece}
-use Rattle.splitter.specs.declared.Piece.TheVariants.{Raw, Space, Paragraph, LineBreak}
+use Rattle.splitter.specs.declared.Piece.TheVariants.{Paragraph, LineBreak}
 use Rattle.html_rules.specs.Marks.{separated}
-use Rattle.html_rules.specs.Markdown.{code_begins, code_stops, line_text, word_text, paragraph_text, bracketed}
+use Rattle.html_rules.specs.Markdown.{code_begins, code_stops, line_text, with_fenced, word_text, paragraph_text, bracketed}
 use Rattle.html_rules.specs.declared.Markdown.{Markdown}
-use Rattle.markdown_chunks.specs.InnerParts.{raw_rule, chunk_rule, fence_after}
+use Rattle.markdown_chunks.specs.InnerParts.{raw_rule, chunk_rule, fencing}
 
 module _ (old mid new : Lent) where
   -- A line
@@ -67,20 +67,20 @@ module _ (l : Markdown) (body : List ℕ) (p : Piece) (old new : Lent) where
   unfolding bytes encode when◌then◌else◌
   piece_break e w = rw e w
 
--- Code lines
-module _ (p : Piece) (f : Bool) where
-  pub fence_ticked : {from to w : ℕ} → p ≡ Raw from to w → w ≡ 1_000_001 → f ≡ fence_after (chunk_of [] p) f
+-- Code lines after a text with its width, and after a chunk that is no text
+module _ (l : Markdown) (x : List ℕ) (w : ℕ) where
+  pub fencing_ticked : w ≡ 1_000_001 → l ≡ fencing (raw x w) l
   unfolding when◌then◌else◌
-  fence_ticked e h = rw (e, h)
+  fencing_ticked e = rw e refl
 
-  pub fence_other : {from to w : ℕ} → p ≡ Raw from to w → (w ≡ 1_000_001 → ⊥) → eqb w 1_000_000 ≡ fence_after (chunk_of [] p) f
+  pub fencing_code : w ≡ 1_000_000 → with_fenced true l ≡ fencing (raw x w) l
   unfolding when◌then◌else◌
-  fence_other {w} e h = rw (e, ne_eqb w 1_000_001 h) (itself (eqb w 1_000_000))
-    where
-      itself : (t : Bool) → t ≡ (when t then true else false)
-      itself true = refl
-      itself false = refl
+  fencing_code e = rw e refl
 
-  pub fence_space : {at : ℕ} → p ≡ Space at → false ≡ fence_after (chunk_of [] p) f
+  pub fencing_word : (w ≡ 1_000_001 → ⊥) → (w ≡ 1_000_000 → ⊥) → with_fenced false l ≡ fencing (raw x w) l
   unfolding when◌then◌else◌
-  fence_space e = rw e
+  fencing_word e f = rw (ne_eqb w 1_000_001 e, ne_eqb w 1_000_000 f) refl
+
+module _ (l : Markdown) (body : List ℕ) (p : Piece) {at : ℕ} where
+  pub fencing_paragraph : p ≡ Paragraph at → l ≡ fencing (chunk_of body p) l
+  fencing_paragraph e = rw e refl

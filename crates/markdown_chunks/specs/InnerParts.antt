@@ -6,7 +6,7 @@ use Rattle.utf8.specs.Utf8.{bytes}
 use Rattle.room.specs.Room.{extended}
 use Rattle.splitter.specs.Split.{Chunk, raw, paragraph, line_break, chunk_code, chunk_ticked_code}
 use Rattle.html_rules.specs.Marks.{separated}
-use Rattle.html_rules.specs.Markdown.{code_begins, code_stops, line_text, word_text, paragraph_text}
+use Rattle.html_rules.specs.Markdown.{code_begins, code_stops, line_text, with_fenced, word_text, paragraph_text}
 use Rattle.html_rules.specs.declared.Markdown.{Markdown}
 
 -- the text after a chunk that does not end the walk of its body, and whether code lines are then being written
@@ -25,3 +25,7 @@ abbrev pub fence_after : Chunk → Bool → Bool
 fence_after (raw x w) f = when eqb w chunk_ticked_code then f else when eqb w chunk_code then true else false
 fence_after paragraph f = f
 fence_after line_break f = f
+
+-- a chunk's change of the flags
+abbrev pub fencing : Chunk → Markdown → Markdown
+fencing c l = with_fenced (fence_after c l.fenced) l

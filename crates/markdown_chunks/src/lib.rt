@@ -1,18 +1,21 @@
-// The chunks of Markdown (src/buffer/html.rs): lines in ticks and code lines, words, and words that go out as they stand.
+// The chunks of Markdown (src/buffer/html.rs): lines in ticks and code lines, words, and words that go out as they stand. Functions of a text and of
+// numbers and flags, as in `markdown_marks`, which says why.
 
 #![tactic(auto)]
 
-ghost use Rattle.std.specs.Prelude.{◌≡◌, []};
+ghost use Rattle.std.specs.Prelude.{◌≡◌, false};
 ghost use Rattle.room.specs.Lent.{text_of, with_bytes, wrote};
 ghost use Rattle.splitter.specs.Answers.{chunk_of};
-ghost use Rattle.html_rules.specs.Markdown.{code_ends, line_text, word_text};
-ghost use Rattle.markdown_chunks.specs.InnerParts.{raw_rule, chunk_rule, fence_after};
+ghost use Rattle.splitter.specs.Split.{raw};
+ghost use Rattle.html_rules.specs.Markdown.{code_ends, line_text, with_fenced, word_text};
+ghost use Rattle.markdown_chunks.specs.InnerParts.{raw_rule, chunk_rule, fencing};
 ghost use Rattle.markdown_chunks.specs.InnerAdvance.{Ahead, Moves};
 
 use html_escape::Escape;
 use html_rules::Markdown;
 use room::Text;
-use splitter::{CODE, Code, Piece, TICKED_CODE};
+use splitter::{CODE, Code, Cursor, Piece, TICKED_CODE};
+use splitter_iter::Splitter;
 
 // A line in ticks or a code line.
 fn put_line(t: &mut Text, text: &[u8])
@@ -35,8 +38,10 @@ fn put_word(t: &mut Text, text: &[u8], l: &Markdown)
 }
 
 // A text with its width. Before a code line code lines begin, where none are being written, and before a word they stop.
-fn put_raw(t: &mut Text, text: &[u8], width: usize, l: &Markdown)
-    ensures { text_of t.new ≡ wrote (λ size. raw_rule size l.now text.now width) (text_of t.old) }
+// The width says which of the three it is: the source's chunk has no other mark of a code line, and the rules read it so.
+fn put_raw(t: &mut Text, text: &[u8], width: usize, l: &mut Markdown)
+    ensures text { text_of t.new ≡ wrote (λ size. raw_rule size l.old text.now width) (text_of t.old) }
+    ensures after { l.new ≡ fencing (raw text.now width) l.old }
 {
     match width {
         TICKED_CODE => {
@@ -48,22 +53,25 @@ fn put_raw(t: &mut Text, text: &[u8], width: usize, l: &Markdown)
                 t.put_all(b"\n\n  ```text\n");
             }
             put_line(t, text);
+            l.fenced = true;
         }
         _ => {
             if l.fenced {
                 t.put_all(b"\n  ```\n");
             }
             put_word(t, text, l);
+            l.fenced = false;
         }
     }
 }
 
-// A chunk that does not end the walk of its body.
-pub fn put_chunk(t: &mut Text, body: &[u8], piece: Piece, l: &Markdown)
-    ensures { text_of t.new ≡ wrote (λ size. chunk_rule size l.now (chunk_of body.now piece)) (text_of t.old) }
+// A chunk that does not end the walk of its body. It has places and no text, since the C interface gives places (`next_chunk`).
+pub fn put_chunk(t: &mut Text, body: &[u8], piece: Piece, l: &mut Markdown)
+    ensures text { text_of t.new ≡ wrote (λ size. chunk_rule size l.old (chunk_of body.now piece)) (text_of t.old) }
+    ensures after { l.new ≡ fencing (chunk_of body.now piece) l.old }
 {
     match piece {
-        Piece::Raw(_, _, width) => put_raw(t, splitter::text_of(body, piece), width, l),
+        Piece::Raw { width, .. } => put_raw(t, piece.text_of(body), width, l),
         Piece::Space(_) => put_raw(t, b" ", 1, l),
         Piece::Paragraph(_) => t.put_all(if l.listed { b"\n\n  " } else { b"\n\n" }),
         Piece::LineBreak(_) => t.put(b'\n'),
@@ -71,29 +79,13 @@ pub fn put_chunk(t: &mut Text, body: &[u8], piece: Piece, l: &Markdown)
 }
 
 // After the last chunk of a body: code lines end.
-pub fn end_code(t: &mut Text, l: &Markdown)
-    ensures { text_of t.new ≡ with_bytes (code_ends l.now) (text_of t.old) }
+pub fn end_code(t: &mut Text, l: &mut Markdown)
+    ensures text { text_of t.new ≡ with_bytes (code_ends l.old) (text_of t.old) }
+    ensures after { l.new ≡ with_fenced false l.old }
 {
     if l.fenced {
         t.put_all(b"  ```\n");
-    }
-}
-
-// Whether code lines are being written after a chunk.
-#[tactic(auto, using(crate::proofs::Texts::fence_ticked, crate::proofs::Texts::fence_space))]
-pub fn fence_after(piece: Piece, fenced: bool) -> bool
-    ensures { result ≡ fence_after (chunk_of [] piece) fenced }
-{
-    match piece {
-        Piece::Raw(_, _, width) => {
-            if width == TICKED_CODE {
-                fenced
-            } else {
-                width == CODE
-            }
-        }
-        Piece::Space(_) => false,
-        Piece::Paragraph(_) | Piece::LineBreak(_) => fenced,
+        l.fenced = false;
     }
 }
 
@@ -101,17 +93,18 @@ pub fn fence_after(piece: Piece, fenced: bool) -> bool
 fn is_plain(l: &Markdown, code: Code) -> bool
     ensures { Ahead l.now code result }
 {
-    l.mono == 0 && !l.fenced && matches!(code, Code::No)
+    l.mono == 0 && !l.fenced && code == Code::No
 }
 
-// The words and spaces from a cursor on that go out as they stand, and where they end: the chunks that are left give from there what they
-// gave before.
-pub fn put_plain(t: &mut Text, body: &[u8], from: usize, code: Code, l: &Markdown) -> usize
-    ensures { Moves l.now body.now code (text_of t.old) from (text_of t.new) result }
+// The words and spaces of the chunks that are left, where they go out as they stand, and where they end: the chunks that are left give from there
+// what they gave before.
+pub fn put_plain(t: &mut Text, chunks: &Splitter, l: &Markdown) -> usize
+    ensures { Moves l.now chunks.now.input.now chunks.now.cursor.code (text_of t.old) chunks.now.cursor.at (text_of t.new) result }
 {
-    if body.len() <= from || body[from] == b'\n' || !is_plain(l, code) {
-        return from;
+    let Cursor { at, code } = chunks.cursor;
+    if chunks.input.len() <= at || chunks.input[at] == b'\n' || !is_plain(l, code) {
+        return at;
     }
-    let text = base::get_from(body, from);
-    from + words::put_run(t, text, text.len()).len
+    let text = base::get_from(chunks.input, at);
+    at + words::put_run(t, text, text.len()).len
 }

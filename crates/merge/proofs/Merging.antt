@@ -1,7 +1,9 @@
 -- Two sides merged into a room, item by item. Assumes nothing.
-use Rattle.merge.proofs.Names.{ℕ, ◌-◌, ◌≤◌, ◌<◌, ◌≡◌, sym, ap, ap₂, ◌∙◌, List, [], length, take, drop, ◌>>=◌, extended, seen, Holding, Written}
+use Rattle.merge.proofs.Names.{ℕ, ◌-◌, ◌≤◌, ◌<◌, ◌≡◌, sym, ap, ap₂, ◌∙◌, List, length, take, drop, Reads}
 use mathlib.Core.List.{◌∷◌, ◌++◌, append_assoc}
 use Rattle.base.specs.Bytes.{part}
+use Rattle.room.specs.Lent.{Lent, with_bytes}
+use Rattle.room.proofs.Lents.{with_bytes_twice}
 use Rattle.records.specs.Stored.{start, end}
 use Rattle.records.specs.declared.Block.TheVariants as block
 use Rattle.merge_rules.specs.Merge.{compared, Item, key, records, all_records, list_of, Lists, merged}
@@ -10,171 +12,153 @@ use Rattle.std.specs.declared.cmp.Ordering.TheVariants.{Less, Equal, Greater}
 use Rattle.merge_rules.proofs.Whole.{around_alone}
 use Rattle.merge_rules.proofs.Merged.{next_less, next-same, next_more, merged-left, merged-right}
 use Rattle.merge_rules.proofs.Ends.{one_list}
-use Rattle.merge_items.specs.declared.Entry.{Entry}
-use Rattle.merge_items.proofs.Texts.{wrote_more, from_nothing}
+use Rattle.merge_items.specs.declared.Items.{Items}
 use Rattle.merge_sides.proofs.Sides.{Rest, rest_0, start_0, Taken, taken_keyed, keyed_text, no_more}
+use Rattle.merge.specs.InnerSteps.{Added}
 
--- Both sides from two places on, the keys of their next items, and a room whose text, with what is left to merge, is the whole.
-pub record Going (s t : List ℕ) (limit : ℕ) (room text other : List ℕ) (len i j next n then m : ℕ) : Type 0 where
+-- Both sides from their next items on, and a text that, with what is left to merge, is the whole after what stood there.
+pub record Going (s t : List ℕ) (old v : Lent) (a b : Items) : Type 0 where
   pub all : List Item
   pub both : List Item
   pub listed : Lists s all
   pub listed_too : Lists t both
   pub is : List Item
   pub js : List Item
-  pub first : Rest s i is
-  pub second : Rest t j js
-  pub keyed : Holding s i text (record { next = next; len = n })
-  pub keyed_too : Holding t j other (record { next = then; len = m })
-  pub size : length room ≡ limit
-  pub key-size : length text ≡ 32768
-  pub other-size : length other ≡ 32768
-  pub writes : (seen room len >>= extended limit (all_records (merged is js) ++ end block.DefinitionList)) ≡ extended limit (list_of (merged all both)) []
+  pub first : Rest s a.at is
+  pub second : Rest t b.at js
+  pub reads : Reads s a
+  pub reads_too : Reads t b
+  pub writes : with_bytes (all_records (merged is js) ++ end block.DefinitionList) v ≡ with_bytes (list_of (merged all both)) old
 
-whole-list : (limit : ℕ) (is : List Item)
-    → extended limit (start block.DefinitionList ++ (all_records is ++ end block.DefinitionList)) [] ≡ extended limit (list_of is) []
+-- some bytes were written, others are to follow
+after-bytes : (v new whole : Lent) (x y : List ℕ) → new ≡ with_bytes x v → with_bytes (x ++ y) v ≡ whole → with_bytes y new ≡ whole
+after-bytes v new whole x y w e = ap (λ (u : Lent). with_bytes y u) w ∙ with_bytes_twice v x y ∙ e
+
+-- an item of a side was written
+pub wrote-item : {s : List ℕ} {a : Items} (v : Lent) {new : Lent} {y : List ℕ} → Reads s a → y ≡ part a.document.now a.at a.next → new ≡ with_bytes y v
+    → new ≡ with_bytes (part s a.at a.next) v
+wrote-item {a} v r e w = w ∙ ap (λ (x : List ℕ). with_bytes x v) (e ∙ ap (λ (d : List ℕ). part d a.at a.next) r.document)
+
+whole-list : (is : List Item) → start block.DefinitionList ++ (all_records is ++ end block.DefinitionList) ≡ list_of is
 unfolding list_of
-whole-list limit is = ap (λ (x : List ℕ). extended limit x []) (sym (around_alone block.DefinitionList (all_records is)))
+whole-list is = sym (around_alone block.DefinitionList (all_records is))
 
-module _ (s t : List ℕ) (is js : List Item) (l : Lists s is) (k : Lists t js) (old room : List ℕ) (len limit : ℕ) (eo : length old ≡ limit)
-    (er : length room ≡ limit)
-    (w : seen room len ≡ (seen old 0 >>= extended (length old) (take 6 s))) where
-  pub going_0 : (text other : List ℕ) (e f : Entry) → length text ≡ 32768 → length other ≡ 32768 → Holding s 6 text e → Holding t 6 other f
-      → Going s t limit room text other len 6 6 e.next e.len f.next f.len
-  going_0 text other e f et eh ke kf = record {
-    all = is;
-    both = js;
-    listed = l;
-    listed_too = k;
-    is = is;
-    js = js;
-    first = rest_0 s is l;
-    second = rest_0 t js k;
-    keyed = ke;
-    keyed_too = kf;
-    size = er;
-    key-size = et;
-    other-size = eh;
-    writes = wrote_more limit old room 0 len (start block.DefinitionList) (all_records (merged is js) ++ end block.DefinitionList) _
-        (w ∙ ap₂ (λ (n : ℕ) (x : List ℕ). seen old 0 >>= extended n x) eo (start_0 s is l))
-        (from_nothing old limit (start block.DefinitionList ++ (all_records (merged is js) ++ end block.DefinitionList)) ∙ whole-list limit (merged is js));
-  }
+pub going_0 : {s t : List ℕ} {is js : List Item} {old v : Lent} {a b : Items} → Lists s is → Lists t js → a.at ≡ 6 → b.at ≡ 6 → Reads s a → Reads t b
+    → v ≡ with_bytes (take 6 s) old → Going s t old v a b
+going_0 {s} {t} {is} {js} {old} {v} l k e f r q w = record {
+  all = is;
+  both = js;
+  listed = l;
+  listed_too = k;
+  is = is;
+  js = js;
+  first = rw e (rest_0 s is l);
+  second = rw f (rest_0 t js k);
+  reads = r;
+  reads_too = q;
+  writes = after-bytes old v _ (start block.DefinitionList) (all_records (merged is js) ++ end block.DefinitionList)
+      (w ∙ ap (λ (x : List ℕ). with_bytes x old) (start_0 s is l)) (ap (λ (x : List ℕ). with_bytes x old) (whole-list (merged is js)));
+}
 
-module _ {s t : List ℕ} {limit : ℕ} {room text other : List ℕ} {len i j next n then m : ℕ} (g : Going s t limit room text other len i j next n then m) where
-  pub take-first : i < length s - 6 → Taken s i next g.is
-  take-first h = taken_keyed g.keyed g.first h
+module _ {s t : List ℕ} {old v : Lent} {a b : Items} (g : Going s t old v a b) where
+  pub take-first : a.at < length s - 6 → Taken s a.at a.next g.is
+  take-first h = taken_keyed g.reads.keyed g.first h
 
-  pub take_second : j < length t - 6 → Taken t j then g.js
-  take_second h = taken_keyed g.keyed_too g.second h
+  pub take_second : b.at < length t - 6 → Taken t b.at b.next g.js
+  take_second h = taken_keyed g.reads_too.keyed g.second h
 
-  module _ (new : List ℕ) (to : ℕ) (kept : length new ≡ length room) (h : i < length s - 6) (k : j < length t - 6)
-      (o : Ordering) (e : o ≡ compared (take n text) (take m other)) where
+  module _ (new : Lent) (h : a.at < length s - 6) (k : b.at < length t - 6)
+      (o : Ordering) (e : o ≡ compared (take a.key.len a.key.room.now) (take b.key.len b.key.room.now)) where
     order_is : compared (key (take-first h).item) (key (take_second k).item) ≡ o
-    order_is = sym (e ∙ ap₂ compared (keyed_text g.keyed (take-first h)) (keyed_text g.keyed_too (take_second k)))
+    order_is = sym (e ∙ ap₂ compared (keyed_text g.reads.keyed (take-first h)) (keyed_text g.reads_too.keyed (take_second k)))
 
     -- one item was written, and these are left
-    on_with : (x : Item) (ls : List Item) (y : List ℕ) → merged g.is g.js ≡ x ∷ ls → y ≡ records x
-        → seen new to ≡ (seen room len >>= extended (length room) y)
-        → (seen new to >>= extended limit (all_records ls ++ end block.DefinitionList)) ≡ extended limit (list_of (merged g.all g.both)) []
+    on_with : (x : Item) (ls : List Item) (y : List ℕ) → merged g.is g.js ≡ x ∷ ls → y ≡ records x → new ≡ with_bytes y v
+        → with_bytes (all_records ls ++ end block.DefinitionList) new ≡ with_bytes (list_of (merged g.all g.both)) old
     unfolding all_records
-    on_with x ls y q b w =
-        wrote_more limit room new len to (records x) (all_records ls ++ end block.DefinitionList) _
-        (w ∙ ap₂ (λ (z : ℕ) (v : List ℕ). seen room len >>= extended z v) g.size b)
-        (ap (λ (v : List ℕ). seen room len >>= extended limit v)
-        (sym (ap (λ (v : List Item). all_records v ++ end block.DefinitionList) q ∙ append_assoc (records x) (all_records ls) (end block.DefinitionList)))
+    on_with x ls y q r w =
+        after-bytes v new _ (records x) (all_records ls ++ end block.DefinitionList) (w ∙ ap (λ (z : List ℕ). with_bytes z v) r)
+        (ap (λ (z : List ℕ). with_bytes z v)
+        (sym (ap (λ (z : List Item). all_records z ++ end block.DefinitionList) q ∙ append_assoc (records x) (all_records ls) (end block.DefinitionList)))
         ∙ g.writes)
 
-    pub going_less : o ≡ Less → seen new to ≡ (seen room len >>= extended (length room) (part s i next)) → (text₁ : List ℕ) (p : Entry)
-        → length text₁ ≡ length text
-        → Holding s next text₁ p → Going s t limit new text₁ other to next j p.next p.len then m
-    going_less c w text₁ p l f =
-        let a = take-first h in
-        let b = take_second k in
+    pub going_less : o ≡ Less → new ≡ with_bytes (part s a.at a.next) v → (a₁ : Items) → a₁.at ≡ a.next → Reads s a₁ → Going s t old new a₁ b
+    going_less c w a₁ q r =
+        let x = take-first h in
+        let y = take_second k in
         record {
           all = g.all;
           both = g.both;
           listed = g.listed;
           listed_too = g.listed_too;
-          is = a.others;
+          is = x.others;
           js = g.js;
-          first = a.after;
+          first = rw q x.after;
           second = g.second;
-          keyed = f;
-          keyed_too = g.keyed_too;
-          size = kept ∙ g.size;
-          key-size = l ∙ g.key-size;
-          other-size = g.other-size;
-          writes = on_with a.item (merged a.others g.js) (part s i next)
-              (ap₂ merged a.split b.split ∙ next_less a.item b.item a.others b.others (order_is ∙ c)
-              ∙ ap (λ (l : List Item). a.item ∷ merged a.others l) (sym b.split)) a.bytes w;
+          reads = r;
+          reads_too = g.reads_too;
+          writes = on_with x.item (merged x.others g.js) (part s a.at a.next)
+              (ap₂ merged x.split y.split ∙ next_less x.item y.item x.others y.others (order_is ∙ c)
+              ∙ ap (λ (l : List Item). x.item ∷ merged x.others l) (sym y.split)) x.bytes w;
         }
 
-    pub going_same : o ≡ Equal → seen new to ≡ (seen room len >>= extended (length room) (part s i next)) → (text₁ other₁ : List ℕ) (p q : Entry)
-        → length text₁ ≡ length text → length other₁ ≡ length other → Holding s next text₁ p → Holding t then other₁ q
-        → Going s t limit new text₁ other₁ to next then p.next p.len q.next q.len
-    going_same c w text₁ other₁ p q l v f u =
-        let a = take-first h in
-        let b = take_second k in
+    pub going_same : o ≡ Equal → new ≡ with_bytes (part s a.at a.next) v → (a₁ b₁ : Items) → a₁.at ≡ a.next → b₁.at ≡ b.next → Reads s a₁ → Reads t b₁
+        → Going s t old new a₁ b₁
+    going_same c w a₁ b₁ q z r u =
+        let x = take-first h in
+        let y = take_second k in
         record {
           all = g.all;
           both = g.both;
           listed = g.listed;
           listed_too = g.listed_too;
-          is = a.others;
-          js = b.others;
-          first = a.after;
-          second = b.after;
-          keyed = f;
-          keyed_too = u;
-          size = kept ∙ g.size;
-          key-size = l ∙ g.key-size;
-          other-size = v ∙ g.other-size;
-          writes = on_with a.item (merged a.others b.others) (part s i next)
-              (ap₂ merged a.split b.split ∙ next-same a.item b.item a.others b.others (order_is ∙ c)) a.bytes w;
+          is = x.others;
+          js = y.others;
+          first = rw q x.after;
+          second = rw z y.after;
+          reads = r;
+          reads_too = u;
+          writes = on_with x.item (merged x.others y.others) (part s a.at a.next)
+              (ap₂ merged x.split y.split ∙ next-same x.item y.item x.others y.others (order_is ∙ c)) x.bytes w;
         }
 
-    pub going_more : o ≡ Greater → seen new to ≡ (seen room len >>= extended (length room) (part t j then)) → (other₁ : List ℕ) (q : Entry)
-        → length other₁ ≡ length other
-        → Holding t then other₁ q → Going s t limit new text other₁ to i then next n q.next q.len
-    going_more c w other₁ q v u =
-        let a = take-first h in
-        let b = take_second k in
+    pub going_more : o ≡ Greater → new ≡ with_bytes (part t b.at b.next) v → (b₁ : Items) → b₁.at ≡ b.next → Reads t b₁ → Going s t old new a b₁
+    going_more c w b₁ z u =
+        let x = take-first h in
+        let y = take_second k in
         record {
           all = g.all;
           both = g.both;
           listed = g.listed;
           listed_too = g.listed_too;
           is = g.is;
-          js = b.others;
+          js = y.others;
           first = g.first;
-          second = b.after;
-          keyed = g.keyed;
-          keyed_too = u;
-          size = kept ∙ g.size;
-          key-size = g.key-size;
-          other-size = v ∙ g.other-size;
-          writes = on_with b.item (merged g.is b.others) (part t j then)
-              (ap₂ merged a.split b.split ∙ next_more a.item b.item a.others b.others (order_is ∙ c)
-              ∙ ap (λ (l : List Item). b.item ∷ merged l b.others) (sym a.split)) b.bytes w;
+          second = rw z y.after;
+          reads = g.reads;
+          reads_too = u;
+          writes = on_with y.item (merged g.is y.others) (part t b.at b.next)
+              (ap₂ merged x.split y.split ∙ next_more x.item y.item x.others y.others (order_is ∙ c)
+              ∙ ap (λ (l : List Item). y.item ∷ merged l y.others) (sym x.split)) y.bytes w;
         }
 
   -- one side is over
-  module _ (old new : List ℕ) (to : ℕ) (same : length old ≡ limit) (y : List ℕ) (w : seen new to ≡ (seen room len >>= extended (length room) y)) where
-    ended : y ≡ all_records (merged g.is g.js) ++ end block.DefinitionList → Written s t old new to
-    ended b = record {
+  module _ (new : Lent) (y : List ℕ) (w : new ≡ with_bytes y v) where
+    ended : y ≡ all_records (merged g.is g.js) ++ end block.DefinitionList → Added s t old new
+    ended q = record {
       writes = λ is js l k.
-          w ∙ ap₂ (λ (z : ℕ) (v : List ℕ). seen room len >>= extended z v) g.size b ∙ g.writes
-          ∙ ap₂ (λ (z : ℕ) (v : List Item). extended z (list_of v) []) (sym same) (ap₂ merged (one_list g.listed l) (one_list g.listed_too k));
+          w ∙ ap (λ (z : List ℕ). with_bytes z v) q ∙ g.writes
+          ∙ ap (λ (z : List Item). with_bytes (list_of z) old) (ap₂ merged (one_list g.listed l) (one_list g.listed_too k));
     }
 
-    pub ended-first : length s - 6 ≤ i → y ≡ drop j t → Written s t old new to
-    ended-first h b =
-        ended (b ∙ g.second.bytes
+    pub ended-first : length s - 6 ≤ a.at → y ≡ drop b.at t → Added s t old new
+    ended-first h q =
+        ended (q ∙ g.second.bytes
         ∙ ap (λ (l : List Item). all_records l ++ end block.DefinitionList)
-        (sym (ap (λ (l : List Item). merged l g.js) (no_more s i g.is g.first h) ∙ merged-right g.js)))
+        (sym (ap (λ (l : List Item). merged l g.js) (no_more s a.at g.is g.first h) ∙ merged-right g.js)))
 
-    pub ended_second : length t - 6 ≤ j → y ≡ drop i s → Written s t old new to
-    ended_second h b =
-        ended (b ∙ g.first.bytes
+    pub ended_second : length t - 6 ≤ b.at → y ≡ drop a.at s → Added s t old new
+    ended_second h q =
+        ended (q ∙ g.first.bytes
         ∙ ap (λ (l : List Item). all_records l ++ end block.DefinitionList)
-        (sym (ap (λ (l : List Item). merged g.is l) (no_more t j g.js g.second h) ∙ merged-left g.is)))
+        (sym (ap (λ (l : List Item). merged g.is l) (no_more t b.at g.js g.second h) ∙ merged-left g.is)))

@@ -2,7 +2,7 @@
 pub use Prim.Native.Nat.{◌+◌, ◌-◌, ◌<◌, ◌≤◌, ℕ}
 unfoldable pub use Rattle.base.specs.Result.{◌>>=◌}
 pub use Rattle.document.proofs.Walks.{check-gives, verdict_gives, verdict_refused}
-pub use Rattle.merge_items.proofs.Items.{Holding, holding}
+pub use Rattle.merge_items.proofs.Reading.{Reads, goes_on, is_over, reads_at, reads_first}
 pub use Rattle.merge.specs.InnerSteps.{Accepted, Sound, Written}
 pub use Rattle.room.specs.Room.{extended, seen}
 pub use borrow.Author.Rules.{rules}

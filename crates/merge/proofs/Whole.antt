@@ -1,5 +1,5 @@
 -- The refusals after 1 to 8, and the room that holds the answer. Assumes nothing.
-use Rattle.merge.proofs.Names.{ℕ, ◌≤◌, ◌<◌, ◌≡◌, sym, ap, subst, ◌∙◌, List, [], length, length-take-le, arith, le-leb, lt-leb, ◌>>=◌}
+use Rattle.merge.proofs.Names.{ℕ, ◌≤◌, ◌<◌, ◌≡◌, refl, sym, ap, subst, ◌∙◌, List, [], length, length-take-le, arith, le-leb, lt-leb, ◌>>=◌}
 use Rattle.merge.proofs.Names.{check-gives, extended, seen, Written, Accepted, Sound}
 use mathlib.Core.Bool.{Bool, true, false, ◌&&◌}
 use mathlib.Core.Logic.{⊎_elim}
@@ -13,9 +13,12 @@ use Rattle.refusal.specs.Numbers.{refusal_number, refusal_place}
 use Rattle.refusal.specs.declared.Refusal.{Refusal}
 use Rattle.buffer.specs.Builder.{fit}
 use Rattle.room.proofs.Laws.{extended_in, extended-out}
-use Rattle.merge_rules.specs.Merge.{list_of, merged, in_order, merging, Merges, both_lists, TheMerge}
+use Rattle.merge_rules.specs.Merge.{list_of, merged, in_order, merging, Merges, both_lists, first-no-list, second_no-list, TheMerge}
 use Rattle.merge_rules.proofs.Laws.{two_lists, the_merge}
-use Rattle.merge_sides.specs.InnerSteps.{Ascends}
+use Rattle.merge_sides.specs.InnerSteps.{Ascends, SideIs}
+use Rattle.merge_sides.specs.declared.Side.{Side}
+use Rattle.merge_sides.specs.declared.Side.TheVariants as side
+use Rattle.refusal.specs.declared.Refusal.TheVariants as refusal
 use Rattle.merge_items.proofs.Texts.{seen-text}
 
 -- what the code found, by the case of its answer
@@ -56,6 +59,31 @@ module _ {s t : List ℕ} (cs : check s ≡ gives []) (ct : check t ≡ gives []
       first_up = sym (x.ordered x.list.0 x.list.1) ∙ u;
       second_up = sym (y.ordered y.list.0 y.list.1) ∙ v;
     }
+
+-- the answer by what both sides are
+abbrev pub answer_by : Side → Side → Returned (Unit {0}) Refusal
+answer_by side.NotAList y = Err refusal.NotAList
+answer_by side.NotAscending side.NotAList = Err refusal.NotAList
+answer_by side.NotAscending side.NotAscending = Err refusal.NotAscending
+answer_by side.NotAscending side.Ascending = Err refusal.NotAscending
+answer_by side.Ascending side.NotAList = Err refusal.NotAList
+answer_by side.Ascending side.NotAscending = Err refusal.NotAscending
+answer_by side.Ascending side.Ascending = Ok tt
+
+module _ (s t : List ℕ) (cs : check s ≡ gives []) (ct : check t ≡ gives []) where
+  told : (x y : Side) → SideIs s x → SideIs t y → Sound s t (answer_by x y)
+  told side.NotAList y f g = λ room. first-no-list cs ct f
+  told side.NotAscending side.NotAList f g = λ room. second_no-list cs ct f.list g
+  told side.NotAscending side.NotAscending f g = first_down cs ct f g refl
+  told side.NotAscending side.Ascending f g = first_down cs ct f g refl
+  told side.Ascending side.NotAList f g = λ room. second_no-list cs ct f.list g
+  told side.Ascending side.NotAscending f g = second_down cs ct f g refl refl
+  told side.Ascending side.Ascending f g = accepted cs ct f g refl refl
+
+  pub sides_told : {x y : Side} → (length s ≤ 32768 → SideIs s x) → (length t ≤ 32768 → SideIs t y) → (i j : Side) → x ≡ i → y ≡ j
+      → Sound s t (answer_by i j)
+  sides_told f g i j p q =
+      told i j (subst (SideIs s) p (f (check-gives s [] cs).0)) (subst (SideIs t) q (g (check-gives t [] ct).0))
 
 both_up : {s t : List ℕ} (a : Accepted s t) (room : List ℕ) → TheMerge room s t (fit room (list_of (merged a.sides.is a.sides.js)))
 both_up a room = the_merge (two_lists {room = room} a.first a.second a.sides.first a.sides.second a.first_up a.second_up)

@@ -5,6 +5,7 @@ use Rattle.document.specs.Document.{check, max_bytes}
 use Rattle.refusal.specs.declared.Refusal.{Refusal}
 use Rattle.refusal.specs.Numbers.{refusal_number, refusal_place}
 use Rattle.room.specs.Room.{extended, seen}
+use Rattle.room.specs.Lent.{Lent, with_bytes}
 use Rattle.merge_rules.specs.Merge.{Item, list_of, Lists, ascending, merged, Merges}
 
 -- two sides that are lists
@@ -15,6 +16,10 @@ pub record Sides (s t : List ℕ) : Type 0 where
   pub second : Lists t js
   pub short : length s ≤ max_bytes
   pub also-short : length t ≤ max_bytes
+
+-- the merged list was written after what stood there
+pub record Added (s t : List ℕ) (old new : Lent) : Type 0 where
+  pub writes : (is js : List Item) → Lists s is → Lists t js → new ≡ with_bytes (list_of (merged is js)) old
 
 -- the merged list was written into a room, up to a length
 pub record Written (s t old new : List ℕ) (len : ℕ) : Type 0 where

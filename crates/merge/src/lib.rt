@@ -2,67 +2,78 @@
 
 #![tactic(auto)]
 
-ghost use Rattle.std.specs.Prelude.{◌≡◌, length};
+ghost use Rattle.std.specs.Prelude.{length};
 ghost use Rattle.renderer.specs.Rendered.{standing, Inside};
 ghost use Rattle.merge_rules.specs.Merge.{TheMerge};
 ghost use Rattle.merge.specs.Answers.{Answer};
-ghost use Rattle.merge.specs.InnerSteps.{Sides, Written, Sound};
-ghost use Rattle.document.specs.Document.{max_bytes};
+ghost use Rattle.merge.specs.InnerSteps.{Sides, Added, Written, Sound};
+ghost use Rattle.room.specs.Lent.{text_of};
 
 use document::MAX_BYTES;
+use merge_items::Items;
 use merge_sides::Side;
 use refusal::Refusal;
+use room::Text;
 use std::cmp::Ordering;
 
-// The merged list of two lists, into a room: a length past the room says that it is longer than that. Each key has the term of its side's next
-// item; a step compares both and goes on in the side whose item it wrote, or in both sides where the terms are the same. (By places: no step is
-// one item of one side, over which an iterator would go.)
+// The merged list of two lists. A step compares the terms of both next items and goes on in the side whose item it wrote, or in both sides where the
+// terms are the same. (No `for`: no step is one item of one side, over which an iterator would go.)
+fn put_merged(
+    first: &[u8],
+    second: &[u8],
+    key: &mut [u8; MAX_BYTES],
+    other: &mut [u8; MAX_BYTES],
+    t: &mut Text,
+)
+    requires { Sides first.now second.now }
+    ensures { Added first.now second.now (text_of t.old) (text_of t.new) }
+{
+    let mut a = Items::of(first, &mut key[..]);
+    let mut b = Items::of(second, &mut other[..]);
+    t.put_all(&first[..6]);
+    while !a.is_done() {
+        if b.is_done() {
+            t.put_all(a.rest());
+            return;
+        }
+        let order = merge_items::compare(a.term(), b.term());
+        match order {
+            Ordering::Less => {
+                t.put_all(a.item());
+                a.advance();
+            }
+            Ordering::Equal => {
+                t.put_all(a.item()); // the first side's item
+                a.advance();
+                b.advance();
+            }
+            Ordering::Greater => {
+                t.put_all(b.item());
+                b.advance();
+            }
+        }
+    }
+    t.put_all(b.rest());
+}
+
+// The merged list in a room, each side's key in an array of its own: a length past the room says that it is longer than that.
 fn merge_lists(
     first: &[u8],
     second: &[u8],
     room: &mut [u8],
-    key: &mut [u8],
-    other: &mut [u8],
+    key: &mut [u8; MAX_BYTES],
+    other: &mut [u8; MAX_BYTES],
 ) -> usize
-    requires { Sides first.now second.now × (length key.old ≡ max_bytes) × (length other.old ≡ max_bytes) }
+    requires { Sides first.now second.now }
     ensures { Written first.now second.now room.old room.new result }
 {
-    let last = first.len() - 6;
-    let close = second.len() - 6;
-    let mut len = room::put_all(room, 0, &first[..6]);
-    let mut i: usize = 6;
-    let mut j: usize = 6;
-    let mut e = merge_items::read_item(first, i, key);
-    let mut f = merge_items::read_item(second, j, other);
-    while i < last {
-        if close <= j {
-            return room::put_all(room, len, &first[i..]);
-        }
-        let order = merge_items::compare(&key[..e.len], &other[..f.len]);
-        match order {
-            Ordering::Less => {
-                len = room::put_all(room, len, &first[i..e.next]);
-                i = e.next;
-                e = merge_items::read_item(first, i, key);
-            }
-            Ordering::Equal => {
-                len = room::put_all(room, len, &first[i..e.next]); // the first side's item
-                i = e.next;
-                j = f.next;
-                e = merge_items::read_item(first, i, key);
-                f = merge_items::read_item(second, j, other);
-            }
-            Ordering::Greater => {
-                len = room::put_all(room, len, &second[j..f.next]);
-                j = f.next;
-                f = merge_items::read_item(second, j, other);
-            }
-        }
-    }
-    room::put_all(room, len, &second[j..])
+    let mut t = Text::new(room);
+    put_merged(first, second, key, other, &mut t);
+    t.finish()
 }
 
-// Refusals 1 to 8 of both sides, first side first, then 22 and 23 likewise.
+// Refusals 1 to 8 of both sides, first side first, then 22 and 23 likewise; 22 has an arm for each side, since a wrong order is tried there. (The checks
+// alone, and no `document::Accepted`: `side_of` and `Items` promise for bytes that the check refuses too, so that nothing here would take the type.)
 fn refused_sides(first: &[u8], second: &[u8]) -> Result<(), Refusal>
     ensures { Sound first.now second.now result }
 {
@@ -70,11 +81,8 @@ fn refused_sides(first: &[u8], second: &[u8]) -> Result<(), Refusal>
     document::check(second)?;
     match (merge_sides::side_of(first), merge_sides::side_of(second)) {
         (Side::NotAList, _) => Err(Refusal::NotAList),
-        (Side::NotAscending, Side::NotAList) => Err(Refusal::NotAList), // 22 of the second side before 23 of the first
-        (Side::NotAscending, Side::NotAscending) => Err(Refusal::NotAscending),
-        (Side::NotAscending, Side::Ascending) => Err(Refusal::NotAscending),
-        (Side::Ascending, Side::NotAList) => Err(Refusal::NotAList),
-        (Side::Ascending, Side::NotAscending) => Err(Refusal::NotAscending),
+        (_, Side::NotAList) => Err(Refusal::NotAList), // 22 of the second side before 23 of the first
+        (Side::NotAscending, _) | (_, Side::NotAscending) => Err(Refusal::NotAscending),
         (Side::Ascending, Side::Ascending) => Ok(()),
     }
 }
@@ -99,7 +107,5 @@ fn merged(first: &[u8], second: &[u8], room: &mut [u8]) -> Result<usize, Refusal
 pub fn merge(first: &[u8], second: &[u8], room: &mut [u8]) -> Result<usize, Refusal>
     ensures { Answer room.old first.now second.now result room.new }
 {
-    let answer = merged(first, second, room);
-    renderer::clear_after(room, answer);
-    answer
+    renderer::cleared(merged(first, second, room), room)
 }

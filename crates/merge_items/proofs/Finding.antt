@@ -1,6 +1,6 @@
 -- One record on the way to a block's end. Assumes nothing.
 use Rattle.merge_items.proofs.Names.{ℕ, ◌+◌, ◌-◌, ◌≤◌, ◌<◌, ◌≡◌, sym, ap, ◌∙◌, ⊎_elim, List, [], ◌∷◌, length, arith, if_true, if_false, le_or_lt, Token}
-use Rattle.buffer.proofs.Taking.{Taken, taken}
+use Rattle.records.proofs.Taking.{Taken, taken}
 use Rattle.merge_items.proofs.Names.{tokens_from, Block, deeper, on, end_of, none-some, some_same}
 use mathlib.Core.Logic.{◌⊎◌, inl, inr}
 use Rattle.std.specs.Prelude.{Option, Some, None}

@@ -1,4 +1,4 @@
 mod Names
 pub mod Finding
 pub mod Texts
-pub mod Items
+pub mod Reading

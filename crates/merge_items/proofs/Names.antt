@@ -3,7 +3,7 @@ pub use Prim.Native.Nat.{◌+◌, ◌-◌, ◌<◌, ◌≤◌, suc, zero, ℕ}
 pub use Rattle.base.proofs.Choice.{if_false, if_true, le_or_lt}
 pub use Rattle.base.specs.Result.{Result, gives}
 unfoldable pub use Rattle.base.specs.Result.{◌>>=◌}
-pub use Rattle.merge_items.specs.InnerSteps.{Found, Keyed}
+pub use Rattle.merge_items.specs.InnerSteps.{Closes, Found, Keyed}
 unfoldable pub use Rattle.merge_items.specs.InnerSteps.{text_to}
 pub use Rattle.merge_rules.proofs.Ends.{body-closing, content_ends, none-some, some_same, term-closing}
 unfoldable pub use Rattle.merge_rules.specs.InnerEnds.{deeper, end_of, on}

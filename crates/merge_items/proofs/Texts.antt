@@ -11,6 +11,8 @@ use Rattle.std.specs.declared.cmp.Ordering.TheVariants.{Less, Equal, Greater}
 use Rattle.std.specs.Ordering.{MatchOrdering, nat_cmp, ordering_then}
 use Rattle.std.specs.Cmp.{ranks}
 use Rattle.merge_rules.proofs.Before.{by_less, by-more, by-rest}
+use Rattle.room.specs.Lent.{Lent, with_bytes}
+use Rattle.room.proofs.Lents.{with_bytes_twice}
 
 -- Writing
 
@@ -45,29 +47,26 @@ unfolding ◌>>=◌
 from_nothing room limit x = ap (λ (r : Result (List ℕ)). r >>= extended limit x) (seen_nothing room)
 
 -- the text of records up to a place joined, one record and then those after it
-module _ (stop limit : ℕ) (key : List ℕ) (len : ℕ) (left : List Token) (whole : Result (List ℕ)) (size : length key ≡ limit)
-    (joins : (seen key len >>= extended limit (text_to stop left)) ≡ whole) where
-  nothing-more : text_to stop left ≡ [] → seen key len ≡ whole
-  nothing-more e = sym (ap (λ (x : List ℕ). seen key len >>= extended limit x) e ∙ wrote_nothing key limit len size) ∙ joins
+module _ (stop : ℕ) (left : List Token) (v whole : Lent) (joins : with_bytes (text_to stop left) v ≡ whole) where
+  nothing-more : with_bytes [] v ≡ v → text_to stop left ≡ [] → v ≡ whole
+  nothing-more n e = sym n ∙ ap (λ (x : List ℕ). with_bytes x v) (sym e) ∙ joins
 
-  pub joined_end : left ≡ [] → seen key len ≡ whole
+  pub joined_end : with_bytes [] v ≡ v → left ≡ [] → v ≡ whole
   unfolding text_to
-  joined_end e = nothing-more (ap (text_to stop) e)
+  joined_end n e = nothing-more n (ap (text_to stop) e)
 
   module _ {t : Token} {others : List Token} (e : left ≡ t ∷ others) where
-    pub joined_stop : stop ≤ t.place → seen key len ≡ whole
+    pub joined_stop : with_bytes [] v ≡ v → stop ≤ t.place → v ≡ whole
     unfolding text_to
-    joined_stop k = nothing-more (ap (text_to stop) e ∙ if_false _ _ (le-ltb t.place stop k))
+    joined_stop n k = nothing-more n (ap (text_to stop) e ∙ if_false _ _ (le-ltb t.place stop k))
 
     text-next : t.place < stop → text_to stop left ≡ t.body ++ text_to stop others
     unfolding text_to
     text-next k = ap (text_to stop) e ∙ if_true _ _ (lt-ltb t.place stop k)
 
-    pub joined-on : t.place < stop → (new : List ℕ) (n : ℕ) → seen new n ≡ (seen key len >>= extended (length key) t.body)
-        → (seen new n >>= extended limit (text_to stop others)) ≡ whole
-    joined-on k new n w =
-        wrote_more limit key new len n t.body (text_to stop others) whole (w ∙ ap (λ (m : ℕ). seen key len >>= extended m t.body) size)
-        (ap (λ (x : List ℕ). seen key len >>= extended limit x) (sym (text-next k)) ∙ joins)
+    pub joined-on : t.place < stop → (new : Lent) → new ≡ with_bytes t.body v → with_bytes (text_to stop others) new ≡ whole
+    joined-on k new w = ap (λ (u : Lent). with_bytes (text_to stop others) u) w ∙ with_bytes_twice v t.body (text_to stop others)
+        ∙ ap (λ (x : List ℕ). with_bytes x v) (sym (text-next k)) ∙ joins
 
 -- a text that is seen
 pub seen-text : (room : List ℕ) (len : ℕ) (x : List ℕ) → seen room len ≡ gives x → (len ≤ length room) × (take len room ≡ x)

@@ -2,37 +2,38 @@
 
 #![tactic(auto)]
 
-ghost use Rattle.std.specs.Prelude.{◌≡◌, [], ◌<◌, ◌≤◌, length};
+ghost use Rattle.std.specs.Prelude.{◌≡◌, ◌+◌, ◌-◌, ◌^◌, ◌<◌, leb, length, take, drop};
+ghost use Rattle.base.specs.Bytes.{part};
 ghost use Rattle.records.specs.Records.{tokens_from};
-ghost use Rattle.room.specs.Room.{seen, extended};
+ghost use Rattle.room.specs.Lent.{text_of, with_bytes};
 ghost use Rattle.merge_rules.specs.Merge.{compared};
-ghost use Rattle.merge_rules.specs.InnerEnds.{deeper, end_of};
-ghost use Rattle.merge_items.specs.InnerSteps.{text_to, Found, Keyed};
-ghost use Rattle.document.specs.Document.{max_bytes};
+ghost use Rattle.merge_rules.specs.InnerEnds.{deeper};
+ghost use Rattle.merge_items.specs.InnerSteps.{text_to, Closes, Found, Begun, Read};
 
-use document::MAX_BYTES;
 use records::{Kind, Records};
+use room::Text;
 use std::cmp::Ordering;
 
-// Of an item: where what its term holds stands, where the term's end record stands, and where the item ends. Zeros stand for no item: who asks
-// tests each place before it is used, so that an Option would be asked twice.
+// Of an item: where its term's end record stands, and where the item ends.
 #[derive(Clone, Copy)]
 pub struct Place {
-    pub from: usize,
     pub stop: usize,
     pub next: usize,
 }
 
-// Of an item: where it ends, and the length of its term's text, which stands in a lent key.
-#[derive(Clone, Copy)]
-pub struct Entry {
+// The items of a side, by the next one: where it starts, where it ends, and its term's text, joined in a lent key. A term is joined once, so that
+// no step of the merge goes over its records again.
+#[derive(Drop)]
+pub struct Items<'a> {
+    pub document: &'a [u8],
+    pub at: usize,
     pub next: usize,
-    pub len: usize,
+    pub key: Text<'a>,
 }
 
-// The blocks open in a block after a record, unless it ends there.
+// The blocks open in a block after a record, unless it ends there. (Not `buffer_doc::counted`, which passes over an end where none is open.)
 fn open_after(kind: Kind, depth: usize) -> Option<usize>
-    requires { depth < max_bytes }
+    requires { depth + 1 < 2 ^ 64 }
     ensures { result ≡ deeper kind depth }
 {
     match kind {
@@ -42,71 +43,111 @@ fn open_after(kind: Kind, depth: usize) -> Option<usize>
     }
 }
 
-// Where the block ends whose content stands from a place on.
-fn end_of(document: &[u8], from: usize) -> usize
-    requires { length document.now ≤ max_bytes }
-    ensures { (result ≡ end_of (tokens_from document.now from) 0) × (result ≤ length document.now) }
+// Where the block ends whose content stands from a place on, if it does.
+fn end_of(document: &[u8], from: usize) -> Option<usize>
+    ensures { Closes document.now from result }
 {
     let mut depth: usize = 0;
     for r in Records::from_place(document, from) {
         let Some(d) = open_after(r.kind, depth) else {
-            return r.place;
+            return Some(r.place);
         };
         depth = d;
     }
-    0
+    None
 }
 
 // The item at a place of a document, if one stands there.
-pub fn item_at(document: &[u8], at: usize) -> Place
+pub fn item_at(document: &[u8], at: usize) -> Option<Place>
     ensures { Found document.now at result }
 {
-    if MAX_BYTES < document.len() {
-        return Place {
-            from: 0,
-            stop: 0,
-            next: 0,
-        };
-    }
     if document.len() < at {
-        return Place {
-            from: 0,
-            stop: 0,
-            next: 0,
-        };
+        return None;
     }
-    let from = at + 6;
-    let stop = end_of(document, from);
-    let last = end_of(document, stop + 12);
-    Place {
-        from,
+    let stop = end_of(document, at + 6)?;
+    let last = end_of(document, stop + 12)?;
+    Some(Place {
         stop,
         next: last + 6,
-    }
+    })
 }
 
-// The text of the records from a place on up to another, joined in a lent key.
-fn key_of(document: &[u8], from: usize, stop: usize, key: &mut [u8]) -> usize
-    ensures { seen key.new result ≡ extended (length key.old) (text_to stop (tokens_from document.now from)) [] }
+// The text of the records from a place on up to another, after what stands in a key. (Tried with `take_while`: missing is a lemma on what a step of a loop
+// over that adapter leaves of the records.)
+fn key_of(document: &[u8], from: usize, stop: usize, key: &mut Text)
+    ensures { text_of key.new ≡ with_bytes (text_to stop (tokens_from document.now from)) (text_of key.old) }
 {
-    let mut len: usize = 0;
     for r in Records::from_place(document, from) {
         if stop <= r.place {
-            return len;
+            return;
         }
-        len = room::put_all(key, len, r.body);
+        key.put_all(r.body);
     }
-    len
 }
 
-// The item at a place of a document, if one stands there, with its term's text joined in a lent key: a length past the key says that the text
-// is longer. A term is joined once, so that no step of the merge goes over its records again.
-pub fn read_item(document: &[u8], at: usize, key: &mut [u8]) -> Entry
-    ensures { Keyed document.now at key.new result }
-{
-    let p = item_at(document, at);
-    let len = key_of(document, p.from, p.stop, key);
-    Entry { next: p.next, len }
+impl<'a> Items<'a> {
+    // Those of a list, whose first one starts behind the list's start.
+    pub fn of(document: &'a [u8], key: &'a mut [u8]) -> Items<'a>
+        ensures { Begun document.now key.entry.ghost_name (length key.old) result }
+    {
+        let mut items = Items {
+            document,
+            at: 6,
+            next: 6,
+            key: Text::new(key),
+        };
+        items.read(6);
+        items
+    }
+
+    // The item at a place of the document is the next one, if one stands there. (No Option of what is read: `is_done` tells whether one is left.)
+    pub fn read(&mut self, at: usize)
+        ensures { Read at self.old self.new }
+    {
+        self.at = at;
+        self.next = at;
+        self.key.len = 0;
+        if let Some(p) = item_at(self.document, at) {
+            self.next = p.next;
+            key_of(self.document, at + 6, p.stop, &mut self.key);
+        }
+    }
+
+    // The one behind the next item is the next one.
+    pub fn advance(&mut self)
+        ensures { Read self.old.next self.old self.new }
+    {
+        let next = self.next;
+        self.read(next);
+    }
+
+    // Whether the list's end record stands where the next item would.
+    pub fn is_done(&self) -> bool
+        ensures { result ≡ leb (length self.now.document.now - 6) self.now.at }
+    {
+        self.document.len().saturating_sub(6) <= self.at
+    }
+
+    // The next item's records.
+    pub fn item(&self) -> &[u8]
+        ensures { result.now ≡ part self.now.document.now self.now.at self.now.next }
+    {
+        base::get(self.document, self.at, self.next)
+    }
+
+    // Its term's text.
+    pub fn term(&self) -> &[u8]
+        ensures { result.now ≡ take self.now.key.len self.now.key.room.now }
+    {
+        base::get(self.key.room, 0, self.key.len)
+    }
+
+    // All records from it on, with the list's end.
+    pub fn rest(&self) -> &[u8]
+        ensures { result.now ≡ drop self.now.at self.now.document.now }
+    {
+        base::get_from(self.document, self.at)
+    }
 }
 
 // One text beside another, by their bytes. (Std's order of two slices; the function says what it is by the rules, for both callers.)

@@ -91,8 +91,9 @@ body-told s None false a e = absurd (false≢true e)
 body-told s (Some p) true a e = absurd (false≢true (sym e))
 body-told s (Some p) false a e = body-no s p a
 
-pub term-not-plain : (s : List ℕ) → false ≡ all_plain (kinds (tokens 0 0 s)) → Filled content.inlines s → ⊥
-term-not-plain s e f = false≢true (e ∙ inlines-plain f.shape)
+pub term-not-plain : (s : List ℕ) (r : Bool) → r ≡ all_plain (kinds (tokens 0 0 s)) → r ≡ false → Tells (Filled content.inlines s) r
+term-not-plain s true e n = absurd (false≢true (sym n))
+term-not-plain s false e n = λ f. false≢true (e ∙ inlines-plain f.shape)
 
 pub term_of : (s : List ℕ) (r : Bool) → true ≡ all_plain (kinds (tokens 0 0 s)) → Tells (Filled content.parts s) r → Tells (Filled content.inlines s) r
 term_of s true e f = record { whole = f.whole; shape = plain-inlines f.shape (sym e) }

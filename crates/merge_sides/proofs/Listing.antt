@@ -12,9 +12,11 @@ use Rattle.base.proofs.Prefix.{starts-split}
 use Rattle.records.specs.Stored.{little_bytes, stored, around}
 use Rattle.records.specs.declared.Block.TheVariants as block
 use Rattle.shape.specs.Shape.{parts, inlines}
-use Rattle.merge_rules.specs.Merge.{Item, records, all_records, list_of, Filled, Lists, IsList}
+use Rattle.merge_rules.specs.Merge.{Item, records, all_records, list_of, Proper, Filled, Lists, IsList}
 use Rattle.merge_rules.specs.Merge as merge
-use Rattle.merge_items.specs.InnerSteps.{Found}
+use Rattle.merge_items.specs.InnerSteps.{Found, place_of}
+use Rattle.merge_items.proofs.Reading.{some_place, none-place}
+use Rattle.std.specs.Prelude.{Some, None}
 use Rattle.merge_items.specs.declared.Place.{Place}
 use Rattle.merge_sides.proofs.Sides.{Rest, rest_0, list_length, starts-list, Taken, taken, no_more}
 
@@ -26,6 +28,10 @@ tells_yes false t e = absurd (false≢true e)
 pub tells_no : {P : Type 0} (r : Bool) → Tells P r → r ≡ false → P → ⊥
 tells_no true t e = absurd (false≢true (sym e))
 tells_no false t e = t
+
+pub tells-not : {P : Type 0} (r : Bool) → r ≡ false → (P → ⊥) → Tells P r
+tells-not true e n = absurd (false≢true (sym e))
+tells-not false e n = n
 
 -- The bytes of a list's start and of its end
 
@@ -235,9 +241,17 @@ listing_0 s h e = record {
 }
 
 module _ {s : List ℕ} {at : ℕ} (g : Listing s at) where
-  module _ (short : length s ≤ 32768) (p : Place) (f : Found s at p) (h : at < length s - 6) where
+  -- no item was found
+  pub none-not : Found s at None → at < length s - 6 → IsList s → ⊥
+  none-not f h l =
+      let t = taken s at 0 _ (g.no l.0 l.1).1 (λ i w q e. absurd (none-place (f.item i w q e))) h in omega (arith, t.on)
+
+  module _ (p : Place) (f : Found s at (Some p)) (h : at < length s - 6) where
+    place_is : (i : Item) (w : List ℕ) → Proper i → drop at s ≡ records i ++ w → p ≡ place_of i at
+    place_is i w q e = some_place (f.item i w q e)
+
     next_taken : (l : IsList s) → Taken s at p.next (g.no l.0 l.1).0
-    next_taken l = taken s at p.next _ (g.no l.0 l.1).1 (λ i w q e. (f.item short i w q e).1) h
+    next_taken l = taken s at p.next _ (g.no l.0 l.1).1 (λ i w q e. ap (λ (x : Place). x.next) (place_is i w q e)) h
 
     pub past-not : length s - 6 < p.next → IsList s → ⊥
     past-not k l = let t = next_taken l in omega (arith, t.inside)
@@ -245,13 +259,13 @@ module _ {s : List ℕ} {at : ℕ} (g : Listing s at) where
     pub stands-not : (Stands s at p.stop p.next → ⊥) → IsList s → ⊥
     stands-not n l =
         let t = next_taken l in
-        let e = f.item short t.item _ t.proper t.here in
+        let e = place_is t.item _ t.proper t.here in
         n (record {
           item = t.item;
           proper = t.proper;
           bytes = t.here ∙ ap (λ (x : List ℕ). records t.item ++ x) (sym t.after.bytes);
-          term-end = e.0;
-          item_end = e.1;
+          term-end = ap (λ (x : Place). x.stop) e;
+          item_end = ap (λ (x : Place). x.next) e;
         })
 
     pub listing_next : Stands s at p.stop p.next → p.next ≤ length s - 6 → Listing s p.next

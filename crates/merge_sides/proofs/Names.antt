@@ -3,7 +3,7 @@ pub use Prim.Native.Nat.{◌+◌, ◌-◌, ◌<◌, ◌≤◌, ℕ}
 pub use Rattle.base.proofs.Choice.{and_both, and_left, and_right}
 pub use Rattle.base.specs.Bytes.{part}
 pub use Rattle.base.specs.Result.{◌>>=◌, gives, refused}
-pub use Rattle.merge_items.proofs.Items.{Holding, holding, length-records}
+pub use Rattle.merge_items.proofs.Reading.{Holding, Reads, goes_on, is_over, reads_at, reads_first, length-records}
 pub use Rattle.merge_rules.proofs.Whole.{around_alone, around_then}
 pub use Rattle.merge_sides.specs.InnerSteps.{Ascends, Climbs, Stands, Tells, plain}
 unfoldable pub use Rattle.merge_sides.specs.InnerSteps.{all_plain}

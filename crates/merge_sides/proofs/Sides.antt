@@ -1,19 +1,17 @@
 -- The way through a side, item by item, and the order of its terms. Assumes nothing.
 use Rattle.merge_sides.proofs.Names.{ℕ, ◌+◌, ◌-◌, ◌≤◌, ◌<◌, ◌≡◌, refl, sym, ap, ap₂, ◌∙◌, Bool, true, false, ◌&&◌, List, [], ◌∷◌, ◌++◌, append_assoc}
-use Rattle.merge_sides.proofs.Names.{length, take, drop, length-append, length-drop, drop-drop, drop_at, take_at, length-take-le, arith, part, ◌>>=◌}
-use Rattle.merge_sides.proofs.Names.{start, end, around_alone, Climbs, length-records, Holding}
+use Rattle.merge_sides.proofs.Names.{length, take, drop, length-append, length-drop, drop-drop, drop_at, take_at, arith, part}
+use Rattle.merge_sides.proofs.Names.{start, end, around_alone, Climbs, length-records, Holding, Reads}
 use Rattle.records.specs.declared.Block.TheVariants as block
 use Rattle.buffer_doc.proofs.Adding.{length-start, length-end, length-around}
-use Rattle.room.specs.Room.{extended, seen}
-use Rattle.room.proofs.Laws.{extended_in}
 use Rattle.merge_rules.specs.Merge.{compared, is_less, Item, key, records, all_records, list_of, Proper, Each, Lists, ascending}
 use Rattle.std.specs.declared.cmp.Ordering.{Ordering}
 use Rattle.std.specs.declared.cmp.Ordering.TheVariants.{Less, Equal, Greater}
 use Rattle.std.specs.Ordering.{is_lt}
 use Rattle.merge_rules.proofs.Merged.{head_of, tail_of}
 use Rattle.merge_rules.proofs.Ends.{one_list}
-use Rattle.merge_items.specs.declared.Entry.{Entry}
-use Rattle.merge_items.proofs.Texts.{seen-text, from_nothing}
+use Rattle.merge_items.proofs.Texts.{seen-text}
+use Rattle.merge_items.specs.declared.Items.{Items}
 
 -- From a place on a side has these items, and then the list's end record.
 pub record Rest (s : List ℕ) (at : ℕ) (is : List Item) : Type 0 where
@@ -95,88 +93,68 @@ no_more s at [] r h = refl
 no_more s at (i ∷ is) r h = absurd (omega (arith, rest-length s at (i ∷ is) r, length-append (records i) (all_records is), length-records i))
 
 -- the same by what was read there
-module _ {s : List ℕ} {at next len : ℕ} {text : List ℕ} {is : List Item} (k : Holding s at text (record { next = next; len = len })) where
+module _ {s : List ℕ} {at next len : ℕ} {text : List ℕ} {is : List Item} (k : Holding s at next text len) where
   pub taken_keyed : Rest s at is → at < length s - 6 → Taken s at next is
   taken_keyed r h = taken s at next is r (λ i w p e. (k.item i w p e).0) h
 
-  module _ (t : Taken s at next is) where
-    pub keyed_inside : len ≤ length text
-    keyed_inside = (seen-text text len (key t.item) (k.item t.item _ t.proper t.here).1).0
-
-    pub keyed_text : take len text ≡ key t.item
-    keyed_text = (seen-text text len (key t.item) (k.item t.item _ t.proper t.here).1).1
-
--- a term's text copied into another key
-pub keyed_copied : (s : List ℕ) (at : ℕ) (other text new : List ℕ) (f : Entry) (n : ℕ) → Holding s at other f → length other ≤ length text
-    → seen new n ≡ (seen text 0 >>= extended (length text) (take f.len other)) → Holding s at new (record { next = f.next; len = n })
-keyed_copied s at other text new f n k l w = record {
-  item = λ i v p e.
-      let g = k.item i v p e in
-      let x = seen-text other f.len (key i) g.1 in
-      let y : length (key i) ≡ f.len = sym (ap length x.1) ∙ length-take-le f.len other x.0 in (
-        g.0,
-        w ∙ from_nothing text (length text) (take f.len other) ∙ ap (λ (z : List ℕ). extended (length text) z []) x.1
-            ∙ extended_in (length text) (key i) [] (omega (arith, y, x.0)),
-      );
-}
+  pub keyed_text : (t : Taken s at next is) → take len text ≡ key t.item
+  keyed_text t = (seen-text text len (key t.item) (k.item t.item _ t.proper t.here).1).1
 
 -- The order of a side's terms: of those from a place on, whose first one stands in a key, as of all
 
-pub record Climbing (s text : List ℕ) (at next len : ℕ) : Type 0 where
+pub record Climbing (s : List ℕ) (here : Items) : Type 0 where
   pub all : List Item
   pub listed : Lists s all
   pub is : List Item
-  pub rest : Rest s at is
-  pub keyed : Holding s at text (record { next = next; len = len })
+  pub rest : Rest s here.at is
+  pub reads : Reads s here
   pub same : ascending is ≡ ascending all
 
-pub climbing_0 : (s : List ℕ) (is : List Item) (text : List ℕ) (e : Entry) → Lists s is → Holding s 6 text e → Climbing s text 6 e.next e.len
-climbing_0 s is text e l f = record { all = is; listed = l; is = is; rest = rest_0 s is l; keyed = f; same = refl }
+pub climbing_0 : {s : List ℕ} {is : List Item} {here : Items} → Lists s is → here.at ≡ 6 → Reads s here → Climbing s here
+climbing_0 {s} {is} {here} l e r =
+    record { all = is; listed = l; is = is; rest = rw e (rest_0 s is l); reads = r; same = refl }
 
 climbs : {s : List ℕ} {all : List Item} {r : Bool} → Lists s all → r ≡ ascending all → Climbs s r
 climbs l e = record { says = λ is m. e ∙ ap ascending (one_list l m) }
 
-module _ {s text : List ℕ} {at next len : ℕ} (c : Climbing s text at next len) where
-  pub climbed : length s - 6 ≤ at → Climbs s true
+module _ {s : List ℕ} {here : Items} (c : Climbing s here) where
+  pub climbed : length s - 6 ≤ here.at → Climbs s true
   unfolding ascending
-  climbed h = climbs c.listed (sym (ap ascending (no_more s at c.is c.rest h)) ∙ c.same)
+  climbed h = climbs c.listed (sym (ap ascending (no_more s here.at c.is c.rest h)) ∙ c.same)
 
-  pub climbing_taken : at < length s - 6 → Taken s at next c.is
-  climbing_taken h = taken_keyed c.keyed c.rest h
+  pub climbing_taken : here.at < length s - 6 → Taken s here.at here.next c.is
+  climbing_taken h = taken_keyed c.reads.keyed c.rest h
 
-  pub climbed_one : at < length s - 6 → length s - 6 ≤ next → Climbs s true
+  pub climbed_one : here.at < length s - 6 → length s - 6 ≤ here.next → Climbs s true
   unfolding ascending
   climbed_one h k =
       let t = climbing_taken h in
-      climbs c.listed (sym (ap ascending (t.split ∙ ap (λ (l : List Item). t.item ∷ l) (no_more s next t.others t.after k))) ∙ c.same)
+      climbs c.listed (sym (ap ascending (t.split ∙ ap (λ (l : List Item). t.item ∷ l) (no_more s here.next t.others t.after k))) ∙ c.same)
 
-  module _ (other : List ℕ) (f : Entry) (h : at < length s - 6) (k : next < length s - 6) (g : Holding s next other f) where
-    pub climbing_second : Taken s next f.next (climbing_taken h).others
-    climbing_second = taken_keyed g (climbing_taken h).after k
+  module _ (after : Items) (h : here.at < length s - 6) (k : after.at < length s - 6) (q : after.at ≡ here.next) (g : Reads s after) where
+    pub climbing_second : Taken s after.at after.next (climbing_taken h).others
+    climbing_second = taken_keyed g.keyed (rw q (climbing_taken h).after) k
 
-    pub second_inside : f.len ≤ length other
-    second_inside = keyed_inside g climbing_second
-
-    module _ (o : Ordering) (e : o ≡ compared (take len text) (take f.len other)) where
+    module _ (o : Ordering) (e : o ≡ compared (take here.key.len here.key.room.now) (take after.key.len after.key.room.now)) where
       step : ascending c.all ≡ (is_less o && ascending (climbing_taken h).others)
       unfolding ascending
       step =
           let t = climbing_taken h in
           let u = climbing_second in
           sym c.same ∙ ap ascending (t.split ∙ ap (λ (l : List Item). t.item ∷ l) u.split)
-          ∙ ap₂ (λ (x : Ordering) (l : List Item). is_less x && ascending l) (sym (e ∙ ap₂ compared (keyed_text c.keyed t) (keyed_text g u))) (sym u.split)
+          ∙ ap₂ (λ (x : Ordering) (l : List Item). is_less x && ascending l)
+          (sym (e ∙ ap₂ compared (keyed_text c.reads.keyed t) (keyed_text g.keyed u))) (sym u.split)
 
       pub climbs_not : is_less o ≡ false → Climbs s false
       climbs_not n = climbs c.listed (sym (step ∙ rw n))
 
-      pub climbing_next : is_less o ≡ true → (new : List ℕ) (n : ℕ) → length other ≤ length text
-          → seen new n ≡ (seen text 0 >>= extended (length text) (take f.len other)) → Climbing s new next f.next n
-      climbing_next y new n l w = record {
+      pub climbing_next : is_less o ≡ true → Climbing s after
+      climbing_next y = record {
         all = c.all;
         listed = c.listed;
         is = (climbing_taken h).others;
-        rest = (climbing_taken h).after;
-        keyed = keyed_copied s next other text new f n g l w;
+        rest = rw q (climbing_taken h).after;
+        reads = g;
         same = sym (step ∙ rw y);
       }
 

@@ -10,8 +10,9 @@ ghost use Rattle.merge_sides.specs.InnerSteps.{framed, Stands, Asked, Climbs, Te
 ghost use Rattle.document.specs.Document.{max_bytes};
 
 use document::MAX_BYTES;
-use merge_items::Entry;
+use merge_items::{Items, Place};
 use records::{Kind, Records};
+use std::mem::swap;
 
 // A document as a side: no list of items, a list whose terms do not ascend, or one whose terms do.
 #[derive(Clone, Copy, Debug, PartialEq, Eq)]
@@ -21,26 +22,28 @@ pub enum Side {
     Ascending,
 }
 
-// Whether the terms of a list ascend. (A loop by places, as in the merge: where the next item begins is known when one was read.) `key` has the term of the item at `at`, `other` that of the next one.
-fn in_order(document: &[u8], key: &mut [u8], other: &mut [u8]) -> bool
-    requires { Asked document.now × (length key.old ≡ max_bytes) × (length other.old ≡ max_bytes) }
+// Whether the terms of a list ascend: that of each item and that of the next one, which are read into the two keys in turn. (A loop by places, as in
+// the merge: where the next item begins is known when one was read.)
+fn in_order<'a>(
+    document: &'a [u8],
+    key: &'a mut [u8; MAX_BYTES],
+    other: &'a mut [u8; MAX_BYTES],
+) -> bool
+    requires { Asked document.now }
     ensures { Climbs document.now result }
 {
-    let last = document.len() - 6;
-    let mut at: usize = 6;
-    let mut e = merge_items::read_item(document, at, key);
-    while at < last {
-        if last <= e.next {
+    let mut here = Items::of(document, &mut key[..]);
+    let mut after = Items::of(document, &mut other[..]);
+    while !here.is_done() {
+        after.read(here.next);
+        if after.is_done() {
             return true;
         }
-        let f = merge_items::read_item(document, e.next, other);
-        let order = merge_items::compare(&key[..e.len], &other[..f.len]);
+        let order = merge_items::compare(here.term(), after.term());
         if !order.is_lt() {
             return false;
         }
-        let len = room::put_all(key, 0, &other[..f.len]);
-        at = e.next;
-        e = Entry { next: f.next, len };
+        swap(&mut here, &mut after);
     }
     true
 }
@@ -62,7 +65,9 @@ fn all_plain(content: &[u8]) -> bool
     Records::of(content).all(|r| is_plain(r.kind))
 }
 
-// Whether some bytes are what a body holds.
+// Whether some bytes are what a body holds. (No `matches!` on Ok(None): of its other arm the proof is not told that a place was found.)
+// The bound on the length is asked by this function and the callers up to `is_list`. Not `document::Accepted`: what an item holds is checked here first, and
+// `side_of` promises for all bytes up to the bound, whether the check accepts them or not.
 fn fills_body(content: &[u8]) -> bool
     requires { length content.now ≤ max_bytes }
     ensures { Tells (Filled parts content.now) result }
@@ -78,34 +83,29 @@ fn fills_term(content: &[u8]) -> bool
     requires { length content.now ≤ max_bytes }
     ensures { Tells (Filled inlines content.now) result }
 {
-    if !all_plain(content) {
-        return false;
-    }
-    fills_body(content)
+    all_plain(content) && fills_body(content)
 }
 
-// Whether the records around what an item holds stand there: its term's start at `at`, its term's end and its body's start at `stop`, its body's end
-// before `next`.
-fn is_framed(document: &[u8], at: usize, stop: usize, next: usize) -> bool
-    requires { (at ≤ length document.now) × (stop ≤ length document.now) }
-    ensures { result ≡ framed document.now at stop next }
+// Whether the records around what an item holds stand there: its term's start at `at`, its term's end and its body's start, its body's end.
+fn is_framed(document: &[u8], at: usize, p: Place) -> bool
+    requires { (at ≤ length document.now) × (p.stop ≤ length document.now) }
+    ensures { result ≡ framed document.now at p.stop p.next }
 {
-    at + 6 <= stop
-        && stop + 18 <= next
+    at + 6 <= p.stop
+        && p.stop + 18 <= p.next
         && base::starts_with(document, at, b"\0\0\0\0\x04\x01")
-        && base::starts_with(document, stop, b"\0\0\0\0\x04\x02\0\0\0\0\x05\x01")
-        && base::starts_with(document, next - 6, b"\0\0\0\0\x05\x02")
+        && base::starts_with(document, p.stop, b"\0\0\0\0\x04\x02\0\0\0\0\x05\x01")
+        && base::starts_with(document, p.next - 6, b"\0\0\0\0\x05\x02")
 }
 
-// Whether an item stands at a place, with its term's end record at `stop` and its own end at `next`.
-fn stands(document: &[u8], at: usize, stop: usize, next: usize) -> bool
-    requires { (length document.now ≤ max_bytes) × (at ≤ length document.now) × (stop ≤ length document.now) × (next ≤ length document.now) }
-    ensures { Tells (Stands document.now at stop next) result }
+// Whether an item stands at a place, with its term's end record and its own end where they were found.
+fn stands(document: &[u8], at: usize, p: Place) -> bool
+    requires { (length document.now ≤ max_bytes) × (at ≤ length document.now) × (p.stop ≤ length document.now) × (p.next ≤ length document.now) }
+    ensures { Tells (Stands document.now at p.stop p.next) result }
 {
-    if !is_framed(document, at, stop, next) {
-        return false;
-    }
-    fills_term(&document[at + 6..stop]) && fills_body(&document[stop + 12..next - 6])
+    is_framed(document, at, p)
+        && fills_term(&document[at + 6..p.stop])
+        && fills_body(&document[p.stop + 12..p.next - 6])
 }
 
 // Whether a document is one list of items, whatever their order. (By places: the next item is known when one was found whole.)
@@ -113,20 +113,16 @@ fn is_list(document: &[u8]) -> bool
     requires { length document.now ≤ max_bytes }
     ensures { Tells (IsList document.now) result }
 {
-    if document.len() < 12 {
-        return false;
-    }
-    if !base::starts_with(document, 0, b"\0\0\0\0\x06\x01") {
+    if document.len() < 12 || !base::starts_with(document, 0, b"\0\0\0\0\x06\x01") {
         return false;
     }
     let last = document.len() - 6;
     let mut at: usize = 6;
     while at < last {
-        let p = merge_items::item_at(document, at);
-        if last < p.next {
+        let Some(p) = merge_items::item_at(document, at) else {
             return false;
-        }
-        if !stands(document, at, p.stop, p.next) {
+        };
+        if last < p.next || !stands(document, at, p) {
             return false;
         }
         at = p.next;
@@ -138,10 +134,7 @@ fn is_list(document: &[u8]) -> bool
 pub fn side_of(document: &[u8]) -> Side
     ensures { length document.now ≤ max_bytes → SideIs document.now result }
 {
-    if MAX_BYTES < document.len() {
-        return Side::NotAList;
-    }
-    if !is_list(document) {
+    if MAX_BYTES < document.len() || !is_list(document) {
         return Side::NotAList;
     }
     // two arrays as large as a document, since there is no heap

@@ -1,21 +1,20 @@
 -- The numbers of a chunk, by what the code finds. Assumes nothing.
-use Prim.Native.Nat.{ℕ, ◌-◌, ◌≤◌}
-use mathlib.Core.Path.{◌≡◌, sym, ap, ◌∙◌, subst}
+use Prim.Native.Nat.{ℕ}
+use mathlib.Core.Path.{◌≡◌, sym, ap, ◌∙◌}
 use mathlib.Core.Bool.{true, false}
 use mathlib.Core.List.{List, [], ◌∷◌}
-use lib.ListN.{length, drop}
+use lib.ListN.{drop}
 use borrow.Author.Tests.{ne_eqb}
 use Rattle.base.specs.Bytes.{starts_with}
 use Rattle.base.specs.Choice.{when◌then◌else◌}
 use Rattle.base.proofs.Choice.{if_true, if_false}
-use Rattle.splitter.specs.Answers.{PieceWithin, first_chunk, cursor}
+use Rattle.splitter.specs.Answers.{first_chunk, cursor}
 use Rattle.splitter.specs.declared.Code.{Code}
 use Rattle.splitter.specs.declared.Code.TheVariants as code
 use Rattle.splitter.specs.declared.Cursor.{Cursor}
 use Rattle.splitter.specs.declared.Piece.{Piece}
-use Rattle.splitter.specs.declared.Piece.TheVariants.{Raw, Space, Paragraph, LineBreak}
 use Rattle.std.specs.Prelude.{Option, Some, None}
-use Rattle.next_chunk.specs.NextChunk.{code_of, ticks_of, space_number, after, handed, handed_or, next_chunk}
+use Rattle.next_chunk.specs.NextChunk.{code_of, space_number, handed, handed_or, next_chunk}
 use Rattle.next_chunk.specs.declared.Next.{Next}
 
 -- the tick state that a number stands for
@@ -41,26 +40,6 @@ module _ (body : List ℕ) (at : ℕ) where
   pub space_of_line-end : starts_with (0x20 ∷ []) (drop at body) ≡ false → 4 ≡ space_number body at
   unfolding space_number
   space_of_line-end e = sym (if_false _ _ e)
-
--- a piece with the cursor after it
-module _ (body : List ℕ) (p : Piece) (c : Cursor) (at t : ℕ) (n : at ≡ after body c) (e : t ≡ ticks_of c.code) where
-  abbrev numbers : ℕ → ℕ → ℕ → ℕ → Next
-  numbers k start m w = record { number = k; at = at; ticks = t; start = start; length = m; width = w }
-
-  pub hand_raw : {from to w : ℕ} → p ≡ Raw from to w → numbers 1 from (to - from) w ≡ handed body p c
-  hand_raw f = rw (n, e, f)
-
-  pub hand_space : {from : ℕ} → p ≡ Space from → (k : ℕ) → k ≡ space_number body from → numbers k from 1 1 ≡ handed body p c
-  hand_space f k g = rw (n, e, f, g)
-
-  pub hand_paragraph : {from : ℕ} → p ≡ Paragraph from → numbers 2 from 0 0 ≡ handed body p c
-  hand_paragraph f = rw (n, e, f)
-
-  pub hand_break : {from : ℕ} → p ≡ LineBreak from → numbers 3 from 0 0 ≡ handed body p c
-  hand_break f = rw (n, e, f)
-
-pub raw-order : (body : List ℕ) (p : Piece) {from to w : ℕ} → PieceWithin (length body) p → p ≡ Raw from to w → from ≤ to
-raw-order body p h e = (subst (PieceWithin (length body)) e h).0
 
 -- the step's answer, by its case
 module _ (body : List ℕ) (at ticks : ℕ) (d : Code) (e : d ≡ code_of ticks) (r : Option (Piece × Cursor)) (f : r ≡ first_chunk body (cursor at d)) where

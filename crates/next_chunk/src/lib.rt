@@ -9,7 +9,7 @@ use splitter::{Code, Cursor, Piece};
 
 // What a chunk is (0 none, 1 a part of the body, 2 a paragraph, 3 a line break, 4 a line end's space: numbers, since C gets them), the cursor after it,
 // and where it begins, its length and its width.
-#[derive(Clone, Copy)]
+#[derive(Clone, Copy, Default)]
 pub struct Next {
     pub number: u32,
     pub at: usize,
@@ -19,7 +19,7 @@ pub struct Next {
     pub width: usize,
 }
 
-// A tick state and its number; neither type is of this crate, so that neither conversion can be a `From`.
+// A tick state and its number in C: no `From` in `splitter`, where Code is, since it has no such numbers.
 fn code_of(ticks: u32) -> Code
     ensures { result ≡ code_of ticks }
 {
@@ -56,15 +56,16 @@ fn hand(body: &[u8], piece: Piece, after: Cursor) -> Next
     ensures { result ≡ handed body.now piece after }
 {
     let next = Next {
-        number: 0,
         at: after.at.min(body.len()),
         ticks: ticks_of(after.code),
-        start: 0,
-        length: 0,
-        width: 0,
+        ..Next::default()
     };
     match piece {
-        Piece::Raw(start, stop, width) => Next {
+        Piece::Raw {
+            from: start,
+            to: stop,
+            width,
+        } => Next {
             number: 1,
             start,
             length: stop.saturating_sub(start),
@@ -100,12 +101,9 @@ pub fn next_chunk(body: &[u8], at: usize, ticks: u32) -> Next
     match step {
         Some((piece, after)) => hand(body, piece, after),
         None => Next {
-            number: 0,
             at,
             ticks,
-            start: 0,
-            length: 0,
-            width: 0,
+            ..Next::default()
         },
     }
 }

@@ -4,7 +4,7 @@ pub use Rattle.base.specs.Bytes.{part, starts_with}
 pub use Rattle.notes_rules.specs.Notes.{header_mark, item_mark, text_records}
 unfoldable pub use Rattle.notes_rules.specs.Notes.{document, fit, joined, lines, parts, taken_in}
 unfoldable pub use Rattle.notes_rules.specs.Without.{blank_line, marked, ordinary, text_left}
-pub use Rattle.notes.specs.InnerParts.{Ends}
+pub use Rattle.notes.specs.InnerParts.{Ends, behind}
 unfoldable pub use Rattle.records.specs.Stored.{around}
 pub use Rattle.room.specs.Room.{extended, seen}
 pub use borrow.Author.Rules.{rules}

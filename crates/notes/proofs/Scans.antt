@@ -1,6 +1,6 @@
 -- Lines and texts, as loops over the bytes find them. Assumes nothing.
 use Rattle.notes.proofs.Names.{ℕ, ◌+◌, ◌≤◌, ◌<◌, ◌≡◌, refl, sym, ap, ◌∙◌, Bool, true, false, not, ◌||◌, ◌&&◌, List, [], ◌∷◌, ◌++◌, append_assoc, append-nil}
-use Rattle.notes.proofs.Names.{length, drop, get_or, drop_of_length-le, drop-cons, arith, ne_eqb, part}
+use Rattle.notes.proofs.Names.{length, take, drop, get_or, drop_of_length-le, drop-cons, arith, ne_eqb}
 use Rattle.notes.proofs.Names.{blank_line, ordinary, text_left, Ends}
 use native.Mathlib.Numerals.{add-one}
 use lib.Dec.{eqb}
@@ -10,9 +10,8 @@ use Rattle.std.specs.Prelude.{Option, Some, None, MatchOption}
 use Rattle.std.specs.List.{find}
 use Rattle.std.specs.Option.{option_map}
 use Rattle.std.specs.Borrow.{Bor}
-use Rattle.base.proofs.Parts.{part_none}
 use Rattle.notes_rules.proofs.Lines.{left-stop, left-feed, left-go}
-use Rattle.notes_text.proofs.Ticks.{part-more}
+use lib.Seq.{take-suc}
 
 -- Lines
 
@@ -41,23 +40,18 @@ by_found (Some x) xs r e h = blank_found xs r (rw (← e) h)
 
 -- What is left of a text
 
-pub record Going (s : List ℕ) (one : Bool) (at i : ℕ) : Type 0 where
-  pub order : at ≤ i
+pub record Going (s : List ℕ) (one : Bool) (i : ℕ) : Type 0 where
   pub inside : i ≤ length s
-  pub is : part s at i ++ text_left one (drop i s) ≡ text_left one (drop at s)
+  pub is : take i s ++ text_left one (drop i s) ≡ text_left one s
 
-pub going_start : (s : List ℕ) (one : Bool) (at : ℕ) → at ≤ length s → Going s one at at
-going_start s one at h = record { order = omega arith; inside = h; is = ap (λ (l : List ℕ). l ++ text_left one (drop at s)) (part_none s at at (omega arith)) }
-
-module _ (s : List ℕ) (one : Bool) (at i : ℕ) (g : Going s one at i) where
-  ends_none : text_left one (drop i s) ≡ [] → Ends s one at i
+module _ (s : List ℕ) (one : Bool) (i : ℕ) (g : Going s one i) where
+  ends_none : text_left one (drop i s) ≡ [] → Ends s one i
   ends_none e = record {
-    order = g.order;
     inside = g.inside;
-    is = sym (append-nil (part s at i)) ∙ ap (λ (l : List ℕ). part s at i ++ l) (sym e) ∙ g.is;
+    is = sym (append-nil (take i s)) ∙ ap (λ (l : List ℕ). take i s ++ l) (sym e) ∙ g.is;
   }
 
-  pub ends_over : length s ≤ i → Ends s one at i
+  pub ends_over : length s ≤ i → Ends s one i
   unfolding text_left
   ends_over h = ends_none (ap (text_left one) (drop_of_length-le s h))
 
@@ -65,20 +59,19 @@ module _ (s : List ℕ) (one : Bool) (at i : ℕ) (g : Going s one at i) where
     cons : drop i s ≡ get_or s i 0 ∷ drop (i + 1) s
     cons = rw (add-one i) (drop-cons s i 0 h)
 
-    pub ends_feed : get_or s i 0 ≡ 0x0A → (one || not (ordinary (drop (i + 1) s))) ≡ true → Ends s one at i
+    pub ends_feed : get_or s i 0 ≡ 0x0A → (one || not (ordinary (drop (i + 1) s))) ≡ true → Ends s one i
     ends_feed e f = ends_none (ap (text_left one) cons ∙ left-stop one (get_or s i 0) (drop (i + 1) s) e f)
 
-    going_by : text_left one (drop i s) ≡ get_or s i 0 ∷ text_left one (drop (i + 1) s) → Going s one at (i + 1)
+    going_by : text_left one (drop i s) ≡ get_or s i 0 ∷ text_left one (drop (i + 1) s) → Going s one (i + 1)
     going_by e = record {
-      order = omega (arith, g.order);
       inside = omega arith;
-      is = ap (λ (l : List ℕ). l ++ text_left one (drop (i + 1) s)) (part-more s at i g.order h)
-          ∙ append_assoc (part s at i) (get_or s i 0 ∷ []) (text_left one (drop (i + 1) s))
-          ∙ ap (λ (l : List ℕ). part s at i ++ l) (sym e) ∙ g.is;
+      is = ap (λ (l : List ℕ). l ++ text_left one (drop (i + 1) s)) (rw (add-one i) (take-suc s i 0 h))
+          ∙ append_assoc (take i s) (get_or s i 0 ∷ []) (text_left one (drop (i + 1) s))
+          ∙ ap (λ (l : List ℕ). take i s ++ l) (sym e) ∙ g.is;
     }
 
-    pub going_feed : get_or s i 0 ≡ 0x0A → (one || not (ordinary (drop (i + 1) s))) ≡ false → Going s one at (i + 1)
+    pub going_feed : get_or s i 0 ≡ 0x0A → (one || not (ordinary (drop (i + 1) s))) ≡ false → Going s one (i + 1)
     going_feed e f = going_by (ap (text_left one) cons ∙ left-feed one (get_or s i 0) (drop (i + 1) s) e f)
 
-    pub going_byte : (get_or s i 0 ≡ 0x0A → ⊥) → Going s one at (i + 1)
+    pub going_byte : (get_or s i 0 ≡ 0x0A → ⊥) → Going s one (i + 1)
     going_byte e = going_by (ap (text_left one) cons ∙ left-go one (get_or s i 0) (drop (i + 1) s) (ne_eqb (get_or s i 0) 0x0A e))

@@ -1,8 +1,8 @@
 -- One part of the notes after another, from a place on. Assumes nothing.
-use Rattle.notes.proofs.Names.{ℕ, ◌+◌, ◌-◌, ◌≤◌, ◌<◌, ◌≡◌, refl, sym, ap, ap₂, ◌∙◌, ⊎_elim, Bool, true, false, ◌&&◌, List, [], ◌++◌}
-use Rattle.notes.proofs.Names.{length, take, drop, length-drop, drop_of_length-le, drop-drop, length-take-le, arith, le-leb, lt-leb}
-use Rattle.notes.proofs.Names.{le-ltb, lt-ltb, part, starts_with, seen, extended, around, lines, header_mark, item_mark, joined, text_records, parts}
-use Rattle.notes.proofs.Names.{document, fit, taken_in, blank_line, text_left, Ends}
+use Rattle.notes.proofs.Names.{ℕ, ◌+◌, ◌≤◌, ◌<◌, ◌≡◌, refl, sym, ap, ap₂, ◌∙◌, ⊎_elim, Bool, true, false, ◌&&◌, List, [], ◌++◌}
+use Rattle.notes.proofs.Names.{length, take, drop, drop_of_length-le, length-take-le, arith, le-leb, lt-leb}
+use Rattle.notes.proofs.Names.{le-ltb, lt-ltb, starts_with, seen, extended, around, lines, header_mark, item_mark, joined, text_records, parts}
+use Rattle.notes.proofs.Names.{document, fit, taken_in, blank_line, text_left, behind, Ends}
 use lib.Dec.{leb}
 use Rattle.base.specs.Result.{Result, gives, refused, ◌>>=◌}
 use Rattle.base.proofs.Choice.{if_true, if_false, and_both, le_or_lt}
@@ -20,68 +20,43 @@ use Rattle.room.specs.Lent.{Lent, lent_empty, with_bytes}
 use Rattle.room.proofs.Lents.{with_both, with_same}
 use Rattle.notes_rules.proofs.Lines.{unmarked_is, ordinary-is, line, next, next_mark, header_part, item_part, blank_part, other-part}
 
--- behind a text and its line feed
-module _ {s : List ℕ} {one : Bool} {a e : ℕ} (n : Ends s one a e) where
-  after_text : drop (length (text_left one (drop a s)) + 1) (drop a s) ≡ drop (e + 1) s
-  after_text =
-      let m : length (part s a e) ≡ e - a = length-take-le (e - a) (drop a s) (omega (arith, length-drop a s, n.inside)) in
-      let k : length (text_left one (drop a s)) ≡ e - a = ap length (sym n.is) ∙ m in
-      let j : a + (length (text_left one (drop a s)) + 1) ≡ e + 1 = omega (arith, n.order) in
-      drop-drop (length (text_left one (drop a s)) + 1) a s ∙ ap (λ (i : ℕ). drop i s) j
-
--- the document of the notes from a place on
-abbrev pub document_at : List ℕ → ℕ → List ℕ
-document_at s at = document (drop at s)
-
-module _ (s : List ℕ) (at : ℕ) where
-  pub document-end : length s ≤ at → document_at s at ≡ []
+module _ (s : List ℕ) where
+  pub document-end : length s ≡ 0 → document s ≡ []
   unfolding document parts joined lines
-  document-end h = rw (drop_of_length-le s h)
-
-  module _ (mark : List ℕ) (two : length mark ≡ 2) {e : ℕ} (n : Ends s true (at + 2) e) where
-    behind_mark : drop 2 (drop at s) ≡ drop (at + 2) s
-    behind_mark = drop-drop 2 at s
-
-    marked-text : line (drop 2 (drop at s)) ≡ part s (at + 2) e
-    marked-text = ap line behind_mark ∙ sym n.is
-
-    marked-rest : next (drop at s) ≡ drop (length (line (drop 2 (drop at s))) + 1) (drop 2 (drop at s)) → next (drop at s) ≡ drop (e + 1) s
-    marked-rest f = f ∙ ap (λ (l : List ℕ). drop (length (line l) + 1) l) behind_mark ∙ after_text n
+  document-end h = rw (drop_of_length-le s {i = 0} (omega arith)) refl
 
   -- a line with a marker
-  pub step_header : {e : ℕ} → starts_with header_mark (drop at s) ≡ true → Ends s true (at + 2) e
-      → document_at s at ≡ around block.Header (text_records (part s (at + 2) e)) ++ document_at s (e + 1)
+  pub step_header : starts_with header_mark s ≡ true
+      → document s ≡ around block.Header (text_records (text_left true (drop 2 s))) ++ document (behind true (drop 2 s))
   unfolding document parts
-  step_header h n =
-      ap parts (header_part (drop at s) h)
-      ∙ ap₂ (λ (x y : List ℕ). around block.Header (text_records x) ++ parts (joined (lines y))) (marked-text header_mark refl n)
-      (marked-rest header_mark refl n (next_mark header_mark (drop at s) refl refl h))
+  step_header h =
+      ap parts (header_part s h)
+      ∙ ap (λ (y : List ℕ). around block.Header (text_records (line (drop 2 s))) ++ parts (joined (lines y))) (next_mark header_mark s refl refl h)
 
-  pub step_item : {e : ℕ} → starts_with header_mark (drop at s) ≡ false → starts_with item_mark (drop at s) ≡ true → Ends s true (at + 2) e
-      → document_at s at ≡ around block.ItemBody (text_records (part s (at + 2) e)) ++ document_at s (e + 1)
+  pub step_item : starts_with header_mark s ≡ false → starts_with item_mark s ≡ true
+      → document s ≡ around block.ItemBody (text_records (text_left true (drop 2 s))) ++ document (behind true (drop 2 s))
   unfolding document parts
-  step_item g h n =
-      ap parts (item_part (drop at s) g h)
-      ∙ ap₂ (λ (x y : List ℕ). around block.ItemBody (text_records x) ++ parts (joined (lines y))) (marked-text item_mark refl n)
-      (marked-rest item_mark refl n (next_mark item_mark (drop at s) refl refl h))
+  step_item g h =
+      ap parts (item_part s g h)
+      ∙ ap (λ (y : List ℕ). around block.ItemBody (text_records (line (drop 2 s))) ++ parts (joined (lines y))) (next_mark item_mark s refl refl h)
 
   -- a line that separates
-  pub step-blank : {e : ℕ} → at < length s → starts_with header_mark (drop at s) ≡ false → starts_with item_mark (drop at s) ≡ false
-      → blank_line (drop at s) ≡ true → Ends s true at e
-      → document_at s at ≡ document_at s (e + 1)
+  pub step-blank : 0 < length s → starts_with header_mark s ≡ false → starts_with item_mark s ≡ false → blank_line s ≡ true
+      → document s ≡ document (behind true s)
   unfolding document parts
-  step-blank l g h b n =
-      ap parts (blank_part (drop at s) (omega (arith, length-drop at s)) (record { no_header = g; no_item = h }) b)
-      ∙ ap (λ (y : List ℕ). parts (joined (lines y))) (after_text n)
+  step-blank l g h b = ap parts (blank_part s l (record { no_header = g; no_item = h }) b)
 
   -- neighbouring lines
-  pub step_other : {e : ℕ} → starts_with header_mark (drop at s) ≡ false → starts_with item_mark (drop at s) ≡ false → blank_line (drop at s) ≡ false
-      → Ends s false at e
-      → document_at s at ≡ around block.Block (text_records (part s at e)) ++ document_at s (e + 1)
+  pub step_other : starts_with header_mark s ≡ false → starts_with item_mark s ≡ false → blank_line s ≡ false
+      → document s ≡ around block.Block (text_records (text_left false s)) ++ document (behind false s)
   unfolding document parts
-  step_other g h b n =
-      ap parts (other-part (drop at s) (ordinary-is (drop at s) (unmarked_is (drop at s) g h) b))
-      ∙ ap₂ (λ (x y : List ℕ). around block.Block (text_records x) ++ parts (joined (lines y))) (sym n.is) (after_text n)
+  step_other g h b = ap parts (other-part s (ordinary-is s (unmarked_is s g h) b))
+
+-- behind a text that ends there
+pub behind_text : {s : List ℕ} {one : Bool} {n : ℕ} → Ends s one n → drop (n + 1) s ≡ behind one s
+behind_text {s} {one} {n} e =
+    let k : length (text_left one s) ≡ n = ap length (sym e.is) ∙ length-take-le n s e.inside in
+    ap (λ (i : ℕ). drop (i + 1) s) (sym k)
 
 -- A part written
 
@@ -96,26 +71,21 @@ part-written old one two three b x h k {i} {j} q r f g e₁ e₂ e₃ =
 
 -- What is written of the notes: the document of what is left follows.
 
-pub record Leaves (s : List ℕ) (old new : Lent) (at : ℕ) : Type 0 where
-  pub inside : at ≤ length s + 1
-  pub text : with_bytes (document_at s at) new ≡ with_bytes (document s) old
+abbrev pub Leaves : List ℕ → Lent → Lent → List ℕ → Type 0
+Leaves s old new rest = with_bytes (document rest) new ≡ with_bytes (document s) old
 
-module _ (s : List ℕ) (old new : Lent) (at : ℕ) (l : Leaves s old new at) where
+module _ (s : List ℕ) (old new : Lent) (rest : List ℕ) (l : Leaves s old new rest) where
   -- a part, of which x is what is written
-  pub leaves_part : (next : Lent) (x : List ℕ) (e : ℕ) → e ≤ length s → next ≡ with_bytes x new → document_at s at ≡ x ++ document_at s (e + 1)
-      → Leaves s old next (e + 1)
-  leaves_part next x e h w d = record {
-    inside = omega arith;
-    text = with_both new next (with_bytes (document_at s (e + 1)) next) x (document_at s (e + 1)) w refl
-        ∙ ap (λ (y : List ℕ). with_bytes y new) (sym d) ∙ l.text;
-  }
+  pub leaves_part : (next : Lent) (x after : List ℕ) → next ≡ with_bytes x new → document rest ≡ x ++ document after → Leaves s old next after
+  leaves_part next x after w d =
+      with_both new next (with_bytes (document after) next) x (document after) w refl ∙ ap (λ (y : List ℕ). with_bytes y new) (sym d) ∙ l
 
   -- lines of which nothing is written
-  pub leaves_blank : (e : ℕ) → e ≤ length s → document_at s at ≡ document_at s (e + 1) → Leaves s old new (e + 1)
-  leaves_blank e h d = record { inside = omega arith; text = ap (λ (y : List ℕ). with_bytes y new) (sym d) ∙ l.text }
+  pub leaves_blank : (after : List ℕ) → document rest ≡ document after → Leaves s old new after
+  leaves_blank after d = ap (λ (y : List ℕ). with_bytes y new) (sym d) ∙ l
 
-  pub leaves_none : with_bytes [] new ≡ new → length s ≤ at → new ≡ with_bytes (document s) old
-  leaves_none z h = sym z ∙ ap (λ (y : List ℕ). with_bytes y new) (sym (document-end s at h)) ∙ l.text
+  pub leaves_none : with_bytes [] new ≡ new → length rest ≡ 0 → new ≡ with_bytes (document s) old
+  leaves_none z h = sym z ∙ ap (λ (y : List ℕ). with_bytes y new) (sym (document-end rest h)) ∙ l
 
 -- The whole
 

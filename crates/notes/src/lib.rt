@@ -2,7 +2,7 @@
 
 #![tactic(auto)]
 
-ghost use Rattle.std.specs.Prelude.{◌≡◌, [], ◌||◌, not, ◌≤◌, length, drop};
+ghost use Rattle.std.specs.Prelude.{◌≡◌, true, [], ◌||◌, not, length};
 ghost use Rattle.base.specs.Bytes.{starts_with};
 ghost use Rattle.base.specs.Result.{measured};
 ghost use Rattle.room.specs.Lent.{text_of, with_bytes};
@@ -11,9 +11,9 @@ ghost use Rattle.refusal.specs.Answers.{answered};
 ghost use Rattle.renderer.specs.Rendered.{standing, Inside, filled};
 ghost use Rattle.records.specs.Stored.{around};
 ghost use Rattle.notes_rules.specs.Notes.{header_mark, item_mark, text_records, document, taken_in};
-ghost use Rattle.notes_rules.specs.Without.{blank_line, marked, ordinary};
+ghost use Rattle.notes_rules.specs.Without.{blank_line, ordinary, text_left};
 ghost use Rattle.notes_rules.specs.Laws.{Faithful};
-ghost use Rattle.notes.specs.InnerParts.{Ends};
+ghost use Rattle.notes.specs.InnerParts.{Ends, behind};
 
 use document::MAX_BYTES;
 use record_writer::{end_kind, head_of, start_kind};
@@ -21,92 +21,89 @@ use records::Block;
 use refusal::Refusal;
 use room::Text;
 
-// Whether the line that starts at `at` is empty or all spaces; so is none, past the end.
-fn blank_at(s: &[u8], at: usize) -> bool
-    ensures { result ≡ blank_line (drop at s.now) }
+// Whether the line that stands first is empty or all spaces; so is none, where there is no more.
+fn is_blank(s: &[u8]) -> bool
+    ensures { result ≡ blank_line s.now }
 {
-    let other = base::get_from(s, at).iter().find(|b| **b != b' ');
+    let other = s.iter().find(|b| **b != b' ');
     other.is_none_or(|b| *b == b'\n')
 }
 
-// Whether the line that starts at `at` becomes a Header, and an ItemBody. Two functions: one with the mark as a parameter is `base::starts_with` itself, which
-// would have each mark stand at two places.
-fn header_at(s: &[u8], at: usize) -> bool
-    ensures { result ≡ starts_with header_mark (drop at s.now) }
+// Whether it becomes a Header, and an ItemBody. Two functions: one with the mark as a parameter is `base::starts_with` itself, which would have each mark
+// stand at two places.
+fn is_header(s: &[u8]) -> bool
+    ensures { result ≡ starts_with header_mark s.now }
 {
-    base::starts_with(s, at, b"# ")
+    base::starts_with(s, 0, b"# ")
 }
 
-fn item_at(s: &[u8], at: usize) -> bool
-    ensures { result ≡ starts_with item_mark (drop at s.now) }
+fn is_item(s: &[u8]) -> bool
+    ensures { result ≡ starts_with item_mark s.now }
 {
-    base::starts_with(s, at, b"- ")
+    base::starts_with(s, 0, b"- ")
 }
 
-// Whether it has a marker.
-fn marked_at(s: &[u8], at: usize) -> bool
-    ensures { result ≡ marked (drop at s.now) }
+// Whether it has no marker and is more than spaces.
+fn is_ordinary(s: &[u8]) -> bool
+    ensures { result ≡ ordinary s.now }
 {
-    header_at(s, at) || item_at(s, at)
+    !(is_header(s) || is_item(s) || is_blank(s))
 }
 
-// Whether the line that starts at `at` has no marker and is more than spaces.
-fn ordinary_at(s: &[u8], at: usize) -> bool
-    ensures { result ≡ ordinary (drop at s.now) }
+// Whether a text ends with its line, behind which the rest stands: it holds one line only, or the next is not ordinary.
+fn is_last(rest: &[u8], one: bool) -> bool
+    ensures { result ≡ (one || not (ordinary rest.now)) }
 {
-    !(marked_at(s, at) || blank_at(s, at))
+    one || !is_ordinary(rest)
 }
 
-// Whether a text ends with its line, behind which `at` stands: it holds one line only, or the next is not ordinary.
-fn is_last(s: &[u8], at: usize, one: bool) -> bool
-    ensures { result ≡ (one || not (ordinary (drop at s.now))) }
+// How long the text is that stands first. (By a place, of which the byte, what follows it and the answer are told; an iterator would give the byte alone.)
+fn text_length(s: &[u8], one: bool) -> usize
+    ensures { Ends s.now one result }
 {
-    one || !ordinary_at(s, at)
-}
-
-// Where the text ends that goes on at `at`.
-fn text_end(s: &[u8], at: usize, one: bool) -> usize
-    requires { at ≤ length s.now }
-    ensures { Ends s.now one at result }
-{
-    for i in at..s.len() {
-        if s[i] == b'\n' && is_last(s, i + 1, one) {
+    for i in 0..s.len() {
+        if s[i] == b'\n' && is_last(base::get_from(s, i + 1), one) {
             return i;
         }
     }
     s.len()
 }
 
-// A block with a text.
-fn put_part(t: &mut Text, b: Block, s: &[u8])
-    ensures { text_of t.new ≡ with_bytes (around b (text_records s.now)) (text_of t.old) }
+// What stands behind the line that stands first.
+fn after_line(s: &[u8]) -> &[u8]
+    ensures { result.now ≡ behind true s.now }
 {
+    let n = text_length(s, true);
+    base::get_from(s, n + 1)
+}
+
+// A block with the text that stands first, and what stands behind that.
+fn put_part<'a>(t: &mut Text, b: Block, s: &'a [u8], one: bool) -> &'a [u8]
+    ensures text { text_of t.new ≡ with_bytes (around b (text_records (text_left one s.now))) (text_of t.old) }
+    ensures rest { result.now ≡ behind one s.now }
+{
+    let n = text_length(s, one);
     t.put_all(&head_of(0, start_kind(b)));
-    notes_text::put_text(t, s);
+    notes_text::put_text(t, &s[..n]);
     t.put_all(&head_of(0, end_kind(b)));
+    base::get_from(s, n + 1)
 }
 
 // The parts of some notes. The loop goes from part to part: where one ends is known when it is looked for.
 fn put_parts(t: &mut Text, s: &[u8])
     ensures { text_of t.new ≡ with_bytes (document s.now) (text_of t.old) }
 {
-    let mut at: usize = 0;
-    while at < s.len() {
-        if header_at(s, at) {
-            let e = text_end(s, at + 2, true);
-            put_part(t, Block::Header, &s[at + 2..e]);
-            at = e + 1;
-        } else if item_at(s, at) {
-            let e = text_end(s, at + 2, true);
-            put_part(t, Block::ItemBody, &s[at + 2..e]);
-            at = e + 1;
-        } else if blank_at(s, at) {
-            at = text_end(s, at, true) + 1;
+    let mut rest = s;
+    while !rest.is_empty() {
+        rest = if is_header(rest) {
+            put_part(t, Block::Header, base::get_from(rest, 2), true)
+        } else if is_item(rest) {
+            put_part(t, Block::ItemBody, base::get_from(rest, 2), true)
+        } else if is_blank(rest) {
+            after_line(rest)
         } else {
-            let e = text_end(s, at, false);
-            put_part(t, Block::Block, &s[at..e]);
-            at = e + 1;
-        }
+            put_part(t, Block::Block, rest, false)
+        };
     }
 }
 
@@ -144,7 +141,5 @@ pub fn take_in(notes: &[u8], room: &mut [u8]) -> Result<usize, Refusal>
     ensures room { room.new ≡ filled (length room.old) (taken_in (length room.old) notes.now) }
     ensures law { Faithful notes.now (taken_in (length room.old) notes.now) }
 {
-    let answer = fill(notes, room);
-    renderer::clear_after(room, answer);
-    answer
+    renderer::cleared(fill(notes, room), room)
 }

@@ -1,13 +1,14 @@
 -- Bytes of one style, as they are found and written. Assumes nothing.
-use Rattle.notes_text.proofs.Names.{ℕ, suc, ◌+◌, ◌-◌, ◌≤◌, ◌<◌, ◌≡◌, refl, sym, ap, ap₂, ◌∙◌, subst, ⊎_elim, Bool, true, false, not, ◌&&◌, ◌||◌}
-use Rattle.notes_text.proofs.Names.{false≢true, beq, List, [], ◌∷◌, ◌++◌, eqb, length, take, drop, get_or, length-append}
-use Rattle.notes_text.proofs.Names.{length-drop, drop_of_length-le, take-append-drop, drop-cons, drop-drop, length-take-le, add-one, arith, part}
+use Rattle.notes_text.proofs.Names.{ℕ, suc, ◌+◌, ◌-◌, ◌≤◌, ◌<◌, ◌≡◌, refl, sym, ap, ap₂, ◌∙◌, ⊎_elim, Bool, true, false, not, ◌&&◌, ◌||◌}
+use Rattle.notes_text.proofs.Names.{false≢true, beq, List, [], ◌∷◌, ◌++◌, eqb, length, take, drop, length-append}
+use Rattle.notes_text.proofs.Names.{length-drop, drop_of_length-le, take-append-drop, length-take-le, arith}
 use Rattle.notes_text.proofs.Names.{if_true, if_false, stored, text, head, number, style_of, ticked, styled, Tick, lead, behind, Runs, run_record, either}
 use Rattle.notes_text.proofs.Names.{or_false}
 use Rattle.room.specs.Lent.{Lent, with_bytes}
 use Rattle.room.proofs.Lents.{with_both}
 use Rattle.notes_rules.specs.Notes.{Styled, styled_as, Stretch, stretch, grown, stretches, records}
 use Rattle.notes_text.specs.declared.Run.{Run}
+use lib.Seq.{take_all}
 use Rattle.notes_rules.proofs.Texts.{styled-pair, styled_byte}
 use Rattle.notes_rules.proofs.Stretches.{beq_same, same-beq}
 
@@ -75,114 +76,103 @@ styles-same true false e = e
 styles-same false true e = sym e
 styles-same false false e = refl
 
--- From a place on
+-- By the first byte and the rest
 
--- one of a pair stands there
-abbrev pub Pair : List ℕ → ℕ → Bool → Bool
-Pair s i w = eqb (get_or s i 0) 0x60 && (w || ticked (drop (i + 1) s))
+-- the byte is one of a pair
+abbrev pub Pair : ℕ → List ℕ → Bool → Bool
+Pair b x w = eqb b 0x60 && (w || ticked x)
 
-module _ (s : List ℕ) (i : ℕ) (w : Bool) (h : i < length s) where
-  cons : drop i s ≡ get_or s i 0 ∷ drop (i + 1) s
-  cons = rw (add-one i) (drop-cons s i 0 h)
+-- the first n + 1 bytes, and those behind them
+module _ {s : List ℕ} {b : ℕ} {x : List ℕ} (c : s ≡ b ∷ x) (n : ℕ) where
+  next-is : n + 1 ≡ suc n
+  next-is = omega arith
 
-  pub pair-on : Pair s i w ≡ true → styled w (drop i s) ≡ styled (not w) (drop (i + 1) s)
-  pair-on e = ap (styled w) cons ∙ styled-pair w (get_or s i 0) (drop (i + 1) s) e
+  pub first-bytes : take (n + 1) s ≡ b ∷ take n x
+  first-bytes = ap₂ (λ (k : ℕ) (y : List ℕ). take k y) next-is c
 
-  module _ (e : Pair s i w ≡ false) where
-    byte_on : styled w (drop i s) ≡ styled_as w (get_or s i 0) ∷ styled w (drop (i + 1) s)
-    byte_on = ap (styled w) cons ∙ styled_byte w (get_or s i 0) (drop (i + 1) s) e
+  pub after-first : take (length s - (n + 1)) (drop (n + 1) s) ≡ drop n x
+  after-first =
+      take_all (length s - (n + 1)) (drop (n + 1) s) (omega (arith, length-drop (n + 1) s)) ∙ ap₂ (λ (k : ℕ) (y : List ℕ). drop k y) next-is c
+
+module _ (b : ℕ) (x : List ℕ) (w : Bool) where
+  pub pair-on : Pair b x w ≡ true → styled w (b ∷ x) ≡ styled (not w) x
+  pair-on e = styled-pair w b x e
+
+  module _ (e : Pair b x w ≡ false) where
+    byte_on : styled w (b ∷ x) ≡ styled_as w b ∷ styled w x
+    byte_on = styled_byte w b x e
 
     -- up to the next backtick
-    span_on : (r : ℕ) → Tick s (i + 1) r → styled w (drop i s) ≡ all w (part s i r) ++ styled w (drop r s)
-    span_on r t =
-        let n : r - i ≡ suc (r - (i + 1)) = omega (arith, t.order) in
-        let m : i + 1 + (r - (i + 1)) ≡ r = omega (arith, t.order) in
-        let q : part s i r ≡ get_or s i 0 ∷ part s (i + 1) r = ap₂ (λ (k : ℕ) (x : List ℕ). take k x) n cons in
-        let d : drop (i + 1) s ≡ part s (i + 1) r ++ drop r s =
-        sym (take-append-drop (r - (i + 1)) (drop (i + 1) s))
-        ∙ ap (λ (y : List ℕ). part s (i + 1) r ++ y) (drop-drop (r - (i + 1)) (i + 1) s ∙ ap (λ (k : ℕ). drop k s) m) in
-        byte_on ∙ ap (λ (y : List ℕ). styled_as w (get_or s i 0) ∷ styled w y) d
-        ∙ ap (λ (ms : List Styled). styled_as w (get_or s i 0) ∷ ms) (styled_all w (part s (i + 1) r) (drop r s) t.none)
-        ∙ ap (λ (x : List ℕ). all w x ++ styled w (drop r s)) (sym q)
+    span_on : (n : ℕ) → Tick x n → styled w (b ∷ x) ≡ all w (b ∷ take n x) ++ styled w (drop n x)
+    span_on n t =
+        byte_on ∙ ap (λ (y : List ℕ). styled_as w b ∷ styled w y) (sym (take-append-drop n x))
+        ∙ ap (λ (ms : List Styled). styled_as w b ∷ ms) (styled_all w (take n x) (drop n x) t.none)
 
-    pub lead-on : (r : ℕ) → Tick s (i + 1) r → lead w (styled w (drop i s)) ≡ part s i r ++ lead w (styled w (drop r s))
-    lead-on r t = ap (lead w) (span_on r t) ∙ lead_all w (part s i r) (styled w (drop r s))
+    pub lead-on : (n : ℕ) → Tick x n → lead w (styled w (b ∷ x)) ≡ (b ∷ take n x) ++ lead w (styled w (drop n x))
+    lead-on n t = ap (lead w) (span_on n t) ∙ lead_all w (b ∷ take n x) (styled w (drop n x))
 
-    pub behind-on : (r : ℕ) → Tick s (i + 1) r → behind w (styled w (drop i s)) ≡ behind w (styled w (drop r s))
-    behind-on r t = ap (behind w) (span_on r t) ∙ behind_all w (part s i r) (styled w (drop r s))
+    pub behind-on : (n : ℕ) → Tick x n → behind w (styled w (b ∷ x)) ≡ behind w (styled w (drop n x))
+    behind-on n t = ap (behind w) (span_on n t) ∙ behind_all w (b ∷ take n x) (styled w (drop n x))
 
     -- a byte of the other style
-    pub lead-other : (l : Bool) → (w ≡ l → ⊥) → lead l (styled w (drop i s)) ≡ []
+    pub lead-other : (l : Bool) → (w ≡ l → ⊥) → lead l (styled w (b ∷ x)) ≡ []
     unfolding lead
     lead-other l n = ap (lead l) byte_on ∙ if_false _ _ (other-beq l w n)
 
-    pub behind-other : (l : Bool) → (w ≡ l → ⊥) → behind l (styled w (drop i s)) ≡ styled w (drop i s)
+    pub behind-other : (l : Bool) → (w ≡ l → ⊥) → behind l (styled w (b ∷ x)) ≡ styled w (b ∷ x)
     unfolding behind
     behind-other l n = ap (behind l) byte_on ∙ if_false _ _ (other-beq l w n) ∙ sym byte_on
 
-module _ (s : List ℕ) (i : ℕ) (w l : Bool) (h : length s ≤ i) where
-  pub lead-end : lead l (styled w (drop i s)) ≡ []
-  unfolding lead styled
-  lead-end = rw (drop_of_length-le s h)
-
-  pub behind-end : behind l (styled w (drop i s)) ≡ styled w (drop i s)
-  unfolding behind styled
-  behind-end = rw (drop_of_length-le s h)
+none-left : (x : List ℕ) → length x ≡ 0 → x ≡ []
+none-left x e = drop_of_length-le x {i = 0} (omega arith)
 
 -- A run that is written
 
--- From `from` on up to i so many bytes of style l were written, after which those that lead at i follow.
-pub record Ran (s : List ℕ) (from : ℕ) (l : Bool) (old new : Lent) (i : ℕ) (w : Bool) : Type 0 where
-  pub text : with_bytes (lead l (styled w (drop i s))) new ≡ with_bytes (lead l (styled l (drop from s))) old
-  pub rest : behind l (styled w (drop i s)) ≡ behind l (styled l (drop from s))
-  pub moved : from + length (lead l (styled l (drop from s))) ≤ i + length (lead l (styled w (drop i s)))
-  pub inside : i ≤ length s
+-- So many bytes of style l were written, after which those that lead what is left follow.
+pub record Ran (s : List ℕ) (l : Bool) (old new : Lent) (r : Run) : Type 0 where
+  pub text : with_bytes (lead l (styled r.within r.rest.now)) new ≡ with_bytes (lead l (styled l s)) old
+  pub rest : behind l (styled r.within r.rest.now) ≡ behind l (styled l s)
+  pub moved : length r.rest.now + length (lead l (styled l s)) ≤ length s + length (lead l (styled r.within r.rest.now))
 
-pub ran_start : (s : List ℕ) (from : ℕ) (l : Bool) (t : Lent) → from ≤ length s → Ran s from l t t from l
-ran_start s from l t h = record { text = refl; rest = refl; moved = omega arith; inside = h }
+module _ {s : List ℕ} {l : Bool} {old new : Lent} {r : Run} (g : Ran s l old new r) where
+  module _ {b : ℕ} {x : List ℕ} (c : r.rest.now ≡ b ∷ x) where
+    pub ran_pair : (q : Run) → q.rest.now ≡ x → q.within ≡ not r.within → Pair b x r.within ≡ true → Ran s l old new q
+    ran_pair q i j e =
+        let p : styled r.within r.rest.now ≡ styled q.within q.rest.now = rw (c, i, j) (pair-on b x r.within e) in
+        record {
+          text = ap (λ (ms : List Styled). with_bytes (lead l ms) new) (sym p) ∙ g.text;
+          rest = ap (behind l) (sym p) ∙ g.rest;
+          moved = omega (arith, g.moved, ap (λ (ms : List Styled). length (lead l ms)) p, ap length c, ap length i);
+        }
 
-module _ {s : List ℕ} {from : ℕ} {l : Bool} {old new : Lent} {i : ℕ} {w : Bool} (r : Ran s from l old new i w) where
-  pub ran_pair : i < length s → Pair s i w ≡ true → Ran s from l old new (i + 1) (not w)
-  ran_pair h e =
-      let p = pair-on s i w h e in
-      record {
-        text = ap (λ (ms : List Styled). with_bytes (lead l ms) new) (sym p) ∙ r.text;
-        rest = ap (behind l) (sym p) ∙ r.rest;
-        moved = omega (arith, r.moved, ap (λ (ms : List Styled). length (lead l ms)) p);
-        inside = omega arith;
-      }
+    pub ran_span : Pair b x r.within ≡ false → r.within ≡ l → (n : ℕ) → Tick x n → (q : Run) → q.rest.now ≡ drop n x → q.within ≡ r.within
+        → (next : Lent) → next ≡ with_bytes (b ∷ take n x) new → Ran s l old next q
+    ran_span p e n t q i j next v =
+        let y = lead l (styled q.within q.rest.now) in
+        let f : lead l (styled r.within r.rest.now) ≡ (b ∷ take n x) ++ y = rw (c, i, j, ← e) (lead-on b x r.within p n t) in
+        let h : behind l (styled r.within r.rest.now) ≡ behind l (styled q.within q.rest.now) = rw (c, i, j, ← e) (behind-on b x r.within p n t) in
+        let m : length (lead l (styled r.within r.rest.now)) ≡ suc n + length y =
+        ap length f ∙ length-append (b ∷ take n x) y ∙ ap (λ (k : ℕ). suc k + length y) (length-take-le n x t.inside) in
+        record {
+          text = with_both new next (with_bytes y next) (b ∷ take n x) y v refl ∙ ap (λ (z : List ℕ). with_bytes z new) (sym f) ∙ g.text;
+          rest = sym h ∙ g.rest;
+          moved = omega (arith, g.moved, m, ap length c, ap length i, length-drop n x, t.inside);
+        }
 
-  pub ran_span : i < length s → Pair s i w ≡ false → w ≡ l → (e : ℕ) → Tick s (i + 1) e → (next : Lent) → next ≡ with_bytes (part s i e) new
-      → Ran s from l old next e w
-  ran_span h p q e t next v =
-      let m : length (part s i e) ≡ e - i = length-take-le (e - i) (drop i s) (omega (arith, length-drop i s, t.inside)) in
-      let x = lead l (styled w (drop e s)) in
-      let f : lead l (styled w (drop i s)) ≡ part s i e ++ x =
-      subst (λ (k : Bool). lead k (styled w (drop i s)) ≡ part s i e ++ lead k (styled w (drop e s))) q (lead-on s i w h p e t) in
-      let g : behind l (styled w (drop i s)) ≡ behind l (styled w (drop e s)) =
-      subst (λ (k : Bool). behind k (styled w (drop i s)) ≡ behind k (styled w (drop e s))) q (behind-on s i w h p e t) in
-      let n : length (lead l (styled w (drop i s))) ≡ (e - i) + length x = ap length f ∙ length-append (part s i e) x ∙ ap (λ (k : ℕ). k + length x) m in
-      record {
-        text = with_both new next (with_bytes x next) (part s i e) x v refl ∙ ap (λ (y : List ℕ). with_bytes y new) (sym f) ∙ r.text;
-        rest = sym g ∙ r.rest;
-        moved = omega (arith, r.moved, n, t.order);
-        inside = t.inside;
-      }
-
-  ran_done : with_bytes [] new ≡ new → lead l (styled w (drop i s)) ≡ [] → behind l (styled w (drop i s)) ≡ styled w (drop i s)
-      → (new ≡ with_bytes (lead l (styled l (drop from s))) old) × Runs s from l (record { at = i; within = w })
+  ran_done : with_bytes [] new ≡ new → lead l (styled r.within r.rest.now) ≡ [] → behind l (styled r.within r.rest.now) ≡ styled r.within r.rest.now
+      → (new ≡ with_bytes (lead l (styled l s)) old) × Runs s l r
   ran_done z e f = (
-    sym z ∙ ap (λ (y : List ℕ). with_bytes y new) (sym e) ∙ r.text,
-    record { rest = sym f ∙ r.rest; moved = omega (arith, r.moved, ap length e); inside = r.inside },
+    sym z ∙ ap (λ (y : List ℕ). with_bytes y new) (sym e) ∙ g.text,
+    record { rest = sym f ∙ g.rest; moved = omega (arith, g.moved, ap length e) },
   )
 
-  pub ran_other : with_bytes [] new ≡ new → i < length s → Pair s i w ≡ false → (w ≡ l → ⊥)
-      → (new ≡ with_bytes (lead l (styled l (drop from s))) old) × Runs s from l (record { at = i; within = w })
-  ran_other z h p n = ran_done z (lead-other s i w h p l n) (behind-other s i w h p l n)
+  pub ran_other : {b : ℕ} {x : List ℕ} → with_bytes [] new ≡ new → r.rest.now ≡ b ∷ x → Pair b x r.within ≡ false → (r.within ≡ l → ⊥)
+      → (new ≡ with_bytes (lead l (styled l s)) old) × Runs s l r
+  ran_other {b} {x} z c p n = ran_done z (rw c (lead-other b x r.within p l n)) (rw c (behind-other b x r.within p l n))
 
-  pub ran_end : with_bytes [] new ≡ new → length s ≤ i
-      → (new ≡ with_bytes (lead l (styled l (drop from s))) old) × Runs s from l (record { at = i; within = w })
-  ran_end z h = ran_done z (lead-end s i w l h) (behind-end s i w l h)
+  pub ran_end : with_bytes [] new ≡ new → length r.rest.now ≡ 0 → (new ≡ with_bytes (lead l (styled l s)) old) × Runs s l r
+  unfolding lead behind styled
+  ran_end z e = let n = none-left r.rest.now e in ran_done z (rw n refl) (rw n refl)
 
 -- The records of a text
 
@@ -210,55 +200,59 @@ stretch-first m (k ∷ ms) =
     ∙ sym (whole ∙ ap₂ (λ (x : List ℕ) (y : List Styled). stretch l (m.byte ∷ x) ∷ stretches y) (lead-not l k ms e) (behind-not l k ms e)))
     (either (beq l k.literal))
 
--- the records from a place on
-abbrev pub records_at : List ℕ → ℕ → Bool → List ℕ
-records_at s i w = records (stretches (styled w (drop i s)))
+-- the records of what is left
+abbrev pub records_of : List ℕ → Bool → List ℕ
+records_of x w = records (stretches (styled w x))
 
-pub records-pair : (s : List ℕ) (i : ℕ) (w : Bool) → i < length s → Pair s i w ≡ true → records_at s i w ≡ records_at s (i + 1) (not w)
-records-pair s i w h e = ap (λ (ms : List Styled). records (stretches ms)) (pair-on s i w h e)
-
-pub records-end : (s : List ℕ) (i : ℕ) (w : Bool) → length s ≤ i → records_at s i w ≡ []
+pub records-none : (w : Bool) → records_of [] w ≡ []
 unfolding records stretches styled
-records-end s i w h = rw (drop_of_length-le s h)
+records-none w = refl
 
-module _ (s : List ℕ) (i : ℕ) (w : Bool) (h : i < length s) (p : Pair s i w ≡ false) (r : Run) (q : Runs s i w r) where
+module _ (b : ℕ) (y : List ℕ) (w : Bool) (p : Pair b y w ≡ false) (r : Run) (q : Runs (b ∷ y) w r) where
   -- a record, and those behind it
-  pub records_run : records_at s i w ≡ run_record w (lead w (styled w (drop i s))) ++ records_at s r.at r.within
+  pub records_run : records_of (b ∷ y) w ≡ run_record w (lead w (styled w (b ∷ y))) ++ records_of r.rest.now r.within
   unfolding records text stored head
   records_run =
-      let b = get_or s i 0 in
-      let ms = styled w (drop (i + 1) s) in
-      let x = lead w (styled w (drop i s)) in
+      let ms = styled w y in
+      let x = lead w (styled w (b ∷ y)) in
       let k = number (style_of w) in
-      let o = byte_on s i w h p in
-      let f : stretches (styled w (drop i s)) ≡ stretch w x ∷ stretches (behind w (styled w (drop i s))) =
+      let o = byte_on b y w p in
+      let f : stretches (styled w (b ∷ y)) ≡ stretch w x ∷ stretches (behind w (styled w (b ∷ y))) =
       ap stretches o ∙ stretch-first (styled_as w b) ms ∙ sym (ap (λ (n : List Styled). stretch w (lead w n) ∷ stretches (behind w n)) o) in
       ap records f ∙ ap (λ (n : List Styled). (head (length x) k ++ x) ++ records (stretches n)) (sym q.rest)
 
-  pub run_moves : (i < r.at) × (r.at ≤ length s)
+  pub run_moves : length r.rest.now < length (b ∷ y)
   run_moves =
-      let n : length (lead w (styled w (drop i s))) ≡ suc (length (lead w (styled w (drop (i + 1) s)))) =
-      ap length (ap (lead w) (byte_on s i w h p) ∙ lead-same w (get_or s i 0) (styled w (drop (i + 1) s))) in
-      (omega (arith, q.moved, n), q.inside)
+      let n : length (lead w (styled w (b ∷ y))) ≡ suc (length (lead w (styled w y))) =
+      ap length (ap (lead w) (byte_on b y w p) ∙ lead-same w b (styled w y)) in
+      omega (arith, q.moved, n)
 
 -- The records of a text that is written: those of what is left follow.
 
-pub record Leaves (s : List ℕ) (old new : Lent) (i : ℕ) (w : Bool) : Type 0 where
-  pub inside : i ≤ length s
-  pub text : with_bytes (records_at s i w) new ≡ with_bytes (records_at s 0 false) old
+pub record Leaves (s : List ℕ) (old new : Lent) (r : Run) : Type 0 where
+  pub text : with_bytes (records_of r.rest.now r.within) new ≡ with_bytes (records_of s false) old
 
-module _ {s : List ℕ} {old new : Lent} {i : ℕ} {w : Bool} (l : Leaves s old new i w) where
-  pub leaves_pair : i < length s → Pair s i w ≡ true → Leaves s old new (i + 1) (not w)
-  leaves_pair h e = record { inside = omega arith; text = ap (λ (y : List ℕ). with_bytes y new) (sym (records-pair s i w h e)) ∙ l.text }
+module _ {s : List ℕ} {old new : Lent} {r : Run} (l : Leaves s old new r) where
+  module _ {b : ℕ} {x : List ℕ} (c : r.rest.now ≡ b ∷ x) where
+    pub leaves_pair : (q : Run) → q.rest.now ≡ x → q.within ≡ not r.within → Pair b x r.within ≡ true → Leaves s old new q
+    leaves_pair q i j e =
+        let p : records_of r.rest.now r.within ≡ records_of q.rest.now q.within =
+        rw (c, i, j) (ap (λ (ms : List Styled). records (stretches ms)) (pair-on b x r.within e)) in
+        record { text = ap (λ (y : List ℕ). with_bytes y new) (sym p) ∙ l.text }
 
-  pub leaves_run : i < length s → Pair s i w ≡ false → (r : Run) → Runs s i w r → (next : Lent)
-      → next ≡ with_bytes (run_record w (lead w (styled w (drop i s)))) new
-      → Leaves s old next r.at r.within
-  leaves_run h p r q next e = record {
-    inside = q.inside;
-    text = with_both new next (with_bytes (records_at s r.at r.within) next) _ _ e refl
-        ∙ ap (λ (y : List ℕ). with_bytes y new) (sym (records_run s i w h p r q)) ∙ l.text;
-  }
+    pub leaves_run : Pair b x r.within ≡ false → (q : Run) → Runs r.rest.now r.within q → (next : Lent)
+        → next ≡ with_bytes (run_record r.within (lead r.within (styled r.within r.rest.now))) new → Leaves s old next q
+    leaves_run p q h next e =
+        let f : records_of r.rest.now r.within ≡ run_record r.within (lead r.within (styled r.within r.rest.now)) ++ records_of q.rest.now q.within =
+        rw c (records_run b x r.within p q (rw c at h)) in
+        record {
+          text = with_both new next (with_bytes (records_of q.rest.now q.within) next) _ _ e refl ∙ ap (λ (y : List ℕ). with_bytes y new) (sym f) ∙ l.text;
+        }
 
-  pub leaves_none : with_bytes [] new ≡ new → length s ≤ i → new ≡ with_bytes (records_at s 0 false) old
-  leaves_none z h = sym z ∙ ap (λ (y : List ℕ). with_bytes y new) (sym (records-end s i w h)) ∙ l.text
+    pub run_less : Pair b x r.within ≡ false → (q : Run) → Runs r.rest.now r.within q → length q.rest.now < length r.rest.now
+    run_less p q h = rw c (run_moves b x r.within p q (rw c at h))
+
+  pub leaves_none : with_bytes [] new ≡ new → length r.rest.now ≡ 0 → new ≡ with_bytes (records_of s false) old
+  leaves_none z e =
+      let n = ap (λ (x : List ℕ). records_of x r.within) (none-left r.rest.now e) ∙ records-none r.within in
+      sym z ∙ ap (λ (y : List ℕ). with_bytes y new) (sym n) ∙ l.text

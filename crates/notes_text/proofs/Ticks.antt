@@ -1,23 +1,14 @@
 -- Backticks, as they are looked for. Assumes nothing.
 use Rattle.notes_text.proofs.Names.{ℕ, zero, suc, ◌+◌, ◌*◌, ◌-◌, ◌≤◌, ◌<◌, ◌≡◌, refl, sym, ap, ap₂, ◌∙◌, ⊎_elim, Bool, true, false, ◌||◌, not}
-use Rattle.notes_text.proofs.Names.{List, [], ◌∷◌, ◌++◌, eqb, length, take, drop, get_or, length-drop, take-append-drop}
-use Rattle.notes_text.proofs.Names.{drop-drop, arith, lt-ltb, le-ltb, part, le_or_lt, ticked, Tick}
+use Rattle.notes_text.proofs.Names.{List, [], ◌∷◌, ◌++◌, eqb, length, take, drop, length-drop, take-append-drop}
+use Rattle.notes_text.proofs.Names.{arith, lt-ltb, le-ltb, le_or_lt, ticked, Tick}
 use lib.Dec.{ltb}
-use lib.Seq.{take-suc, get_or-drop, take-add, take_all}
+use lib.Seq.{take-add, take_all}
 use Prim.Native.Nat.compare
 use mathlib.Core.Bool.{cond}
 use Rattle.std.specs.List.{list_any, position_or_len}
 use Rattle.std.specs.Simd.{first_chunks}
 use Rattle.buffer.proofs.Positions.{position-short}
-
--- one byte more of a part
-pub part-more : (s : List ℕ) (at i : ℕ) → at ≤ i → i < length s → part s at (i + 1) ≡ part s at i ++ get_or s i 0 ∷ []
-part-more s at i g h =
-    let n : i + 1 - at ≡ suc (i - at) = omega arith in
-    let m : at + (i - at) ≡ i = omega arith in
-    ap (λ (k : ℕ). take k (drop at s)) n
-    ∙ take-suc (drop at s) (i - at) 0 (omega (arith, length-drop at s))
-    ∙ ap (λ (b : ℕ). part s at i ++ b ∷ []) (get_or-drop at s (i - at) 0 ∙ ap (λ (k : ℕ). get_or s k 0) m)
 
 ticked-append : (x y : List ℕ) → ticked (x ++ y) ≡ (ticked x || ticked y)
 unfolding ticked
@@ -71,54 +62,34 @@ blocks_free n (suc k) xs = go (position_or_len ticked (first_chunks n k (drop n 
         let f : (1 + p) * n ≡ n + p * n = omega arith in
         rw (f, take-add n (p * n) xs, ticked-append (take n xs), e) h
 
-part_join : (s : List ℕ) (a m e : ℕ) → a ≤ m → m ≤ e → part s a e ≡ part s a m ++ part s m e
-part_join s a m e g h =
-    let n : e - a ≡ (m - a) + (e - m) = omega arith in
-    let k : a + (m - a) ≡ m = omega arith in
-    ap (λ (j : ℕ). take j (drop a s)) n ∙ take-add (m - a) (e - m) (drop a s)
-    ∙ ap (λ (l : List ℕ). part s a m ++ take (e - m) l) (drop-drop (m - a) a s ∙ ap (λ (j : ℕ). drop j s) k)
-
--- the first one, past m whole blocks that have none, where the bytes behind them are looked at one by one
-module _ (s : List ℕ) (at m : ℕ) (h : at ≤ length s) (w : m ≤ length s - at) (f : ticked (take m (drop at s)) ≡ false) where
+-- the first one, past m bytes that have none, where the bytes behind them are looked at one by one
+module _ (s : List ℕ) (m : ℕ) (w : m ≤ length s) (f : ticked (take m s) ≡ false) where
   abbrev pub first : ℕ
-  first = position_or_len is_tick (drop (at + m) s)
+  first = position_or_len is_tick (drop m s)
 
-  pub tick_found : Tick s at (at + m + first)
+  pub tick_found : Tick s (m + first)
   tick_found =
-      let d : drop m (drop at s) ≡ drop (at + m) s = drop-drop m at s in
-      let l = length-drop (at + m) s in
-      let short = position-short is_tick (drop (at + m) s) in
-      let i : part s at (at + m) ≡ take m (drop at s) = let n : at + m - at ≡ m = omega arith in ap (λ (k : ℕ). take k (drop at s)) n in
-      let j : part s (at + m) (at + m + first) ≡ take first (drop (at + m) s) =
-      let n : at + m + first - (at + m) ≡ first = omega arith in ap (λ (k : ℕ). take k (drop (at + m) s)) n in
-      let whole : drop at s ≡ take m (drop at s) ++ drop (at + m) s =
-      sym (take-append-drop m (drop at s)) ∙ ap (λ (y : List ℕ). take m (drop at s) ++ y) d in
+      let l = length-drop m s in
+      let short = position-short is_tick (drop m s) in
       record {
-        order = omega arith;
         inside = omega arith;
-        none = ap ticked (part_join s at (at + m) (at + m + first) (omega arith) (omega arith))
-            ∙ ticked-append (part s at (at + m)) (part s (at + m) (at + m + first))
-            ∙ ap₂ ◌||◌ (ap ticked i ∙ f) (ap ticked j ∙ bytes_free (drop (at + m) s));
-        more = same_test (omega arith) (omega arith) ∙ bytes-hit (drop (at + m) s)
-            ∙ sym (ap ticked whole ∙ ticked-append (take m (drop at s)) (drop (at + m) s) ∙ ap (λ (t : Bool). t || ticked (drop (at + m) s)) f);
+        none = ap ticked (take-add m first s) ∙ ticked-append (take m s) (take first (drop m s)) ∙ ap₂ ◌||◌ f (bytes_free (drop m s));
+        more = same_test (omega arith) (omega arith) ∙ bytes-hit (drop m s)
+            ∙ sym (ap ticked (sym (take-append-drop m s)) ∙ ticked-append (take m s) (drop m s) ∙ ap (λ (t : Bool). t || ticked (drop m s)) f);
       }
     where
-      same_test : first ≤ length (drop (at + m) s) → length s ≡ at + m + length (drop (at + m) s)
-          → ltb (at + m + first) (length s) ≡ ltb first (length (drop (at + m) s))
+      same_test : first ≤ length (drop m s) → length s ≡ m + length (drop m s) → ltb (m + first) (length s) ≡ ltb first (length (drop m s))
       same_test o e =
-          ⊎_elim (λ (g : length (drop (at + m) s) ≤ first). le-ltb (at + m + first) (length s) (omega arith) ∙ sym (le-ltb first (length (drop (at + m) s)) g))
-          (λ (g : first < length (drop (at + m) s)).
-          lt-ltb (at + m + first) (length s) (omega arith) ∙ sym (lt-ltb first (length (drop (at + m) s)) g)) (le_or_lt (length (drop (at + m) s)) first)
+          ⊎_elim (λ (g : length (drop m s) ≤ first). le-ltb (m + first) (length s) (omega arith) ∙ sym (le-ltb first (length (drop m s)) g))
+          (λ (g : first < length (drop m s)). lt-ltb (m + first) (length s) (omega arith) ∙ sym (lt-ltb first (length (drop m s)) g))
+          (le_or_lt (length (drop m s)) first)
 
--- the same, as the library's methods find them in parts of all
-pub tick_by : (s : List ℕ) (at k p q : ℕ) → at ≤ length s → at + p * 64 ≤ length s
-    → p ≡ position_or_len ticked (first_chunks 64 k (take (length s - at) (drop at s)))
-    → q ≡ position_or_len is_tick (take (length s - (at + p * 64)) (drop (at + p * 64) s)) → Tick s at (at + p * 64 + q)
-tick_by s at k p q h j e f =
-    let whole : take (length s - at) (drop at s) ≡ drop at s = take_all (length s - at) (drop at s) (omega (arith, length-drop at s)) in
-    let g : p ≡ position_or_len ticked (first_chunks 64 k (drop at s)) = rw whole at e in
-    let none : ticked (take (p * 64) (drop at s)) ≡ false = ap (λ (n : ℕ). ticked (take (n * 64) (drop at s))) g ∙ blocks_free 64 k (drop at s) in
-    let m : ℕ = at + p * 64 in
-    let behind : take (length s - m) (drop m s) ≡ drop m s = take_all (length s - m) (drop m s) (omega (arith, length-drop m s)) in
-    let r : q ≡ position_or_len is_tick (drop m s) = rw behind at f in
-    rw r (tick_found s at (p * 64) h (omega arith) none)
+-- the same, as the library's methods find them
+pub tick_by : (s : List ℕ) (k p q : ℕ) → p * 64 ≤ length s → p ≡ position_or_len ticked (first_chunks 64 k s)
+    → q ≡ position_or_len is_tick (take (length s - p * 64) (drop (p * 64) s)) → Tick s (p * 64 + q)
+tick_by s k p q j e f =
+    let none : ticked (take (p * 64) s) ≡ false = ap (λ (n : ℕ). ticked (take (n * 64) s)) e ∙ blocks_free 64 k s in
+    let behind : take (length s - p * 64) (drop (p * 64) s) ≡ drop (p * 64) s =
+    take_all (length s - p * 64) (drop (p * 64) s) (omega (arith, length-drop (p * 64) s)) in
+    let r : q ≡ position_or_len is_tick (drop (p * 64) s) = rw behind at f in
+    rw r (tick_found s (p * 64) j none)

@@ -2,7 +2,7 @@
 
 #![tactic(auto)]
 
-ghost use Rattle.std.specs.Prelude.{◌≡◌, ◌&&◌, ◌||◌, ◌++◌, ◌+◌, ◌≤◌, ◌<◌, eqb, length, drop, get_or};
+ghost use Rattle.std.specs.Prelude.{◌≡◌, ◌&&◌, ◌||◌, eqb};
 ghost use Rattle.room.specs.Lent.{text_of, with_bytes};
 ghost use Rattle.notes_rules.specs.Notes.{ticked, styled, style_of, text_records};
 ghost use Rattle.notes_text.specs.InnerParts.{Tick, lead, Runs, run_record};
@@ -11,10 +11,10 @@ use record_writer::{head_of, set_head};
 use records::Style;
 use room::Text;
 
-// Where the bytes of one style end, and whether a pair of backticks is open there.
+// What is left of a text behind the bytes of one style, and whether a pair of backticks is open there.
 #[derive(Clone, Copy)]
-struct Run {
-    at: usize,
+struct Run<'a> {
+    rest: &'a [u8],
     within: bool,
 }
 
@@ -25,73 +25,71 @@ fn ticked(s: &[u8]) -> bool
     base::any(s, |b| b == b'`')
 }
 
-// Where the first backtick from `at` on stands, or the end. Blocks of 64 without one are passed over whole, since 16 of their bytes are tested at a time.
-fn next_tick(s: &[u8], at: usize) -> usize
-    requires { at ≤ length s.now }
-    ensures { Tick s.now at result }
+// How many bytes stand before the first backtick. Blocks of 64 without one are passed over whole, since 16 of their bytes are tested at a time
+// (notes without a backtick take 0.8 to 0.97 of the time that two passes took, docs/DECISIONS.md).
+fn next_tick(s: &[u8]) -> usize
+    ensures { Tick s.now result }
 {
-    let (blocks, _) = s[at..].as_chunks::<64>();
+    let (blocks, _) = s.as_chunks::<64>();
     let passed = blocks
         .iter()
         .position(|b| ticked(b))
         .unwrap_or(blocks.len());
-    let from = at + passed * 64;
+    let from = passed * 64;
     let rest = &s[from..];
     from + rest.iter().position(|b| *b == b'`').unwrap_or(rest.len())
 }
 
-// That a place lies in the text is asked of each place by itself, below too: a type of a text and a place would be made anew, with that to be shown, at each
-// step.
-
-// Whether one of a pair of backticks stands at `at`: a pair is open, or another one follows.
-fn paired(s: &[u8], at: usize, within: bool) -> bool
-    requires { at < length s.now }
-    ensures { result ≡ (eqb (get_or s.now at 0) 0x60 && (within || ticked (drop (at + 1) s.now))) }
+// Whether a byte, behind which the rest of a text stands, is one of a pair of backticks: a pair is open, or another one follows.
+fn paired(byte: u8, rest: &[u8], within: bool) -> bool
+    ensures { result ≡ (eqb byte 0x60 && (within || ticked rest.now)) }
 {
-    s[at] == b'`' && (within || next_tick(s, at + 1) < s.len())
+    byte == b'`' && (within || next_tick(rest) < rest.len())
 }
 
-// What stands between a pair is Literal, the rest Text.
+// What stands between a pair is Literal, the rest Text. (A pair is open or not, so a bool; the style is told of it here alone.)
 fn style_of(literal: bool) -> Style
     ensures { result ≡ style_of literal }
 {
     if literal { Style::Literal } else { Style::Text }
 }
 
-// The bytes of one style from `from` on, and what follows them. The loop goes from backtick to backtick, so that it is no `for` over the bytes.
-fn put_run(t: &mut Text, s: &[u8], from: usize, literal: bool) -> Run
-    requires { from ≤ length s.now }
-    ensures text { text_of t.new ≡ with_bytes (lead literal (styled literal (drop from s.now))) (text_of t.old) }
-    ensures run { Runs s.now from literal result }
+// The bytes of one style that stand first, and what follows them. The loop goes from backtick to backtick, so that it is no `for` over the bytes.
+fn put_run<'a>(t: &mut Text, s: &'a [u8], literal: bool) -> Run<'a>
+    ensures text { text_of t.new ≡ with_bytes (lead literal (styled literal s.now)) (text_of t.old) }
+    ensures run { Runs s.now literal result }
 {
-    let mut i = from;
-    let mut within = literal;
-    while i < s.len() {
-        if paired(s, i, within) {
-            within = !within;
-            i += 1;
+    let mut run = Run {
+        rest: s,
+        within: literal,
+    };
+    while let Some((first, rest)) = run.rest.split_first() {
+        if paired(*first, rest, run.within) {
+            run = Run {
+                rest,
+                within: !run.within,
+            };
         } else {
-            if within != literal {
-                return Run { at: i, within };
+            if run.within != literal {
+                return run;
             }
-            let e = next_tick(s, i + 1);
-            t.put_all(&s[i..e]);
-            i = e;
+            let n = next_tick(rest) + 1;
+            t.put_all(&run.rest[..n]);
+            run.rest = &run.rest[n..];
         }
     }
-    Run { at: i, within }
+    run
 }
 
-// Their record. Its head is written before its size is known, and set when it is.
-fn put_record(t: &mut Text, s: &[u8], from: usize, literal: bool) -> Run
-    requires { from ≤ length s.now }
-    ensures text { text_of t.new ≡ with_bytes (run_record literal (lead literal (styled literal (drop from s.now)))) (text_of t.old) }
-    ensures run { Runs s.now from literal result }
+// Their record. Its head is written before its size is known, and set when it is. (No method of `Text`, for the reason at `joined::set_four`.)
+fn put_record<'a>(t: &mut Text, s: &'a [u8], literal: bool) -> Run<'a>
+    ensures text { text_of t.new ≡ with_bytes (run_record literal (lead literal (styled literal s.now))) (text_of t.old) }
+    ensures run { Runs s.now literal result }
 {
     let kind = style_of(literal).number();
     let start = t.len;
     t.put_all(&head_of(0, kind));
-    let run = put_run(t, s, from, literal);
+    let run = put_run(t, s, literal);
     if !t.is_full() {
         let room = &mut *t.room;
         set_head(room, start, t.len - start - 6, kind);
@@ -103,16 +101,18 @@ fn put_record(t: &mut Text, s: &[u8], from: usize, literal: bool) -> Run
 pub fn put_text(t: &mut Text, s: &[u8])
     ensures { text_of t.new ≡ with_bytes (text_records s.now) (text_of t.old) }
 {
-    let mut at: usize = 0;
-    let mut within = false;
-    while at < s.len() {
-        if paired(s, at, within) {
-            within = !within;
-            at += 1;
+    let mut left = Run {
+        rest: s,
+        within: false,
+    };
+    while let Some((first, rest)) = left.rest.split_first() {
+        if paired(*first, rest, left.within) {
+            left = Run {
+                rest,
+                within: !left.within,
+            };
         } else {
-            let run = put_record(t, s, at, within);
-            at = run.at;
-            within = run.within;
+            left = put_record(t, left.rest, left.within);
         }
     }
 }

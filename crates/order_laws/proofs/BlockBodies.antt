@@ -13,8 +13,8 @@ use Rattle.document.proofs.Walks.{OpenAt, open_empty}
 
 module _ {left document : List ℕ} {at : ℕ} {stack : List ℕ} {h : Head} (o : OpenAt left document at stack) (r : Read document at h)
     (l : at < length document) where
-  pub start_empty : {b : Block} → h.kind ≡ kind.Start b → part document h.start h.stop ≡ []
+  pub start_empty : {b : Block} → h.kind ≡ kind.Start b → part document h.start h.next ≡ []
   start_empty e = open_empty o r l (ap is_text e)
 
-  pub end_empty : {b : Block} → h.kind ≡ kind.End b → part document h.start h.stop ≡ []
+  pub end_empty : {b : Block} → h.kind ≡ kind.End b → part document h.start h.next ≡ []
   end_empty e = open_empty o r l (ap is_text e)

@@ -1,5 +1,6 @@
 -- Refusals 20 and 21, the page count, and where a page stands. Assumes nothing.
-use Rattle.pages.proofs.Names.{ℕ, zero, suc, ◌+◌, ◌-◌, ◌*◌, ◌≤◌, ◌<◌, ◌≡◌, refl, sym, ap, ap₂, ◌∙◌, subst, true, false, ◌⊎◌, ⊎_elim, List, [], length}
+use Rattle.pages.proofs.Names.{ℕ, zero, suc, ◌+◌, ◌-◌, ◌*◌, ◌≤◌, ◌<◌, ◌≡◌, refl, sym, ap, ap₂, ◌∙◌, subst, true, false, ⊎_elim, List, [], length}
+use Rattle.pages.proofs.Names.{leb, leb-true, and_left, and_right}
 use Rattle.pages.proofs.Names.{take, drop, length-drop, mul_comm, div-mul-le_self, lt-div-mul-add, arith, among, and_both, le_or_lt, gives_same, rows}
 use Rattle.std.specs.Int.{div_ceil}
 use Rattle.std.proofs.Common.{◌%◌}
@@ -30,16 +31,14 @@ pub allowed_in : (height : ℕ) → 1 ≤ height → height ≤ 200 → allowed 
 unfolding allowed
 allowed_in height h g = if_true _ _ (among_in 1 200 height h g)
 
-allowed-below : (height : ℕ) → height < 1 → allowed height ≡ refused 20 0
+-- what the test of a height says
+pub not-allowed : (height : ℕ) → among 1 200 height ≡ false → allowed height ≡ refused 20 0
 unfolding allowed
-allowed-below height h = if_false _ _ (among_below 1 200 height h)
+not-allowed height e = if_false _ _ e
 
-allowed_over : (height : ℕ) → 200 < height → allowed height ≡ refused 20 0
-unfolding allowed
-allowed_over height h = if_false _ _ (among_over 1 200 height (omega arith) h)
-
-pub not-allowed : (height : ℕ) → (height < 1) ⊎ ((1 ≤ height) × (200 < height)) → allowed height ≡ refused 20 0
-not-allowed height h = ⊎_elim (allowed-below height) (λ (g : (1 ≤ height) × (200 < height)). allowed_over height g.1) h
+pub height_in : (height : ℕ) → among 1 200 height ≡ true → (1 ≤ height) × (height ≤ 200)
+height_in height e =
+    (leb-true 1 height (and_left (leb 1 height) (leb height 200) e), leb-true height 200 (and_right (leb 1 height) (leb height 200) e))
 
 -- The page count
 
@@ -140,7 +139,7 @@ module _ (h n : ℕ) (s : List ℕ) where
       let b = mul-le-mul_left {m = n - 1} {n = length s / h} h l in
       omega (arith, div-mul-le_self (length s) h, mul_comm h (length s / h))
 
-  -- found by two passes: a after the rows before it, b after its own
+  -- found by two passes: a after the rows before it, and b bytes of its own
   module _ (a b : ℕ) (e : a ≡ bytes_of (h * (n - 1)) s) where
     pub found_none : a ≡ length s → length (rows s) ≤ h * (n - 1)
     found_none f =
@@ -154,14 +153,14 @@ module _ (h n : ℕ) (s : List ℕ) where
         (λ (g : h * (n - 1) < length (rows s)). g)
         (le_or_lt (length (rows s)) (h * (n - 1)))
 
-    size_is : b ≡ a + bytes_of h (drop a s) → b - a ≡ length (joined (take h (drop (h * (n - 1)) (rows s))))
+    size_is : b ≡ bytes_of h (drop a s) → b ≡ length (joined (take h (drop (h * (n - 1)) (rows s))))
     unfolding bytes_of
     size_is f =
         let i : rows (drop a s) ≡ drop (h * (n - 1)) (rows s) = ap (λ (k : ℕ). rows (drop k s)) e ∙ rows-after s (h * (n - 1)) in
         omega (arith, ap (λ (rs : List (List ℕ)). length (joined (take h rs))) i)
 
-    pub page_found : 1 ≤ h → h ≤ 200 → 1 ≤ n → (a ≡ length s → ⊥) → b ≡ a + bytes_of h (drop a s)
-        → (gives a ≡ page_start h n s) × (gives (b - a) ≡ measured (page_of h n s))
+    pub page_found : 1 ≤ h → h ≤ 200 → 1 ≤ n → (a ≡ length s → ⊥) → b ≡ bytes_of h (drop a s)
+        → (gives a ≡ page_start h n s) × (gives b ≡ measured (page_of h n s))
     unfolding page_start page_of ◌>>=◌ bytes_of
     page_found p q r f g = rw (before_in p q r (found_some f)) (ap gives e, ap gives (size_is g))
 

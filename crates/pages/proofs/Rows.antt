@@ -3,15 +3,13 @@ use Rattle.std.specs.Prelude.{Some, None}
 use Rattle.std.specs.List.{slice_get}
 use Rattle.std.proofs.lemmas.Option.{slice_get_within, get_or_from_slice_get, slice_get-get_or}
 use Rattle.pages.proofs.Names.{ℕ, zero, suc, ◌+◌, ◌-◌, ◌≤◌, ◌<◌, ◌≡◌, refl, sym, ap, ap₂, ◌∙◌, true, false, List, [], ◌∷◌, ◌++◌, append_assoc, length}
-use Rattle.pages.proofs.Names.{take, drop, get_or, length-drop, take-append-drop, drop_of_length-le, drop-drop, length-take-le, arith, ne_eqb}
+use Rattle.pages.proofs.Names.{take, drop, get_or, take-append-drop, drop_of_length-le, length-take-le, arith, ne_eqb}
 use Rattle.pages.proofs.Names.{when◌then◌else◌, leads, rows, joined, feed, feeds, bytes_of, Bool, eqb, length-append, sub-zero, eq-eqb}
 use lib.Seq.{drop-cons, take-nil, drop-nil, take_all, take_at}
 use native.Mathlib.Numerals.{add-one, sub-one}
 use Rattle.std.specs.Prelude.{cond}
 use Rattle.std.specs.List.{count_by}
-use Rattle.std.proofs.lemmas.List.Sums.{count_by-le-length, sum_by-take-drop}
 use Rattle.std.proofs.lemmas.List.Recursion.{is_count_by}
-use Rattle.pages.specs.InnerParts.{Fed}
 
 -- Line feeds
 
@@ -75,18 +73,6 @@ feed_counted false n = omega arith
 pub feeds_counted : (s : List ℕ) → feeds s ≡ count_by (λ b. eqb b 0x0A) s
 unfolding feeds feed
 feeds_counted s = is_count_by feeds (λ b. eqb b 0x0A) refl (λ b s. feed_counted (eqb b 0x0A) (feeds s)) s
-
-pub fed_part : (s : List ℕ) (i n m : ℕ) {r : ℕ} → i + n ≤ length s → m ≡ n → r ≡ count_by (λ b. eqb b 0x0A) (take m (drop i s)) → Fed s i (i + n) r
-fed_part s i n m h q e =
-    let p = λ (b : ℕ). eqb b 0x0A in
-    let f = rw q at e in
-    let size = length-take-le n (drop i s) (omega (arith, length-drop i s)) in
-    let all = sum_by-take-drop (λ b. cond (p b) 1 0) (drop i s) n in
-    let rest = rw (drop-drop n i s) at all in
-    record {
-      few = omega (arith, f, size, count_by-le-length p (take n (drop i s)));
-      rest = omega (arith, f, rest, feeds_counted (drop (i + n) s), feeds_counted (drop i s));
-    }
 
 pub rows-joined : (s : List ℕ) → joined (rows s) ≡ s
 unfolding rows joined
@@ -163,15 +149,12 @@ bytes-block (x ∷ a) b k h =
     let e : k - feed x - feeds a ≡ k - (feed x + feeds a) = omega arith in
     omega (arith, bytes-step k x (a ++ b) (omega arith), bytes-block a b (k - feed x) (omega arith), ap (λ (n : ℕ). bytes_of n b) e)
 
-fed_block : (s : List ℕ) (i m n k : ℕ) → i + m ≤ length s → Fed s i (i + m) n → n < k
-    → bytes_of k (drop i s) ≡ m + bytes_of (k - n) (drop (i + m) s)
-fed_block s i m n k h f l =
-    let a = take m (drop i s) in
-    let b = drop (i + m) s in
-    let e : a ++ b ≡ drop i s = ap (λ (t : List ℕ). a ++ t) (sym (drop-drop m i s)) ∙ take-append-drop m (drop i s) in
-    let j : length a ≡ m = length-take-le m (drop i s) (omega (arith, length-drop i s)) in
-    let g : feeds a ≡ n = omega (arith, f.rest, feeds-append a b, ap feeds e) in
-    ap (bytes_of k) (sym e) ∙ bytes-block a b k (omega arith) ∙ ap₂ (λ (x y : ℕ). x + bytes_of (k - y) b) j g
+-- what is left of a text after its first m bytes, where these are passed over
+pub pass_block : (s : List ℕ) (m k n : ℕ) → m ≤ length s → n ≡ feeds (take m s) → n < k → bytes_of k s ≡ m + bytes_of (k - n) (drop m s)
+pass_block s m k n h f l =
+    let j : length (take m s) ≡ m = length-take-le m s h in
+    ap (bytes_of k) (sym (take-append-drop m s)) ∙ bytes-block (take m s) (drop m s) k (omega arith)
+    ∙ ap₂ (λ (x y : ℕ). x + bytes_of (k - y) (drop m s)) j (sym f)
 
 -- all of them, and not all of them
 pub bytes_all : (s : List ℕ) (k : ℕ) → length (rows s) ≤ k → bytes_of k s ≡ length s
@@ -243,9 +226,6 @@ module _ (s : List ℕ) (i k whole : ℕ) (e : whole ≡ i + bytes_of k (drop i 
 
   pub pass_ends : length s ≤ i → i ≡ whole
   pass_ends h = omega (arith, ap (bytes_of k) (drop_of_length-le s h), bytes_past k)
-
-  pub pass_block : (n : ℕ) → i + 128 ≤ length s → Fed s i (i + 128) n → n < k → whole ≡ i + 128 + bytes_of (k - n) (drop (i + 128) s)
-  pass_block n h f l = omega (arith, fed_block s i 128 n k h f l)
 
 -- the last byte of a text, as the library gives it
 pub last_byte : (s : List ℕ) (x : ℕ) → slice_get s (length s - 1) ≡ Some x → (0 < length s) × (get_or s (length s - 1) 0 ≡ x)

@@ -2,7 +2,8 @@
 
 #![tactic(auto)]
 
-ghost use Rattle.std.specs.Prelude.{◌≡◌, ◌+◌, ◌≤◌, eqb, length, drop};
+ghost use Rattle.std.specs.Prelude.{◌≡◌, eqb, length};
+ghost use Rattle.base.specs.Choice.{among};
 ghost use Rattle.base.specs.Result.{measured};
 ghost use Rattle.pages.specs.Pages.{rows, page_of, page_start, page_count, shown};
 ghost use Rattle.pages.specs.RowList.{feeds};
@@ -12,6 +13,7 @@ ghost use Rattle.pages.specs.InnerParts.{bytes_of};
 use refusal::Refusal;
 
 // A part of a text: where it starts, and how many bytes it has.
+// No Range: the C interface gives a page's start and its size.
 #[derive(Clone, Copy)]
 pub struct Part {
     pub start: usize,
@@ -45,40 +47,48 @@ fn row_count(s: &[u8]) -> usize
     n + 1
 }
 
-// The place after k rows from a place on, byte by byte.
-fn step_rows(s: &[u8], from: usize, k: usize) -> usize
-    requires { from ≤ length s.now }
-    ensures { result ≡ from + bytes_of k (drop from s.now) }
+// How many bytes the first k rows of a text have, byte by byte. (No `nth` of the line feeds' places: the rest without one counts as a row too.)
+fn step_rows(s: &[u8], k: usize) -> usize
+    ensures { result ≡ bytes_of k s.now }
 {
     let mut due = k;
-    for i in from..s.len() {
+    for (i, b) in s.iter().enumerate() {
         if due == 0 {
             return i;
         }
-        if s[i] == b'\n' {
+        if *b == b'\n' {
             due -= 1;
         }
     }
     s.len()
 }
 
-// The place after k rows from a place on: a block of 128 that does not hold the last of them is passed over. The loop is no `for` over blocks, since the
-// last block is left to `step_rows` even where it is whole.
-fn skip_rows(s: &[u8], from: usize, k: usize) -> usize
-    requires { from ≤ length s.now }
-    ensures { result ≡ from + bytes_of k (drop from s.now) }
+// How many bytes the first k rows of a text have: a block of 128 that does not hold the last of them is passed over. (No `for` over blocks: what stands
+// behind a block is needed too, and `split_first_chunk` hands out both.)
+fn skip_rows(s: &[u8], k: usize) -> usize
+    ensures { result ≡ bytes_of k s.now }
 {
-    let mut due: usize = k;
-    let mut i: usize = from;
-    while s.len() - i > 128 {
-        let n = usize::from(base::few(&s[i..i + 128], &is_feed));
+    let mut due = k;
+    let mut rest = s;
+    while let Some((block, after)) = rest.split_first_chunk::<128>() {
+        let n = usize::from(base::few(block, &is_feed));
         if due <= n {
-            return step_rows(s, i, due);
+            break;
         }
         due -= n;
-        i += 128;
+        rest = after;
     }
-    step_rows(s, i, due)
+    s.len() - rest.len() + step_rows(rest, due)
+}
+
+// The largest height of a page.
+const MAX_HEIGHT: usize = 200;
+
+// The heights of a page.
+fn is_height(height: usize) -> bool
+    ensures { result ≡ among 1 200 height }
+{
+    (1..=MAX_HEIGHT).contains(&height)
 }
 
 // Where a page stands in a text.
@@ -86,7 +96,7 @@ pub fn find_page(text: &[u8], height: usize, page: usize) -> Result<Part, Refusa
     ensures start { start_of result ≡ page_start height page text.now }
     ensures size { size_of result ≡ measured (page_of height page text.now) }
 {
-    if height < 1 || 200 < height {
+    if !is_height(height) {
         return Err(Refusal::WrongHeight);
     }
     if page < 1 {
@@ -96,15 +106,12 @@ pub fn find_page(text: &[u8], height: usize, page: usize) -> Result<Part, Refusa
     if text.len() / height < before {
         return Err(Refusal::NoPage);
     }
-    let start = skip_rows(text, 0, height * before);
+    let start = skip_rows(text, height * before);
     if start == text.len() {
         return Err(Refusal::NoPage);
     }
-    let stop = skip_rows(text, start, height);
-    Ok(Part {
-        start,
-        size: stop - start,
-    })
+    let size = skip_rows(&text[start..], height);
+    Ok(Part { start, size })
 }
 
 // A page as a part of the text, empty after a refusal.
@@ -121,7 +128,7 @@ pub fn page<'a>(text: &'a [u8], height: usize, page: usize) -> &'a [u8]
 pub fn page_count(text: &[u8], height: usize) -> Result<usize, Refusal>
     ensures { count_of result ≡ page_count height text.now }
 {
-    if height < 1 || 200 < height {
+    if !is_height(height) {
         return Err(Refusal::WrongHeight);
     }
     Ok(row_count(text).div_ceil(height))

@@ -2,10 +2,10 @@
 use Rattle.printing.proofs.Names.{ℕ, zero, suc, ◌+◌, ◌≤◌, ◌<◌, ◌≡◌, sym, ap, ◌∙◌, length, get_or, arith, Read, read_character, ascii_at}
 use mathlib.Core.Path.{refl}
 use mathlib.Core.Bool.{Bool, true, false, not, ◌&&◌}
-use mathlib.Core.List.{List}
+use mathlib.Core.List.{List, [], ◌∷◌}
 use lib.Dec.{ltb}
 use lib.ListN.{take, drop, length-drop}
-use lib.Seq.{get_or-drop, length-take-le}
+use lib.Seq.{get_or-drop, length-take-le, drop-length}
 use native.Mathlib.Nat.{add-zero}
 use native.Mathlib.Numerals.{add-one}
 use borrow.Author.Tests.{lt-ltb}
@@ -16,8 +16,8 @@ use Rattle.base.proofs.Bytes.{byte}
 use Rattle.utf8.specs.Utf8.{utf8}
 use Rattle.utf8.specs.InnerParts.{is_ascii}
 use Rattle.utf8.proofs.Laws.{one_at, ascii_part, ascii_run}
-use Rattle.white.specs.White.{whites, white, printing}
-use Rattle.white.proofs.Counting.{printing-not, printing-one}
+use Rattle.white.specs.White.{whites, white, printing, printing_count}
+use Rattle.white.proofs.Counting.{printing-not, printing-one, counted_all}
 use Rattle.printing.specs.InnerParts.{ascii_white, ascii_prints, Went}
 
 -- Bytes
@@ -59,78 +59,70 @@ bytes_count s a (suc k) h l =
     omega (arith, i, n, one_byte s (a + k) (omega arith) (l k (omega arith)), ap (λ (n : ℕ). length (printing (drop n s))) e)
 
 -- 64 ASCII bytes
-pub block_went : (s : List ℕ) (a m : ℕ) {n : ℕ} → a + 64 ≤ length s → m ≡ 64 → is_ascii (take m (drop a s)) ≡ true
-    → n ≡ count_by ascii_prints (take m (drop a s)) → Went s a (a + 64) n
-block_went s a m h e t f =
-    let each = ascii_part s a 64 m h e t in
+pub block_went : (s : List ℕ) (m : ℕ) {n : ℕ} → 64 ≤ length s → m ≡ 64 → is_ascii (take m s) ≡ true → n ≡ count_by ascii_prints (take m s) → Went s 64 n
+block_went s m h e t f =
+    let each = ascii_part s 0 64 m h e t in
     let g = rw e at f in
-    let c = bytes_count s a 64 h each in
+    let c = bytes_count s 0 64 h each in
     record {
-      later = omega arith;
+      some = omega arith;
       room = h;
-      few = omega (arith, g, count_by-le-length ascii_prints (take 64 (drop a s)), length-take-le 64 (drop a s) (omega (arith, length-drop a s)));
-      text = ascii_run s a 64 h each;
+      few = omega (arith, g, count_by-le-length ascii_prints (take 64 s), length-take-le 64 s h);
+      text = ascii_run s 0 64 h each;
       prints = omega (arith, c, g);
     }
 
 -- Characters
 
--- whole characters stand from a to i, of which n print
-pub record Reached (s : List ℕ) (a i n : ℕ) : Type 0 where
-  pub later : a ≤ i
+-- the bytes before i are whole characters, of which n print
+pub record Reached (s : List ℕ) (i n : ℕ) : Type 0 where
   pub room : i ≤ length s
-  pub few : n + a ≤ i
-  pub text : utf8 (drop a s) ≡ utf8 (drop i s)
-  pub prints : length (printing (drop a s)) ≡ n + length (printing (drop i s))
-
-pub reached_none : (s : List ℕ) (a : ℕ) → a ≤ length s → Reached s a a 0
-reached_none s a h = record { later = omega arith; room = h; few = omega arith; text = refl; prints = omega arith }
+  pub few : n ≤ i
+  pub text : utf8 s ≡ utf8 (drop i s)
+  pub prints : length (printing s) ≡ n + length (printing (drop i s))
 
 -- one ASCII byte
-module _ (s : List ℕ) (a i n : ℕ) (g : Reached s a i n) (h : i < length s) (l : get_or s i 0 < 0x80) where
-  pub reached_print : {m : ℕ} → m ≡ n + 1 → ascii_prints (get_or s i 0) ≡ true → Reached s a (i + 1) m
+module _ (s : List ℕ) (i n : ℕ) (g : Reached s i n) (h : i < length s) (l : get_or s i 0 < 0x80) where
+  pub reached_print : {m : ℕ} → m ≡ n + 1 → ascii_prints (get_or s i 0) ≡ true → Reached s (i + 1) m
   reached_print e t = record {
-    later = omega (arith, g.later);
     room = omega arith;
     few = omega (arith, g.few);
     text = g.text ∙ one_at s i h l;
     prints = omega (arith, g.prints, rw t at (one_byte s i h l));
   }
 
-  pub reached_blank : {m : ℕ} → m ≡ n → ascii_prints (get_or s i 0) ≡ false → Reached s a (i + 1) m
+  pub reached_blank : {m : ℕ} → m ≡ n → ascii_prints (get_or s i 0) ≡ false → Reached s (i + 1) m
   reached_blank e t = record {
-    later = omega (arith, g.later);
     room = omega arith;
     few = omega (arith, g.few);
     text = g.text ∙ one_at s i h l;
     prints = omega (arith, g.prints, rw t at (one_byte s i h l));
   }
 
-module _ (s : List ℕ) (a i n c next : ℕ) (g : Reached s a i n) (r : Read s i c next) where
-  pub reached_one : white c ≡ false → Reached s a next (n + 1)
+module _ (s : List ℕ) (i n c next : ℕ) (g : Reached s i n) (r : Read s i c next) where
+  pub reached_one : white c ≡ false → Reached s next (n + 1)
   reached_one w = record {
-    later = omega (arith, g.later, r.later);
     room = r.room;
     few = omega (arith, g.few, r.later);
     text = g.text ∙ r.text;
     prints = omega (arith, g.prints, printing-one s i c next r w);
   }
 
-  pub reached_white : white c ≡ true → Reached s a next n
+  pub reached_white : white c ≡ true → Reached s next n
   reached_white w = record {
-    later = omega (arith, g.later, r.later);
     room = r.room;
     few = omega (arith, g.few, r.later);
     text = g.text ∙ r.text;
     prints = omega (arith, g.prints, printing-not s i c next r w);
   }
 
--- a part counted after those before it
-pub reached_on : (s : List ℕ) (i b n m : ℕ) → Reached s 0 i n → Went s i b m → Reached s 0 b (n + m)
-reached_on s i b n m g w = record {
-  later = omega arith;
-  room = w.room;
-  few = omega (arith, g.few, w.few);
-  text = g.text ∙ w.text;
-  prints = omega (arith, g.prints, w.prints);
-}
+-- the characters of s are those of a rest, of which as many bytes or more are before it, and n that print
+pub record Left (s rest : List ℕ) (n : ℕ) : Type 0 where
+  pub few : n + length rest ≤ length s
+  pub text : utf8 s ≡ utf8 rest
+  pub prints : length (printing s) ≡ n + length (printing rest)
+
+-- where none is left
+pub left_done : (s rest : List ℕ) (n : ℕ) → Left s rest n → length rest ≡ 0 → n ≡ printing_count s
+left_done s [] n g h = counted_all s (length s) n (omega arith) (rw (drop-length s) g.text) (rw (drop-length s) g.prints)
+left_done s (b ∷ rest) n g h = let z : ⊥ = omega arith in absurd z

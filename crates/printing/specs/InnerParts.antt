@@ -10,10 +10,10 @@ ascii_white b = eqb b 0x20 || (leb 0x09 b && leb b 0x0D)
 unfoldable pub ascii_prints : ℕ → Bool
 ascii_prints b = not (ascii_white b)
 
--- from a to b stand whole characters, of which n print
-pub record Went (s : List ℕ) (a b n : ℕ) : Type 0 where
-  pub later : a < b
-  pub room : b ≤ length s
-  pub few : n + a ≤ b
-  pub text : utf8 (drop a s) ≡ utf8 (drop b s)
-  pub prints : length (printing (drop a s)) ≡ n + length (printing (drop b s))
+-- the first k bytes are whole characters, of which n print
+pub record Went (s : List ℕ) (k n : ℕ) : Type 0 where
+  pub some : 0 < k
+  pub room : k ≤ length s
+  pub few : n ≤ k
+  pub text : utf8 s ≡ utf8 (drop k s)
+  pub prints : length (printing s) ≡ n + length (printing (drop k s))

@@ -7,28 +7,30 @@ ghost use Rattle.utf8.specs.Utf8.{utf8};
 ghost use Rattle.white.specs.White.{printing_count};
 ghost use Rattle.printing.specs.InnerParts.{ascii_prints, Went};
 
-// A part of a text that was counted: the place after it, and how many of its characters print.
+// A part at the head of a text that was counted: how many bytes it has, and how many of its characters print.
 #[derive(Clone, Copy)]
 struct Run {
-    at: usize,
+    bytes: usize,
     prints: usize,
 }
 
 // Whether an ASCII byte prints: unless it is White_Space.
-#[tactic(auto, unfolding(crate::specs::InnerParts::ascii_prints))]
+#[tactic(auto, using(white::proofs::WhiteBytes::one), unfolding(crate::specs::InnerParts::ascii_prints))]
 fn ascii_prints(b: u8) -> bool
     ensures { result ≡ ascii_prints b }
 {
-    !matches!(b, 0x20 | 0x09..=0x0D)
+    !white::is_ascii_white(b)
 }
 
-// The characters from a on until e is reached. The loop goes by characters, of one byte to four, so that it is no `for` over the bytes.
-fn chars(s: &[u8], a: usize, e: usize) -> Option<Run>
-    requires { (a < e) × (e ≤ length s.now) }
-    ensures { MatchOption result (utf8 (drop a s.now) ≡ false) (λ r. Went s.now a r.at r.prints) }
+// The characters at the head of s until 64 bytes are passed or all. The loop goes by characters, of one byte to four, so that it is no `for` over the bytes.
+// (No iterator of characters: it would be a type with a `next` to prove for two loops, this and `upper`'s, which both hand back the place where they stop.)
+fn chars(s: &[u8]) -> Option<Run>
+    requires { 0 < length s.now }
+    ensures { MatchOption result (utf8 s.now ≡ false) (λ r. Went s.now r.bytes r.prints) }
 {
+    let e = s.len().min(64);
     let mut n: usize = 0;
-    let mut i: usize = a;
+    let mut i: usize = 0;
     while i < e {
         if s[i] < 0x80 {
             if ascii_prints(s[i]) {
@@ -43,23 +45,26 @@ fn chars(s: &[u8], a: usize, e: usize) -> Option<Run>
             i = next;
         }
     }
-    Some(Run { at: i, prints: n })
+    Some(Run {
+        bytes: i,
+        prints: n,
+    })
 }
 
-// The characters from a on, of at least 64 bytes or up to the end, if characters stand there.
-fn some(s: &[u8], a: usize) -> Option<Run>
-    requires { a < length s.now }
-    ensures { MatchOption result (utf8 (drop a s.now) ≡ false) (λ r. Went s.now a r.at r.prints) }
+// The characters at the head of s, of 64 bytes or some more or of all, if characters stand there.
+fn some(s: &[u8]) -> Option<Run>
+    requires { 0 < length s.now }
+    ensures { MatchOption result (utf8 s.now ≡ false) (λ r. Went s.now r.bytes r.prints) }
 {
-    if s.len() - a < 64 {
-        return chars(s, a, s.len());
+    if s.len() < 64 {
+        return chars(s);
     }
-    let block = &s[a..a + 64];
+    let block = &s[..64];
     if utf8::is_ascii(block) {
         let prints = usize::from(base::few(block, &ascii_prints));
-        return Some(Run { at: a + 64, prints });
+        return Some(Run { bytes: 64, prints });
     }
-    chars(s, a, a + 64)
+    chars(s)
 }
 
 // How many characters of s print. The number is 0 where s is not UTF-8, and no None, since the rule `printing_count` says so. The loop goes by what `some`
@@ -68,13 +73,13 @@ pub fn count(s: &[u8]) -> usize
     ensures { result ≡ printing_count s.now }
 {
     let mut n: usize = 0;
-    let mut i: usize = 0;
-    while i < s.len() {
-        let Some(run) = some(s, i) else {
+    let mut rest = s;
+    while !rest.is_empty() {
+        let Some(run) = some(rest) else {
             return 0;
         };
         n += run.prints;
-        i = run.at;
+        rest = &rest[run.bytes..];
     }
     n
 }

@@ -26,6 +26,7 @@ pub fn read_input<R: Read>(reader: &mut R, buffer: &mut [u8]) -> io::Result<usiz
 }
 
 // What is said of a failure, in bytes. It may fail too.
+// (`write_all`, with what it promises of these bytes; `print_refusal` is one call too.)
 pub fn complain<W: Write>(writer: &mut W, message: &[u8]) -> io::Result<()>
     ensures { OnOk result (Appends (W.contents writer.old) (W.contents writer.new) message.now) }
 {

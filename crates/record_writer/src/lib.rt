@@ -1,17 +1,17 @@
-// Records written into a lent room: the first six bytes of a record, after what stands there or at a place.
+// Records written into a lent room: the first six bytes of a record, as bytes or at a place. (`kind` is a number here: each is promised to be written, also
+// one that no `records::Kind` stands for.)
 
 #![tactic(auto)]
 
-ghost use Rattle.std.specs.Prelude.{◌≡◌, [], ◌+◌, length};
-ghost use Rattle.base.specs.Result.{◌>>=◌ as bind};
+ghost use Rattle.std.specs.Prelude.{◌≡◌, [], ◌+◌};
 ghost use Rattle.base.specs.Bytes.{overwritten};
-ghost use Rattle.room.specs.Room.{seen, extended};
 ghost use Rattle.records.specs.Records.{index};
 ghost use Rattle.records.specs.Stored.{head, stored};
 
 use records::Block;
 
-// 'A block's start is 0x0100 plus its index, its end 0x0200 plus it'
+// 'A block's start is 0x0100 plus its index, its end 0x0200 plus it'. (Two functions, and no number of a `Kind`: that would have an answer for Unknown
+// too, which is never written.)
 pub fn start_kind(b: Block) -> usize
     ensures { result ≡ 0x0100 + index b }
 {
@@ -33,15 +33,8 @@ pub fn head_of(size: usize, kind: usize) -> [u8; 6]
     [s[0], s[1], s[2], s[3], k[0], k[1]]
 }
 
-// A record's first six bytes after the text so far: a body of `size` bytes follows.
-pub fn put_head(room: &mut [u8], len: usize, size: usize, kind: usize) -> usize
-    ensures { seen room.new result ≡ bind (seen room.old len) (extended (length room.old) (head size kind)) }
-{
-    let bytes = head_of(size, kind);
-    room::put_all(room, len, &bytes)
-}
-
-// A record's first six bytes at a place of a room; a room that does not hold them there stays as it was.
+// A record's first six bytes at a place of a room; a room that does not hold them there stays as it was. (No `room::Text`: it leaves free
+// what stands past the text.)
 pub fn set_head(room: &mut [u8], at: usize, size: usize, kind: usize)
     ensures { room.new ≡ overwritten room.old at (head size kind) }
 {

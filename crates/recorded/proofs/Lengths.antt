@@ -5,47 +5,29 @@ use Rattle.std.specs.Prelude.{Option}
 use lib.Seq.{take-append_seam}
 use Rattle.program.specs.Spoken.{ReadsInput}
 use lib.ListN.{length-append}
-use Rattle.std.proofs.Common.{subst, take_all, ◌≡◌, ◌≢◌, ℕ, ◌≤◌, List, [], ◌∷◌, ◌++◌, Bool, true, false, refl, sym, ap, ◌∙◌, arith, length, take, get_or}
-use Rattle.std.specs.Prelude.{ltb}
+use Rattle.std.proofs.Common.{subst, take_all, ◌≡◌, ℕ, ◌≤◌, ◌<◌, List, [], ◌∷◌, ◌++◌, refl, sym, ap, ◌∙◌, arith, length, take, get_or}
+use borrow.Author.Tests.{le-ltb, lt-ltb}
 use Rattle.base.specs.Choice.{when◌then◌else◌}
 use Rattle.records.specs.Records.{little}
 use Rattle.recorded.specs.InnerCases.{number_in, number_size}
 
--- one byte or five, by a test
-size_by : Bool → ℕ
-unfolding when◌then◌else◌
-size_by b = when b then 1 else 5
+-- A byte below 255 is a number, and any other begins one of five bytes.
+pub short_number : (s : List ℕ) → length s ≡ 1 → get_or s 0 0 < 255 → (number_in s ≡ get_or s 0 0) × (number_size s ≡ 1)
+unfolding number_in number_size when◌then◌else◌
+short_number [] h below = absurd (omega (arith, h))
+short_number (b ∷ c ∷ s) h below = absurd (omega (arith, h))
+short_number (b ∷ []) h below = rw (lt-ltb b 255 below) (refl, refl)
 
-one_or_five : (b : Bool) → size_by b ≢ 5 → size_by b ≡ 1
-unfolding when◌then◌else◌ size_by
-one_or_five true h = refl
-one_or_five false h = absurd (h refl)
-
-is_false : (b : Bool) → size_by b ≡ 5 → b ≡ false
-unfolding when◌then◌else◌ size_by
-is_false true h = absurd (omega (arith, h))
-is_false false h = refl
-
-pub size_one : (s : List ℕ) → number_size s ≢ 5 → number_size s ≡ 1
-unfolding number_size size_by
-size_one s h = one_or_five (ltb (get_or s 0 0) 255) h
-
-pub long_number : (s t : List ℕ) → length s ≡ 1 → length t ≡ 4 → number_size s ≡ 5 → number_in (s ++ t) ≡ little t
-unfolding number_in number_size when◌then◌else◌ size_by
-long_number [] t h k five = absurd (omega (arith, h))
-long_number (b ∷ c ∷ s) t h k five = absurd (omega (arith, h))
-long_number (b ∷ []) [] h k five = absurd (omega (arith, k))
-long_number (b ∷ []) (w ∷ []) h k five = absurd (omega (arith, k))
-long_number (b ∷ []) (w ∷ x ∷ []) h k five = absurd (omega (arith, k))
-long_number (b ∷ []) (w ∷ x ∷ y ∷ []) h k five = absurd (omega (arith, k))
-long_number (b ∷ []) (w ∷ x ∷ y ∷ z ∷ u ∷ t) h k five = absurd (omega (arith, k))
-long_number (b ∷ []) (w ∷ x ∷ y ∷ z ∷ []) h k five = rw (is_false (ltb b 255) five) refl
-
-pub long_size : (s t : List ℕ) → length s ≡ 1 → number_size s ≡ 5 → number_size (s ++ t) ≡ 5
-unfolding number_size
-long_size [] t h five = absurd (omega (arith, h))
-long_size (b ∷ c ∷ s) t h five = absurd (omega (arith, h))
-long_size (b ∷ []) t h five = five
+pub long_number : (s t : List ℕ) → length s ≡ 1 → length t ≡ 4 → 255 ≤ get_or s 0 0 → (number_in (s ++ t) ≡ little t) × (number_size (s ++ t) ≡ 5)
+unfolding number_in number_size when◌then◌else◌
+long_number [] t h k large = absurd (omega (arith, h))
+long_number (b ∷ c ∷ s) t h k large = absurd (omega (arith, h))
+long_number (b ∷ []) [] h k large = absurd (omega (arith, k))
+long_number (b ∷ []) (w ∷ []) h k large = absurd (omega (arith, k))
+long_number (b ∷ []) (w ∷ x ∷ []) h k large = absurd (omega (arith, k))
+long_number (b ∷ []) (w ∷ x ∷ y ∷ []) h k large = absurd (omega (arith, k))
+long_number (b ∷ []) (w ∷ x ∷ y ∷ z ∷ u ∷ t) h k large = absurd (omega (arith, k))
+long_number (b ∷ []) (w ∷ x ∷ y ∷ z ∷ []) h k large = rw (le-ltb b 255 large) (refl, refl)
 
 -- A number and the bytes after it, read one after the other.
 pub case_read : (old mid new : Option (List ℕ)) (number part rest : List ℕ) (n : ℕ) → number_in number ≡ n → number_size number ≡ length number

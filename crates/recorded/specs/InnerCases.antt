@@ -4,7 +4,10 @@ use Rattle.std.specs.Prelude.{◌≡◌, ◌<◌, Result, MatchResult, ℕ, ◌+
 use Rattle.base.specs.Choice.{when◌then◌else◌}
 use Rattle.records.specs.Records.{little}
 use Rattle.compared.specs.InnerCompared.{filled_by, holds_by, is_rendered}
-use Rattle.std.specs.Prelude.{Result as Answer}
+use Rattle.std.specs.Prelude.{Result as Answer, Ok, Err}
+use Rattle.std.specs.Result.{result_unwrap_or}
+use Rattle.base.specs.Result.{Result as Rule, gives, refused}
+use Rattle.compared.specs.declared.Refused.{Refused}
 use Rattle.refusal.specs.declared.Refusal.{Refusal}
 use Rattle.console_rules.specs.declared.Measure.TheVariants as measure
 use Rattle.console_rules.specs.declared.Settings.{Settings}
@@ -28,6 +31,15 @@ number_size s = when ltb (get_or s 0 0) 255 then 1 else 5
 unfoldable pub past : List ℕ → List ℕ
 past s = drop (number_size s) s
 
+-- what an answer begins with: a number, 0 where nothing was refused, and a length or a count; or a refusal's number and place
+abbrev pub told_in : List ℕ → Answer ℕ Refused
+told_in s = cond (eqb (number_in s) 0) (Ok (number_in (past s))) (Err (record { number = number_in s; place = number_in (past s) }))
+
+-- .. of a call that writes into a room, with what follows: a text, or a refusal
+abbrev pub wanted_by : Answer ℕ Refused → List ℕ → Rule (List ℕ)
+wanted_by (Ok n) text = gives text
+wanted_by (Err w) text = refused w.number w.place
+
 -- a case from its flags on, and from the length of its document on
 abbrev pub flags_of : List ℕ → List ℕ
 flags_of case = past (drop 1 case)
@@ -35,10 +47,9 @@ flags_of case = past (drop 1 case)
 abbrev pub sized_of : List ℕ → List ℕ
 sized_of case = past (drop 2 (flags_of case))
 
--- 'u8 call, n width, style, block or place in the body, u8 full or ticks, u8 css or characters, n room length'
+-- after 'u8 call': 'n width, style, block or place in the body, u8 full or ticks, u8 css or characters, n room length'
 unfoldable pub call_of : List ℕ → Call
 call_of case = record {
-  number = get_or case 0 255;
   setting = number_in (drop 1 case);
   full = eqb (get_or (flags_of case) 0 0) 1;
   ticks = get_or (flags_of case) 0 0;
@@ -69,9 +80,12 @@ filled n document = filled_by pattern n document
 unfoldable pub keeps : List ℕ → List ℕ → Bool
 keeps room document = holds_by pattern room document
 
--- a call that writes into a room answers as a case says: a number, 0 for a text, its length or the refusal's place, and the text
+-- a call that writes into a room answers as a case says: a text, of the length that it tells, or a refusal with none
 abbrev pub is_made : Answer ℕ Refusal → List ℕ → List ℕ → Bool
-is_made made room answer = is_rendered made room (number_in answer) (number_in (past answer)) (past (past answer))
+is_made made room answer =
+    let told = told_in answer in
+    let text = past (past answer) in
+    eqb (result_unwrap_or told 0) (length text) && is_rendered made room (wanted_by told text)
 
 -- one call more of those with its number, where that is counted, and up to 1,000,000
 unfoldable pub counted : List ℕ → List ℕ → List ℕ

@@ -26,12 +26,13 @@ pub fn next_case<R: Read>(reader: &mut R, buffer: &mut [u8]) -> Result<Option<us
     if program::read_input(reader, &mut short)? == 0 {
         return Ok(None);
     }
-    let mut n = crate::number(&short);
-    if crate::number_size(&short) == 5 {
+    let mut n = usize::from(short[0]);
+    if n == 255 {
         let mut four = [0u8; 4];
         if program::read_input(reader, &mut four)? < 4 {
             return Err(ListError::Faulty);
         }
+        // No `u32::from_le_bytes`: the number is one by the rule of `records::four`, and a cast would follow.
         n = records::four(&four, 0);
     }
     if buffer.len() < n {

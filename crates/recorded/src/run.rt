@@ -10,6 +10,7 @@ use std::io;
 use std::io::{Read, Write};
 
 // Reads a list, runs each of its cases, and writes the line with the counts. A read or a write that fails is the answer.
+// (An array: no heap is used, as in the library.)
 pub fn run<R: Read, W: Write, F: Fn(&[u8]) -> bool>(
     reader: &mut R,
     writer: &mut W,

@@ -42,7 +42,7 @@ fn differed(before: Option<Differences>, number: u64) -> Differences
 }
 
 impl Tally {
-    // No case was run.
+    // No case was run. (No derived Default: it promises of the array that each element is a default, and `search` does not make `replicate` of that.)
     pub fn new() -> Self
         ensures { result ≡ nothing_run }
     {
@@ -54,6 +54,7 @@ impl Tally {
     }
 
     // One case more, and whether its call answered as it says.
+    #[tactic(auto, unfolding(crate::specs::InnerTally::tallied, crate::proofs::Names::choose))]
     pub fn add(&mut self, case: &[u8], same: bool)
         ensures { self.new ≡ tallied self.old case.now same }
     {

@@ -107,28 +107,27 @@ fits_room s e =
     let b = leb-true (size s) (length s - 6) (and_right (leb 6 (length s)) _ e) in omega arith
 
 module _ (s : List ℕ) (at : ℕ) where
-  pub read_past : length s ≤ at → Read s at (record { kind = kind.Unknown; start = length s; stop = length s; next = length s })
+  pub read_past : length s ≤ at → Read s at (record { kind = kind.Unknown; start = length s; next = length s })
   read_past h = record {
     listed = tokens-end s at h ∙ sym (if_false _ _ (le-ltb at (length s) h));
     low = λ l. let z : ⊥ = omega arith in absurd z;
     order = le_refl (length s);
-    ends = refl;
     high = le_refl (length s);
     past = λ _. refl;
     whole = λ l. let z : ⊥ = omega arith in absurd z;
   }
 
   -- .. whose kind is the number 0
-  pub read-past-raw : length s ≤ at → Read s at (record { kind = kind_of 0; start = length s; stop = length s; next = length s })
+  pub read-past-raw : length s ≤ at → Read s at (record { kind = kind_of 0; start = length s; next = length s })
   read-past-raw h =
-      subst (λ (k : Kind). Read s at (record { kind = k; start = length s; stop = length s; next = length s }))
+      subst (λ (k : Kind). Read s at (record { kind = k; start = length s; next = length s }))
       (kind_low 0 (λ z. omega (arith, z)) (omega arith)) (read_past h)
 
   module _ (k : Kind) (h : at < length s) (ek : k ≡ kind_of (little (take 2 (drop (at + 4) s)))) where
     listed_here : (start next : ℕ) → start ≡ at + length (take 6 (drop at s)) → part s start next ≡ take (size (drop at s)) (drop (at + 6) s)
         → tokens_from s next ≡ tokens_from s (next_at s at)
         → tokens_from s at
-        ≡ when ltb at (length s) then token_of s at (record { kind = k; start = start; stop = next; next = next }) ∷ tokens_from s next else []
+        ≡ when ltb at (length s) then token_of s at (record { kind = k; start = start; next = next }) ∷ tokens_from s next else []
     unfolding token_at
     listed_here start next d b t =
         tokens_at s at h
@@ -136,7 +135,7 @@ module _ (s : List ℕ) (at : ℕ) where
         (ap (take (size (drop at s))) (drop-drop 6 at s) ∙ sym b)) (sym t)
         ∙ sym (if_true _ _ (lt-ltb at (length s) h))
 
-    pub read_short : length s < at + 6 → Read s at (record { kind = k; start = length s; stop = length s; next = length s })
+    pub read_short : length s < at + 6 → Read s at (record { kind = k; start = length s; next = length s })
     read_short j = record {
       listed = listed_here (length s) (length s)
           (let e = ap length (take_all 6 (drop at s) (omega (arith, length-drop at s))) in omega (arith, e, length-drop at s))
@@ -144,7 +143,6 @@ module _ (s : List ℕ) (at : ℕ) where
           (tokens-end s (length s) (le_refl (length s)) ∙ sym (tokens-end s (next_at s at) (omega arith)));
       low = λ l. l;
       order = le_refl (length s);
-      ends = refl;
       high = le_refl (length s);
       past = λ l. let z : ⊥ = omega arith in absurd z;
       whole = λ _ f. let z : ⊥ = omega (arith, fits_room (drop at s) f, length-drop at s) in absurd z;
@@ -154,7 +152,7 @@ module _ (s : List ℕ) (at : ℕ) where
       six : at + 6 ≡ at + length (take 6 (drop at s))
       six = let e = length-take-le 6 (drop at s) (omega (arith, length-drop at s)) in omega (arith, e)
 
-      pub read-cut : length s - (at + 6) < n → Read s at (record { kind = k; start = at + 6; stop = length s; next = length s })
+      pub read-cut : length s - (at + 6) < n → Read s at (record { kind = k; start = at + 6; next = length s })
       read-cut m = record {
         listed = listed_here (at + 6) (length s) six
             (take_all (length s - (at + 6)) (drop (at + 6) s) (omega (arith, length-drop (at + 6) s))
@@ -162,13 +160,12 @@ module _ (s : List ℕ) (at : ℕ) where
             (tokens-end s (length s) (le_refl (length s)) ∙ sym (tokens-end s (next_at s at) (omega arith)));
         low = λ l. omega arith;
         order = j;
-        ends = refl;
         high = le_refl (length s);
         past = λ l. let z : ⊥ = omega arith in absurd z;
         whole = λ _ f. let z : ⊥ = omega (arith, fits_room (drop at s) f, length-drop at s) in absurd z;
       }
 
-      pub read_whole : n ≤ length s - (at + 6) → Read s at (record { kind = k; start = at + 6; stop = at + 6 + n; next = at + 6 + n })
+      pub read_whole : n ≤ length s - (at + 6) → Read s at (record { kind = k; start = at + 6; next = at + 6 + n })
       read_whole m =
           let e : at + 6 + n - (at + 6) ≡ size (drop at s) = omega arith in
           let f : at + 6 + n ≡ next_at s at = omega arith in
@@ -176,13 +173,12 @@ module _ (s : List ℕ) (at : ℕ) where
             listed = listed_here (at + 6) (at + 6 + n) six (rw e) (ap (λ (i : ℕ). tokens_from s i) f);
             low = λ l. omega arith;
             order = omega arith;
-            ends = refl;
             high = omega arith;
             past = λ l. let z : ⊥ = omega arith in absurd z;
             whole = λ _ _. (refl, f);
           }
 
-      pub read_fits : record_fits (drop at s) ≡ true → Read s at (record { kind = k; start = at + 6; stop = at + 6 + n; next = at + 6 + n })
+      pub read_fits : record_fits (drop at s) ≡ true → Read s at (record { kind = k; start = at + 6; next = at + 6 + n })
       read_fits f = read_whole (omega (arith, fits_room (drop at s) f, length-drop at s, en))
 
 -- What was read is the record at that place.

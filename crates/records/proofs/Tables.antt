@@ -1,6 +1,10 @@
 -- The tables of styles and blocks agree with their numbers and indices. Assumes nothing.
 use borrow.Author.Tests.{ne_eqb}
-use Rattle.records.proofs.Names.{ℕ, ◌+◌, ◌<◌, ◌≡◌, ◌∙◌, ap, sym, eqb, false, refl, when◌then◌else◌, styles, blocks, number, index, kind_of, Style, Block, arith}
+use denote.Enum.Bare.{sameb}
+use denote.Enum.Declared.{tag_of}
+use Rattle.records.specs.contracts.Block.{the_type}
+use Rattle.records.proofs.Names.{ℕ, ◌+◌, ◌<◌, ◌≡◌, ◌∙◌, ap, ap₂, sym, eqb, false, refl}
+use Rattle.records.proofs.Names.{when◌then◌else◌, styles, blocks, number, index, kind_of, Style, Block, arith}
 use Rattle.records.specs.declared.Style.TheVariants as style
 use Rattle.records.specs.declared.Block.TheVariants as block
 use Rattle.records.specs.declared.Kind.TheVariants as kind
@@ -65,3 +69,21 @@ index_small block.InlineBlock = omega arith
 index_small block.TermRef = omega arith
 index_small block.Meta = omega arith
 index_small block.Mono = omega arith
+
+tagged : (b : Block) → tag_of the_type b ≡ index b
+tagged block.Header = refl
+tagged block.Section2 = refl
+tagged block.Section3 = refl
+tagged block.Section4 = refl
+tagged block.ItemTerm = refl
+tagged block.ItemBody = refl
+tagged block.DefinitionList = refl
+tagged block.Block = refl
+tagged block.InlineBlock = refl
+tagged block.TermRef = refl
+tagged block.Meta = refl
+tagged block.Mono = refl
+
+-- `==` of two blocks is that of their indices
+pub same_block : (a b : Block) → sameb the_type a b ≡ eqb (index a) (index b)
+same_block a b = ap₂ eqb (tagged a) (tagged b)

@@ -9,11 +9,11 @@ use Rattle.records.specs.declared.Raw.{Raw}
 
 -- a head whose kind is still a number
 abbrev pub head_of : Raw → Head
-head_of r = record { kind = kind_of r.code; start = r.start; stop = r.next; next = r.next }
+head_of r = record { kind = kind_of r.code; start = r.start; next = r.next }
 
 -- the record that a head tells of
 abbrev pub token_of : List ℕ → ℕ → Head → Token
-token_of s at h = record { place = at; start = h.start; kind = h.kind; body = part s h.start h.stop }
+token_of s at h = record { place = at; start = h.start; kind = h.kind; body = part s h.start h.next }
 
 -- A record was read at a place: it is the next token and the rest follows; past the end there is none. A body that is cut short
 -- ends with the document.
@@ -21,7 +21,6 @@ pub record Read (s : List ℕ) (at : ℕ) (h : Head) : Type 0 where
   pub listed : tokens_from s at ≡ when ltb at (length s) then token_of s at h ∷ tokens_from s h.next else []
   pub low : at < length s → at < h.start
   pub order : h.start ≤ h.next
-  pub ends : h.stop ≡ h.next
   pub high : h.next ≤ length s
-  pub past : length s ≤ at → h ≡ record { kind = kind.Unknown; start = length s; stop = length s; next = length s }
+  pub past : length s ≤ at → h ≡ record { kind = kind.Unknown; start = length s; next = length s }
   pub whole : at < length s → record_fits (drop at s) ≡ true → (h.start ≡ at + 6) × (h.next ≡ at + (6 + size (drop at s)))

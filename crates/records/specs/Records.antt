@@ -102,6 +102,13 @@ is_end i (kind.Start b) = false
 is_end i (kind.End b) = eqb (index b) i
 is_end i kind.Unknown = false
 
+-- a record is the start or the end of the block with an index
+abbrev pub is_of : ℕ → Kind → Bool
+is_of i (kind.Text s) = false
+is_of i (kind.Start b) = eqb (index b) i
+is_of i (kind.End b) = eqb (index b) i
+is_of i kind.Unknown = false
+
 -- 'The document's text is its bodies joined.'
 unfoldable pub joined : List Token → List ℕ
 joined [] = []

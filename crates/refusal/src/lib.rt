@@ -36,7 +36,7 @@ pub enum Refusal {
 }
 
 impl Refusal {
-    // The number that 01 and 02 give it.
+    // The number that 01 and 02 give it. (A match and no cast: a case that holds a place has no number for `as`.)
     pub fn number(self) -> u32
         ensures { result ≡ refusal_number self }
     {

@@ -1,12 +1,11 @@
 -- Answers: the length where it lies in the room, 13 where it has passed it, and the room that is cleared after them. Assumes nothing.
-use Rattle.renderer.proofs.Names.{ℕ, ◌≤◌, ◌<◌, ◌≡◌, refl, sym, ap, ◌∙◌, List, [], length, Result, refused, ◌>>=◌, measured, seen, seen_in, seen-out}
+use Rattle.renderer.proofs.Names.{ℕ, ◌≤◌, ◌<◌, ◌≡◌, refl, sym, ap, ◌∙◌, List, length, Result, gives, refused, ◌>>=◌, measured, seen, seen_in, seen-out}
 use Rattle.renderer.proofs.Names.{Answer, Ok, Err}
-use Rattle.std.specs.Prelude.{IsErrAnd}
-use Rattle.std.proofs.lemmas.Result.{err_from_is_err_and}
 use Rattle.refusal.specs.declared.Refusal.TheVariants as refusal
 use Rattle.refusal.specs.declared.Refusal.{Refusal}
 use Rattle.renderer.specs.Rendered.{standing, Inside, filled}
 use Rattle.refusal.specs.Answers.{answered}
+use Rattle.room.specs.Lent.{Given}
 use Rattle.renderer.proofs.Clearing.{standing-measured}
 
 module _ (room : List ℕ) (len : ℕ) where
@@ -17,19 +16,22 @@ module _ (room : List ℕ) (len : ℕ) where
   pub answer_in : len ≤ length room → (standing room (Ok len) ≡ seen room len) × Inside (length room) (Ok len)
   answer_in h = (sym (seen_in room len h), h)
 
-abbrev pub no_form : ℕ → List ℕ → Result (List ℕ)
-no_form at x = refused 11 at
+-- 11 after a text that was refused by 13, and after one that stands there
+module _ (s : Result (List ℕ)) (at : ℕ) where
+  abbrev eleven : Result (List ℕ)
+  eleven = refused 11 at
 
--- after an answer that is no refusal comes 11, and a refusal goes on
-module _ (room : List ℕ) (at : ℕ) {s : Result (List ℕ)} where
-  pub then_no_form : (n : ℕ) → standing room (Ok n) ≡ s → no_form at [] ≡ (s >>= no_form at)
+  pub eleven_full : s ≡ refused 13 0 → refused 13 0 ≡ (s >>= λ _. eleven)
   unfolding ◌>>=◌
-  then_no_form n e = rw (← e) refl
+  eleven_full e = rw e
 
-  pub refused_before : (r : Answer ℕ Refusal) (a : Refusal) → IsErrAnd r (λ e. e ≡ a) → standing room (Err a) ≡ s
-      → (standing room r ≡ (s >>= no_form at)) × Inside (length room) r
+  pub eleven_given : Given s → eleven ≡ (s >>= λ _. eleven)
   unfolding ◌>>=◌
-  refused_before r a h e = let p = err_from_is_err_and r h in rw (p.1, p.2, ← e) (refl, tt)
+  eleven_given g = go s g
+    where
+      go : (r : Result (List ℕ)) → Given r → eleven ≡ (r >>= λ _. eleven)
+      go (gives o) g = refl
+      go (refused n p) g = absurd g
 
 -- what stands in the room for an answer, and the room cleared after it
 pub answer_cleared : (room new : List ℕ) (limit : ℕ) (a : Answer ℕ Refusal) (r : Result (List ℕ)) → length room ≡ limit → standing room a ≡ r → Inside limit a

@@ -60,7 +60,7 @@ module _ {S : Type 0} (turn : Turn S) (document : List ℕ) where
 
   -- the turn of a record that was read
   abbrev pub turned : ℕ → Head → S → Result S
-  turned at h = turn at h.start h.kind (part document h.start h.stop) (tokens_from document h.next)
+  turned at h = turn at h.start h.kind (part document h.start h.next) (tokens_from document h.next)
 
   -- its turn, and then the records from its end on
   pub walk_record : (at : ℕ) (h : Head) → Read document at h → at < length document → (s : S) → records at s ≡ (turned at h s >>= records h.next)

@@ -19,3 +19,7 @@ Inside room (Err a) = Unit {0}
 abbrev pub filled : ℕ → Result (List ℕ) → List ℕ
 filled room (gives x) = padded room x
 filled room (refused n p) = replicate room 0
+
+-- a refusal, as a rule gives it
+abbrev pub told : Refusal → Result (List ℕ)
+told a = refused (refusal_number a) (refusal_place a)

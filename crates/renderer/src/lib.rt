@@ -1,22 +1,26 @@
-// What the renderers share: their answer, and where the walk of a body ends.
+// What the renderers share: their answers, and where the walk of a body ends.
 
 #![tactic(auto)]
 
 ghost use Rattle.std.specs.Prelude.{◌≡◌, false, List, ℕ, ◌<◌, length};
 ghost use Rattle.splitter.specs.Answers.{chunk_of};
 ghost use Rattle.renderer.specs.Walk.{last};
-ghost use Rattle.renderer.specs.Rendered.{standing, filled, Inside};
+ghost use Rattle.renderer.specs.Rendered.{standing, filled, Inside, told};
 ghost use Rattle.base.specs.Result.{refused, ◌>>=◌ as bind};
 ghost use Rattle.room.specs.Room.{seen};
+ghost use Rattle.room.specs.Lent.{text_of};
 
 use refusal::Refusal;
+use room::Text;
 use splitter::Piece;
 
-// Zeros beyond the text, or everywhere after a refusal.
-pub fn clear_after(room: &mut [u8], answer: Result<usize, Refusal>)
-    ensures { room.new ≡ filled (length room.old) (standing room.old answer) }
+// An answer handed on, with zeros beyond the text, or everywhere after a refusal.
+pub fn cleared(answer: Result<usize, Refusal>, room: &mut [u8]) -> Result<usize, Refusal>
+    ensures answer { result ≡ answer }
+    ensures room { room.new ≡ filled (length room.old) (standing room.old answer) }
 {
     room::clear_from(room, answer.unwrap_or(0));
+    answer
 }
 
 // Whether a chunk ends the walk of its body: 'With `full` off, a paragraph chunk ends the walk of that body'.
@@ -26,7 +30,8 @@ pub fn ends_body(piece: Piece, full: bool) -> bool
     matches!(piece, Piece::Paragraph(_)) && !full
 }
 
-// The answer for a text up to a length: 13 where that has passed the room.
+// The answer for a text up to a length: 13 where that has passed the room. (`finish` has the same of a `Text`: the console's `Page` is none, and notes
+// and merged lists look at the length first.)
 pub fn answer(room: &[u8], len: usize) -> Result<usize, Refusal>
     ensures text { standing room.now result ≡ seen room.now len }
     ensures inside { Inside (length room.now) result }
@@ -37,11 +42,22 @@ pub fn answer(room: &[u8], len: usize) -> Result<usize, Refusal>
     Ok(len)
 }
 
-// Refusal 11 at a place, unless 13 was met before.
-pub fn no_form(room: &[u8], len: usize, at: usize) -> Result<usize, Refusal>
-    ensures text { standing room.now result ≡ bind (seen room.now len) (λ _. refused 11 at) }
-    ensures inside { Inside (length room.now) result }
+// The same for a text, whose room is its lender's again.
+pub fn finish(t: Text) -> Result<usize, Refusal>
+    ensures text { standing t.exit.0.now result ≡ (text_of t.entry).shown }
+    ensures inside { Inside (text_of t.entry).size result }
 {
-    answer(room, len)?;
-    Err(Refusal::NoForm(at))
+    let Text { room, len } = t;
+    answer(room, len)
+}
+
+// Refusal 11 at a place, unless 13 was met before.
+pub fn no_form(t: &Text, at: usize) -> Refusal
+    ensures { told result ≡ bind (text_of t.now).shown (λ _. refused 11 at) }
+{
+    if t.is_full() {
+        Refusal::NoRoom
+    } else {
+        Refusal::NoForm(at)
+    }
 }

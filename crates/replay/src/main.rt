@@ -3,19 +3,13 @@
 #![tactic(auto)]
 
 use recorded::operation::Operation;
-use recorded::{Call, run};
-use refusal::Refusal;
-use splitter::{Code, Cursor, Piece};
+use recorded::{Call, Case, makes, run};
+use splitter::Piece;
 use std::io;
 
-// Whether `check` answers as a case says.
-fn checks(document: &[u8], answer: &[u8]) -> bool {
-    let (number, place) = recorded::split_number(answer);
-    compared::is_verdict(document::check(document), number, recorded::number(place))
-}
-
 // A chunk as a list has it: a tag, where it starts, its length and its width.
-#[derive(Clone, Copy, PartialEq, Eq)]
+// (Numbers, 0 or 0xFFFF_FFFF where there is none, as the list has them: what is read is compared as it stands.)
+#[derive(Clone, Copy, Default, PartialEq, Eq)]
 struct Chunk {
     tag: u8,
     start: usize,
@@ -42,9 +36,7 @@ fn first_chunk<'a>(listed: &'a [u8]) -> (Chunk, &'a [u8]) {
 fn mark(tag: u8) -> Chunk {
     Chunk {
         tag,
-        start: 0,
-        size: 0,
-        width: 0,
+        ..Chunk::default()
     }
 }
 
@@ -63,7 +55,7 @@ fn chunk_of(body: &[u8], piece: Piece) -> Chunk {
             size: 1,
             width: 1,
         },
-        Piece::Raw(from, to, width) => Chunk {
+        Piece::Raw { from, to, width } => Chunk {
             tag: 0,
             start: from,
             size: to.wrapping_sub(from),
@@ -74,13 +66,10 @@ fn chunk_of(body: &[u8], piece: Piece) -> Chunk {
 
 // Whether a body's chunks are those listed, so many, and the list ends with them.
 fn has_chunks(body: &[u8], listed: &[u8], count: usize) -> bool {
-    let mut cursor = Cursor {
-        at: 0,
-        code: Code::No,
-    };
+    let mut chunks = splitter_iter::split(body);
     let mut rest = listed;
     for _ in 0..count {
-        let Some((piece, after)) = splitter::step_at(body, cursor) else {
+        let Some((piece, _)) = chunks.next() else {
             return false;
         };
         let (chunk, others) = first_chunk(rest);
@@ -88,81 +77,78 @@ fn has_chunks(body: &[u8], listed: &[u8], count: usize) -> bool {
             return false;
         }
         rest = others;
-        cursor = after;
     }
-    splitter::step_at(body, cursor).is_none() && rest.is_empty()
+    chunks.next().is_none() && rest.is_empty()
 }
 
 // Whether the splitter answers as a case says.
 fn splits(body: &[u8], answer: &[u8]) -> bool {
-    let (number, counted) = recorded::split_number(answer);
-    let (count, listed) = recorded::split_number(counted);
-    number == 0 && has_chunks(body, listed, count)
+    let (told, listed) = recorded::split_answer(answer);
+    told.is_ok_and(|count| has_chunks(body, listed, count))
 }
 
 // Whether `next_chunk` answers as a case says: what the chunk is and the cursor after it, where it begins, its length and its width.
 fn hands_out(call: Call, body: &[u8], answer: &[u8]) -> bool {
     let next = next_chunk::next_chunk(body, call.setting, u32::from(call.ticks));
-    let (number, rest) = recorded::split_number(answer);
-    let (at, rest) = recorded::split_number(rest);
-    let (ticks, rest) = recorded::split_number(rest);
-    let (start, rest) = recorded::split_number(rest);
-    let (length, rest) = recorded::split_number(rest);
-    let (width, rest) = recorded::split_number(rest);
     // `as`, since Rust has no From between u32 and usize
-    number == next.number as usize
-        && at == next.at
-        && ticks == next.ticks as usize
-        && start == next.start
-        && length == next.length
-        && width == next.width
-        && rest.is_empty()
+    let handed = [
+        next.number as usize,
+        next.at,
+        next.ticks as usize,
+        next.start,
+        next.length,
+        next.width,
+    ];
+    let mut rest = answer;
+    for n in handed {
+        let (listed, others) = recorded::split_number(rest);
+        if n != listed {
+            return false;
+        }
+        rest = others;
+    }
+    rest.is_empty()
 }
 
 // Whether the search for the tabstop answers as a case says.
 fn finds_tabstop(document: &[u8], answer: &[u8]) -> bool {
-    let (number, after) = recorded::split_number(answer);
-    let (at, tabstop) = recorded::split_number(after);
+    let (told, tabstop) = recorded::split_answer(answer);
     let tabstop = recorded::number(tabstop);
-    match console_tabstop::search_tabstop(document) {
-        Ok(t) => number == 0 && t.at == at && t.columns.0 == tabstop,
-        Err(a) => tabstop == 0 && compared::is_refusal(a, number, at),
-    }
-}
-
-// The call of a case, into a room: the console's where it is no other renderer's.
-fn render(
-    call: Call,
-    operation: Operation,
-    document: &[u8],
-    room: &mut [u8],
-) -> Result<usize, Refusal> {
-    let full = call.full;
-    match operation {
-        Operation::Html => html::render_html(document, full, call.css, room),
-        Operation::HtmlStrict => html::render_html_strict(document, full, call.css, room),
-        Operation::Markdown => markdown::render_markdown(document, full, room),
-        Operation::Roff => manpage::render_roff(document, room),
-        _ => console::render_console(document, call.settings(), room),
+    match (console_tabstop::search_tabstop(document), told) {
+        (Ok(t), Ok(at)) => t.at == at && t.columns.0 == tabstop,
+        (Err(a), Err(w)) => tabstop == 0 && compared::is_refusal(a, w),
+        _ => false,
     }
 }
 
 // Whether a call answers as its case says.
 fn agrees(case: &[u8]) -> bool {
-    let call = recorded::call_of(case);
-    let document = recorded::document_of(case);
-    let answer = recorded::answer_of(case);
-    let Ok(operation) = Operation::try_from(call.number) else {
+    let Case {
+        operation: Ok(operation),
+        call,
+        document,
+        answer,
+    } = Case::of(case)
+    else {
         return false;
     };
+    let (full, css) = (call.full, call.css);
     match operation {
-        Operation::Check => checks(document, answer),
-        Operation::Console
-        | Operation::Html
-        | Operation::HtmlStrict
-        | Operation::Markdown
-        | Operation::Roff => recorded::makes(call.room, answer, |room| {
-            render(call, operation, document, room)
+        Operation::Check => recorded::checks(document::check(document), answer),
+        Operation::Console => makes(call.room, answer, |room| {
+            console::render_console(document, call.settings(), room)
+        }),
+        Operation::Html => makes(call.room, answer, |room| {
+            html::render_html(document, full, css, room)
+        }),
+        Operation::HtmlStrict => makes(call.room, answer, |room| {
+            html::render_html_strict(document, full, css, room)
+        }),
+        Operation::Markdown => makes(call.room, answer, |room| {
+            markdown::render_markdown(document, full, room)
+        }),
+        Operation::Roff => makes(call.room, answer, |room| {
+            manpage::render_roff(document, room)
         }),
         Operation::Split => splits(document, answer),
         Operation::NextChunk => hands_out(call, document, answer),

@@ -3,90 +3,77 @@
 #![tactic(auto)]
 
 use recorded::operation::Operation;
-use recorded::{Call, run};
-use records::{Block, Style};
+use recorded::{Call, Case, run};
 use refusal::Refusal;
 use std::io;
 
-// A style or block that does not exist, which no list has.
-fn no_such() -> Result<usize, Refusal> {
-    Err(Refusal::UnknownKind(0))
-}
-
-fn write(room: &mut [u8], length: usize, style: usize, text: &[u8]) -> Result<usize, Refusal> {
-    match Style::try_from(style) {
-        Ok(s) => buffer::write_str(room, length, s, text),
-        Err(_) => no_such(),
-    }
-}
-
-// The call of a case: a block is closed where it is no other.
-fn build(
-    call: Call,
-    operation: Operation,
-    argument: &[u8],
-    length: usize,
-    room: &mut [u8],
-) -> Result<usize, Refusal> {
-    match (operation, Block::try_from(call.setting)) {
-        (Operation::Write, _) => write(room, length, call.setting, argument),
-        (Operation::Doc, _) => buffer_doc::doc(room, length, argument),
-        (Operation::EmDoc, _) => buffer_doc::em_doc(room, length, argument),
-        (Operation::Open, Ok(block)) => buffer::open_block(room, length, block),
-        (_, Ok(block)) => buffer::close_block(room, length, block),
-        (_, Err(_)) => no_such(),
-    }
+// The style or the block of a call; one that does not exist no list has.
+fn asked<T: TryFrom<usize>>(call: Call) -> Result<T, Refusal>
+where
+    T::Error: Drop,
+{
+    T::try_from(call.setting).map_err(|_| Refusal::UnknownKind(0))
 }
 
 // Whether the builder's answer is what a case says: the new length and document, or a refusal, after which the document is as before.
 fn is_built(built: Result<usize, Refusal>, room: &[u8], before: &[u8], answer: &[u8]) -> bool {
-    let (number, rest) = recorded::split_number(answer);
-    let (at, after) = recorded::split_number(rest);
-    let (length, document) = recorded::split_number(after);
-    match built {
-        Ok(n) => {
-            number == 0
-                && at == 0
-                && n == length
-                && document.len() == n
-                && recorded::keeps(room, document)
+    let (told, rest) = recorded::split_answer(answer);
+    match (built, told) {
+        (Ok(n), Ok(at)) => {
+            let (length, document) = recorded::split_number(rest);
+            at == 0 && n == length && document.len() == n && recorded::keeps(room, document)
         }
-        Err(a) => {
-            after.is_empty() && compared::is_refusal(a, number, at) && recorded::keeps(room, before)
+        (Err(a), Err(w)) => {
+            rest.is_empty() && compared::is_refusal(a, w) && recorded::keeps(room, before)
         }
+        _ => false,
     }
 }
 
 // Whether the builder answers as a case says; `listed` begins with the length so far and what the room holds of the document so far.
-fn builds(call: Call, operation: Operation, argument: &[u8], listed: &[u8]) -> bool {
-    let size = call.room;
-    let mut space = [0u8; 65536]; // a case that asks for a larger room counts as a difference
-    if space.len() < size {
-        return false;
-    }
+fn builds<F: FnOnce(&mut [u8], usize) -> Result<usize, Refusal>>(
+    size: usize,
+    listed: &[u8],
+    build: F,
+) -> bool
+    requires { F.IsAlwaysCallable build }
+{
     let (length, rest) = recorded::split_number(listed);
     let held = length.min(size);
     let before = base::get(rest, 0, held);
-    let room = &mut space[..size];
-    recorded::fill(room, before);
-    let built = build(call, operation, argument, length, room);
-    is_built(built, room, before, base::get_from(rest, held))
+    recorded::in_room(size, before, |room| {
+        let built = build(room, length);
+        is_built(built, room, before, base::get_from(rest, held))
+    })
 }
 
 // Whether a call answers as its case says.
 fn agrees(case: &[u8]) -> bool {
-    let call = recorded::call_of(case);
-    let Ok(operation) = Operation::try_from(call.number) else {
+    let Case {
+        operation: Ok(operation),
+        call,
+        document: argument,
+        answer: listed,
+    } = Case::of(case)
+    else {
         return false;
     };
     match operation {
-        Operation::Write | Operation::Open | Operation::Close | Operation::Doc | Operation::EmDoc =>
-            builds(
-                call,
-                operation,
-                recorded::document_of(case),
-                recorded::answer_of(case),
-            ),
+        Operation::Write => builds(call.room, listed, |room, length| {
+            buffer::write_str(room, length, asked(call)?, argument)
+        }),
+        Operation::Open => builds(call.room, listed, |room, length| {
+            buffer::open_block(room, length, asked(call)?)
+        }),
+        Operation::Close => builds(call.room, listed, |room, length| {
+            buffer::close_block(room, length, asked(call)?)
+        }),
+        Operation::Doc => builds(call.room, listed, |room, length| {
+            buffer_doc::doc(room, length, argument)
+        }),
+        Operation::EmDoc => builds(call.room, listed, |room, length| {
+            buffer_doc::em_doc(room, length, argument)
+        }),
         _ => false,
     }
 }

@@ -1,16 +1,27 @@
 -- Pieces that are pushed one after another, as what stands in a room. Assumes nothing.
-use Rattle.roff_escape.proofs.Names.{ℕ, ◌≡◌, refl, sym, ap, ◌∙◌, Bool, true, false, List, [], ◌∷◌, ◌++◌, when◌then◌else◌}
-use Rattle.roff_escape.proofs.Names.{pick, encode, bytes, Escape, special, special_no_newline, escape, line_start, at_newline}
+use Rattle.roff_escape.proofs.Names.{ℕ, ◌≡◌, refl, sym, ap, ◌∙◌, Bool, true, false, not, List, [], ◌∷◌, ◌++◌, when◌then◌else◌}
+use denote.Enum.Bare.{sameb}
+use Rattle.roff_escape.specs.contracts.escape.Escape.{the_type}
+use Rattle.roff_escape.proofs.Names.{pick, encode, bytes, Escape, unescaped_at_newline, spaces, special, special_no_newline}
+use Rattle.roff_escape.proofs.Names.{unescaped, escape, line_start, at_newline}
 use Rattle.roff_escape.proofs.Names.{Piece, piece, line_end, line_here, escape_all, line_after, font_escape, Laid, Composed, escaped, with_pieces}
-use Rattle.roff_escape.proofs.Names.{roff_of, pushed, composed, Lent, with_bytes, with_bytes_twice, with_none, ap₂}
+use Rattle.roff_escape.proofs.Names.{roff_of, pushed, with_escaped, with_line, composed, Lent, with_bytes, with_bytes_twice, with_none, ap₂}
 use Rattle.std.specs.Borrow.{GName}
 use Rattle.roff_escape.specs.declared.roff.Roff.{Roff}
 use Rattle.roff_escape.specs.declared.roff.Font.{Font}
 use Rattle.roff_escape.specs.declared.roff.Font.TheVariants as font
-use Rattle.roff_escape.proofs.Escaping.{laid_same}
+use Rattle.roff_escape.proofs.Escaping.{laid_same, escaped-none, escaped_then}
 use Rattle.roff_escape.proofs.Buffer.{all_append, after-append, all_one, after_one}
 
 -- The line end before a piece
+
+-- a mode is UnescapedAtNewline, or it is another
+pub newline_asked : (mode : Escape) (other : Bool) → other ≡ not (sameb the_type mode unescaped_at_newline) → at_newline mode ≡ not other
+newline_asked unescaped_at_newline other e = ap not (sym e)
+newline_asked spaces other e = ap not (sym e)
+newline_asked special other e = ap not (sym e)
+newline_asked special_no_newline other e = ap not (sym e)
+newline_asked unescaped other e = ap not (sym e)
 
 module _ (mode : Escape) (start : Bool) where
   pub no-line_fresh : start ≡ true → line_end mode start ≡ []
@@ -112,3 +123,25 @@ module _ (f : Font) where
   pub font_italic : f ≡ font.Italic → font_escape f ≡ 0x5C ∷ 0x66 ∷ 0x49 ∷ []
   unfolding font_escape bytes encode when◌then◌else◌
   font_italic e = rw e
+
+-- a line end, and then the bytes of a piece
+pub pushed_made : (mode : Escape) (x : List ℕ) (m n r : Composed) → n ≡ with_line mode m → r ≡ with_escaped mode x n → r ≡ pushed (piece mode x ∷ []) m
+pushed_made mode x m n r e w =
+    w ∙ ap (λ (v : Composed). with_escaped mode x v) e
+    ∙ payload_same m.loan m.strip (piece_made mode x m.payload (with_line mode m).payload (escaped mode x (with_line mode m).payload) refl refl refl)
+
+-- Bytes in a mode
+
+module _ (mode : Escape) where
+  -- nothing is left to go out
+  pub left-none : (m : Roff) (x : List ℕ) → x ≡ [] → with_escaped mode x (roff_of m) ≡ roff_of m
+  left-none m x e = payload_same m.text.ghost_name m.strip (escaped-none mode m.text.now m.fresh x e)
+
+  -- some bytes, and then some others
+  pub then-left : (v : Composed) (a b x : List ℕ) → x ≡ a ++ b → with_escaped mode b (with_escaped mode a v) ≡ with_escaped mode x v
+  then-left v a b x e = payload_same v.loan v.strip (escaped_then mode v.payload a b x e)
+
+  -- the first part of what is left went out
+  pub left_more : (v w r : Composed) (a b x y : List ℕ) → w ≡ with_escaped mode a v → x ≡ a ++ b
+      → with_escaped mode x v ≡ with_escaped mode y r → with_escaped mode b w ≡ with_escaped mode y r
+  left_more v w r a b x y e f s = ap (λ (u : Composed). with_escaped mode b u) e ∙ then-left v a b x f ∙ s

@@ -137,11 +137,6 @@ module _ (mode : Escape) where
       ∙ ap (λ (y : List ℕ). with_bytes y p.text) (sym (ap (escape mode p.fresh) e ∙ escape-append mode p.fresh a b)))
       (sym (ap (line_start mode p.fresh) e ∙ line-append mode p.fresh a b))
 
-  -- the first part of what is left went out
-  pub escaped_more : (p q r : Laid) (a b x y : List ℕ) → q ≡ escaped mode a p → x ≡ a ++ b → escaped mode x p ≡ escaped mode y r
-      → escaped mode b q ≡ escaped mode y r
-  escaped_more p q r a b x y w e s = ap (λ (v : Laid). escaped mode b v) w ∙ escaped_then p a b x e ∙ s
-
   -- a byte
   pub escaped_byte : (p : Laid) (c : ℕ) → escaped mode (c ∷ []) p ≡ laid (with_bytes (escape_byte mode p.fresh c) p.text) (starts_line mode c)
   unfolding escape line_start

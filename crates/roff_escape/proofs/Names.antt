@@ -10,7 +10,8 @@ unfoldable pub use Rattle.base.specs.Result.{◌>>=◌}
 unfoldable pub use Rattle.roff_escape.specs.Composer.{control0, font_escape, linebreak, plaintext, text}
 pub use Rattle.roff_escape.specs.Escape.{at_newline, spaces, special, special_no_newline, starts_line, unescaped, unescaped_at_newline}
 unfoldable pub use Rattle.roff_escape.specs.Escape.{backslash, escape, escape_byte, guard, line_start, preamble, replaced, spaces_byte, special_byte}
-pub use Rattle.roff_escape.specs.InnerParts.{Composed, Copies, Laid, as_it_is, composed, escaped, laid, pushed, roff_of, text_mode, with_pieces}
+pub use Rattle.roff_escape.specs.InnerParts.{Composed, Copies, Laid, as_it_is, composed, escaped, laid, pushed}
+pub use Rattle.roff_escape.specs.InnerParts.{roff_of, text_mode, with_escaped, with_line, with_pieces}
 unfoldable pub use Rattle.roff_escape.specs.InnerParts.{all_plain, control_name, plain}
 pub use Rattle.roff_escape.specs.Monoid.{Piece, piece}
 unfoldable pub use Rattle.roff_escape.specs.Monoid.{escape_all, line_after, line_end, line_here}

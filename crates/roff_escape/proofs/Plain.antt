@@ -9,9 +9,10 @@ use Rattle.roff_escape.proofs.Names.{starts_line, guard, backslash, replaced, es
 use Rattle.splitter.proofs.Before.{before-short}
 use Rattle.base.proofs.Parts.{part_end}
 use Rattle.splitter.specs.Split.{before}
-use Rattle.roff_escape.proofs.Escaping.{puts, puts_nothing, guard_none, backslash-none, replaced-other, laid_same, escaped_more}
+use Rattle.roff_escape.proofs.Escaping.{puts, puts_nothing, guard_none, backslash-none, replaced-other, laid_same}
+use Rattle.roff_escape.proofs.Composing.{left_more, payload_same}
 use Rattle.std.specs.Borrow.{GName}
-use Rattle.roff_escape.proofs.Names.{Laid, laid, escaped, Lent, Text, lent, lent_wrote, text_of, with_bytes, with_both}
+use Rattle.roff_escape.proofs.Names.{laid, escaped, Composed, composed, with_escaped, Lent, Text, lent, lent_wrote, text_of, with_bytes, with_both}
 
 -- One byte
 
@@ -160,10 +161,11 @@ text-part bytes from to stop e =
     (le_or_lt to (length bytes)))
 
 -- plain bytes within a line, of those that are left, went out
-pub text-plain : (strip start : Bool) (old new : Text) (r : Laid) (x y : List ℕ) (i k : ℕ) → start ≡ false → i ≤ length x
-    → Copies x i (text_of old) (text_of new) k → escaped (text_mode strip) (drop i x) (laid (text_of old) start) ≡ escaped (text_mode strip) y r
-    → escaped (text_mode strip) (drop k x) (laid (text_of new) start) ≡ escaped (text_mode strip) y r
-text-plain strip start old new r x y i k f inside c s =
+pub text-plain : (strip start stripping : Bool) (n : GName) (old new : Text) (r : Composed) (x y : List ℕ) (i k : ℕ) → start ≡ false → i ≤ length x
+    → Copies x i (text_of old) (text_of new) k
+    → with_escaped (text_mode strip) (drop i x) (composed n (laid (text_of old) start) stripping) ≡ with_escaped (text_mode strip) y r
+    → with_escaped (text_mode strip) (drop k x) (composed n (laid (text_of new) start) stripping) ≡ with_escaped (text_mode strip) y r
+text-plain strip start stripping n old new r x y i k f inside c s =
     let mode = text_mode strip in
     let run = take (k - i) (drop i x) in
     let on : i + (k - i) ≡ k = omega (arith, c.order) in
@@ -172,4 +174,4 @@ text-plain strip start old new r x y i k f inside c s =
     let out : laid (text_of new) start ≡ escaped mode run (laid (text_of old) start) =
     laid_same (puts _ _ run (escape mode start run) (ap (λ (b : Bool). escape mode b run) f ∙ escape-plain strip run c.plains) c.copied)
     (f ∙ sym (ap (λ (b : Bool). line_start mode b run) f ∙ line_plain strip run c.plains)) in
-    escaped_more mode (laid (text_of old) start) _ r run (drop k x) (drop i x) y out split s
+    left_more mode _ _ r run (drop k x) (drop i x) y (payload_same n stripping out) split s

@@ -8,7 +8,7 @@ use Rattle.room.specs.Lent.{Lent, text_of, with_bytes}
 use Rattle.roff_escape.specs.declared.escape.Escape.{Escape}
 use Rattle.roff_escape.specs.declared.roff.Roff.{Roff}
 use Rattle.roff_escape.specs.Escape.{unescaped_at_newline, spaces, special, special_no_newline, unescaped, escape, line_start, preamble}
-use Rattle.roff_escape.specs.Monoid.{Piece, piece, escape_all, line_after}
+use Rattle.roff_escape.specs.Monoid.{Piece, piece, line_end, line_here, escape_all, line_after}
 
 -- the mode of text, where line ends are stripped from it or not
 abbrev pub text_mode : Bool → Escape
@@ -66,6 +66,12 @@ begun n t = composed n (laid (with_bytes preamble t) true) false
 -- some bytes in a mode went out
 abbrev pub with_escaped : Escape → List ℕ → Composed → Composed
 with_escaped mode x m = composed m.loan (escaped mode x m.payload) m.strip
+
+-- a line end went out before a piece in a mode, where it asks for one
+abbrev pub with_line : Escape → Composed → Composed
+with_line mode m =
+    let p = m.payload in
+    composed m.loan (laid (with_bytes (line_end mode p.fresh) p.text) (line_here mode p.fresh)) m.strip
 
 -- some pieces were pushed
 abbrev pub pushed : List Piece → Composed → Composed

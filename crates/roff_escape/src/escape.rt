@@ -1,16 +1,16 @@
 // Escape bytes by roff's rules, into a lent room (src/buffer/manpage/escape.rs).
-ghost use Rattle.std.specs.Prelude.{◌≡◌, not, ◌&&◌, ◌+◌, ◌≤◌, min, length, take};
+ghost use Rattle.std.specs.Prelude.{◌≡◌, [], ◌∷◌, not, ◌&&◌, ◌+◌, ◌≤◌, min, length, take};
 ghost use Rattle.base.specs.Bytes.{part};
-ghost use Rattle.base.specs.Choice.{when◌then◌else◌ as choose};
 ghost use Rattle.room.specs.Lent.{text_of, with_bytes};
 ghost use Rattle.splitter.specs.Split.{before};
 ghost use Rattle.roff_escape.specs.Escape.{guard, backslash, replaced, special_byte, spaces_byte, escape_byte, starts_line};
-ghost use Rattle.roff_escape.specs.InnerParts.{text_mode, plain, Copies, laid, escaped};
+ghost use Rattle.roff_escape.specs.InnerParts.{text_mode, plain, Copies, roff_of, with_escaped};
 
+use crate::roff::Roff;
 use room::Text;
 
 // Escaping rules.
-#[derive(Clone, Copy)]
+#[derive(Clone, Copy, PartialEq, Eq)]
 pub enum Escape {
     // a line end first, unless a line starts here already
     UnescapedAtNewline,
@@ -22,6 +22,21 @@ pub enum Escape {
     SpecialNoNewline,
     // as it is
     Unescaped,
+}
+
+// How many bytes of text are copied at a time.
+const BLOCK: usize = 32;
+
+impl Escape {
+    // Whether the byte after this one counts as the first of a line.
+    pub fn starts_line(self, c: u8) -> bool
+        ensures { result ≡ starts_line self c }
+    {
+        match self {
+            Escape::SpecialNoNewline => false,
+            _ => c == b'\n',
+        }
+    }
 }
 
 // A full stop and an apostrophe are guarded at the start of a line.
@@ -77,7 +92,7 @@ fn put_space(t: &mut Text, c: u8)
 }
 
 // A byte in a mode.
-pub fn put_byte(t: &mut Text, mode: Escape, start: bool, c: u8)
+fn put_byte(t: &mut Text, mode: Escape, start: bool, c: u8)
     ensures { text_of t.new ≡ with_bytes (escape_byte mode start c) (text_of t.old) }
 {
     match mode {
@@ -89,26 +104,24 @@ pub fn put_byte(t: &mut Text, mode: Escape, start: bool, c: u8)
     }
 }
 
-// Whether the byte after this one counts as the first of a line.
-pub fn starts_line(mode: Escape, c: u8) -> bool
-    ensures { result ≡ starts_line mode c }
-{
-    match mode {
-        Escape::SpecialNoNewline => false,
-        _ => c == b'\n',
+impl<'a, 'b> Roff<'a, 'b> {
+    // A byte in a mode.
+    pub fn put_byte(&mut self, mode: Escape, c: u8)
+        ensures { roff_of self.new ≡ with_escaped mode (c ∷ []) (roff_of self.old) }
+    {
+        let text = &mut *self.text;
+        put_byte(text, mode, self.fresh, c);
+        self.fresh = mode.starts_line(c);
     }
-}
 
-// 'for &c in payload.as_bytes()': some bytes in a mode, after the start of a line or not; whether a line starts after them.
-pub fn escape_bytes(t: &mut Text, mode: Escape, start: bool, bytes: &[u8]) -> bool
-    ensures { laid (text_of t.new) result ≡ escaped mode bytes.now (laid (text_of t.old) start) }
-{
-    let mut fresh = start;
-    for &c in bytes {
-        put_byte(t, mode, fresh, c);
-        fresh = starts_line(mode, c);
+    // 'for &c in payload.as_bytes()': some bytes in a mode.
+    pub fn escape_bytes(&mut self, mode: Escape, bytes: &[u8])
+        ensures { roff_of self.new ≡ with_escaped mode bytes.now (roff_of self.old) }
+    {
+        for &c in bytes {
+            self.put_byte(mode, c);
+        }
     }
-    fresh
 }
 
 // A byte that text leaves as it is, save at the start of a line. No test hangs on another, so that the compiler makes them for 16 bytes at a time.
@@ -125,9 +138,9 @@ fn plain_here(fresh: bool, c: u8) -> bool
     !fresh && is_plain(c)
 }
 
-// Copies 32 bytes, of which those before the first that is not plain are taken, and at most so many; says how many. A local block stands between,
+// Copies a block, of which those before the first that is not plain are taken, and at most so many; says how many. A local block stands between,
 // since a compiler cannot tell that the two places do not overlap. What stands in the room past the text is free.
-fn copy_block(t: &mut Text, bytes: &[u8; 32], most: usize) -> usize
+fn copy_block(t: &mut Text, bytes: &[u8; BLOCK], most: usize) -> usize
     requires { t.old.len + 32 ≤ length t.old.room.now }
     ensures plain { result ≡ min most (length (before (λ c. not (plain c)) bytes.now)) }
     ensures text { text_of t.new ≡ with_bytes (take result bytes.now) (text_of t.old) }
@@ -135,7 +148,7 @@ fn copy_block(t: &mut Text, bytes: &[u8; 32], most: usize) -> usize
     let block = *bytes;
     let room = &mut *t.room;
     base::copy_from_slice(room, t.len, &block);
-    let k = most.min(runs::first_of(bytes, |c| !is_plain(c)));
+    let k = most.min(runs::first_of(&block, |c| !is_plain(c)));
     t.len += k;
     k
 }
@@ -151,37 +164,33 @@ fn copy_bytes(t: &mut Text, bytes: &[u8]) -> usize
     k
 }
 
-// Copies the plain bytes from a place up to another; says where it stopped. Whole blocks are copied, also where the run ends within one. The steps
-// are of up to 32 bytes and end within a block: a `for` over blocks would need the place, and the end of the run, beside it.
+// Copies the plain bytes from a place up to another; says where it stopped. Whole blocks are copied, also where the run ends within one, and past `stop`.
+// No `for` over the blocks of a record's body, with its last bytes one by one: pages of options took 1.3 of the time. So the text comes with what follows
+// it, here and below.
 fn copy_plain(t: &mut Text, bytes: &[u8], at: usize, stop: usize) -> usize
     requires { stop ≤ length bytes.now }
     ensures { Copies (take stop bytes.now) at (text_of t.old) (text_of t.new) result }
 {
     let mut i = at;
     while i < stop {
-        if t.room.len().saturating_sub(t.len) < 32 {
+        // no `saturating_sub`, with which the copy tests the room again: pages of options took up to 1.06 of the time
+        if t.room.len() < t.len || t.room.len() - t.len < BLOCK {
             return i + copy_bytes(t, &bytes[i..stop]);
         }
-        let Some(block) = bytes[i..].first_chunk::<32>() else {
+        let Some(block) = bytes[i..].first_chunk::<BLOCK>() else {
             return i + copy_bytes(t, &bytes[i..stop]);
         };
         let k = copy_block(t, block, stop - i);
         i += k;
-        if k < 32 {
+        if k < BLOCK {
             return i;
         }
     }
     i
 }
 
-// What a line end of text becomes: a space where line ends are stripped.
-fn line_byte(strip: bool) -> u8
-    ensures { result ≡ choose strip 0x20 0x0A }
-{
-    if strip { b' ' } else { b'\n' }
-}
-
-// A byte of text, where line ends are stripped or not. Most that are not plain are hyphens.
+// A byte of text, where line ends are stripped or not. Most that are not plain are hyphens. Not by `put_byte` in the mode of text, with which pages of
+// options took 1.04 of the time.
 fn put_text_byte(t: &mut Text, strip: bool, start: bool, c: u8)
     ensures { text_of t.new ≡ with_bytes (escape_byte (text_mode strip) start c) (text_of t.old) }
 {
@@ -189,42 +198,37 @@ fn put_text_byte(t: &mut Text, strip: bool, start: bool, c: u8)
         t.put_all(b"\\-");
         return;
     }
-    put_special(t, line_byte(strip), start, c);
+    let ends = if strip { b' ' } else { b'\n' };
+    put_special(t, ends, start, c);
 }
 
-// Whether the byte of text after this one counts as the first of a line.
-fn starts_text_line(strip: bool, c: u8) -> bool
-    ensures { result ≡ starts_line (text_mode strip) c }
-{
-    !strip && c == b'\n'
-}
-
-// The bytes of a text from a place up to another, as `escape_bytes` writes them; most are plain, and those are copied by runs. The steps
-// are runs, so no `for`.
-pub fn escape_text(
-    t: &mut Text,
-    strip: bool,
-    start: bool,
-    bytes: &[u8],
-    from: usize,
-    to: usize,
-) -> bool
-    ensures { laid (text_of t.new) result ≡ escaped (text_mode strip) (part bytes.now from to) (laid (text_of t.old) start) }
-{
-    let stop = to.min(bytes.len());
-    let mut fresh = start;
-    let mut i = from;
-    while i < stop {
-        if plain_here(fresh, bytes[i]) {
-            i = copy_plain(t, bytes, i, stop);
-            if stop <= i {
-                return fresh;
-            }
-        }
-        let c = bytes[i];
-        put_text_byte(t, strip, fresh, c);
-        fresh = starts_text_line(strip, c);
-        i += 1;
+impl<'a, 'b> Roff<'a, 'b> {
+    // A byte of text.
+    fn put_text_byte(&mut self, c: u8)
+        ensures { roff_of self.new ≡ with_escaped (text_mode self.old.strip) (c ∷ []) (roff_of self.old) }
+    {
+        let text = &mut *self.text;
+        put_text_byte(text, self.strip, self.fresh, c);
+        self.fresh = !self.strip && c == b'\n';
     }
-    fresh
+
+    // The bytes of a text from a place up to another, as `escape_bytes` writes them; most are plain, and those are copied by runs. The steps
+    // are runs, so no `for`.
+    pub fn escape_text(&mut self, bytes: &[u8], from: usize, to: usize)
+        ensures { roff_of self.new ≡ with_escaped (text_mode self.old.strip) (part bytes.now from to) (roff_of self.old) }
+    {
+        let stop = to.min(bytes.len());
+        let mut i = from;
+        while i < stop {
+            if plain_here(self.fresh, bytes[i]) {
+                let text = &mut *self.text;
+                i = copy_plain(text, bytes, i, stop);
+                if stop <= i {
+                    return;
+                }
+            }
+            self.put_text_byte(bytes[i]);
+            i += 1;
+        }
+    }
 }

@@ -1,25 +1,20 @@
 // The labelled buffer (src/buffer/manpage/monoid.rs). It is not stored: 'roff bytes are written as they arise', so that a piece goes through
 // `escape` as it is pushed. What stands for the buffer is the text, and whether a line starts after it.
 ghost use Rattle.std.specs.Prelude.{◌≡◌, [], ◌∷◌};
-ghost use Rattle.room.specs.Lent.{text_of, with_bytes};
-ghost use Rattle.roff_escape.specs.Escape.{at_newline, unescaped, line_start};
-ghost use Rattle.roff_escape.specs.Monoid.{piece, line_end, line_here};
-ghost use Rattle.roff_escape.specs.InnerParts.{as_it_is, laid, with_pieces};
+ghost use Rattle.roff_escape.specs.Escape.{unescaped, line_start};
+ghost use Rattle.roff_escape.specs.Monoid.{piece};
+ghost use Rattle.roff_escape.specs.InnerParts.{as_it_is, roff_of, with_line, pushed};
 
 use crate::escape::Escape;
-use room::Text;
+use crate::roff::Roff;
 
-fn at_newline(mode: Escape) -> bool
-    ensures { result ≡ at_newline mode }
-{
-    matches!(mode, Escape::UnescapedAtNewline)
-}
-
-// The modes in which every byte stays as it is.
-fn as_it_is(mode: Escape) -> bool
-    ensures { result ≡ as_it_is mode }
-{
-    matches!(mode, Escape::UnescapedAtNewline | Escape::Unescaped)
+impl Escape {
+    // The modes in which every byte stays as it is.
+    fn as_it_is(self) -> bool
+        ensures { result ≡ as_it_is self }
+    {
+        matches!(self, Escape::UnescapedAtNewline | Escape::Unescaped)
+    }
 }
 
 // Whether a line starts after bytes that stay as they are.
@@ -32,27 +27,31 @@ fn ends_line(start: bool, bytes: &[u8]) -> bool
     }
 }
 
-// A line end before what starts a line of its own; whether a line starts after that.
-fn new_line(t: &mut Text, start: bool, mode: Escape) -> bool
-    ensures text { text_of t.new ≡ with_bytes (line_end mode start) (text_of t.old) }
-    ensures line { result ≡ line_here mode start }
-{
-    if start || !at_newline(mode) {
-        return start;
+impl<'a, 'b> Roff<'a, 'b> {
+    // A line end before what starts a line of its own.
+    fn new_line(&mut self, mode: Escape)
+        ensures { roff_of self.new ≡ with_line mode (roff_of self.old) }
+    {
+        if self.fresh || mode != Escape::UnescapedAtNewline {
+            return;
+        }
+        let text = &mut *self.text;
+        text.put(b'\n');
+        self.fresh = true;
     }
-    t.put(b'\n');
-    true
-}
 
-// `FreeMonoid::push_str`, escaped at once, after the start of a line or not; whether a line starts after it. Bytes that stay as they are go out in one
-// write, which for a mark that is written out in the code is one test and one or two stores.
-pub fn push_str(t: &mut Text, start: bool, mode: Escape, bytes: &[u8]) -> bool
-    ensures { laid (text_of t.new) result ≡ with_pieces (piece mode bytes.now ∷ []) (laid (text_of t.old) start) }
-{
-    let fresh = new_line(t, start, mode);
-    if as_it_is(mode) {
-        t.put_all(bytes);
-        return ends_line(fresh, bytes);
+    // `FreeMonoid::push_str`, escaped at once. Bytes that stay as they are go out in one write, which for a mark that is written out in the code is one
+    // test and one or two stores.
+    pub fn push(&mut self, mode: Escape, bytes: &[u8])
+        ensures { roff_of self.new ≡ pushed (piece mode bytes.now ∷ []) (roff_of self.old) }
+    {
+        self.new_line(mode);
+        if mode.as_it_is() {
+            let text = &mut *self.text;
+            text.put_all(bytes);
+            self.fresh = ends_line(self.fresh, bytes);
+            return;
+        }
+        self.escape_bytes(mode, bytes);
     }
-    crate::escape::escape_bytes(t, mode, fresh, bytes)
 }

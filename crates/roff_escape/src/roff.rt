@@ -5,13 +5,14 @@ ghost use Rattle.room.specs.Lent.{text_of, with_bytes};
 ghost use Rattle.roff_escape.specs.Escape.{unescaped, preamble};
 ghost use Rattle.roff_escape.specs.Monoid.{piece};
 ghost use Rattle.roff_escape.specs.Composer.{font_escape, linebreak, control0, plaintext, text};
-ghost use Rattle.roff_escape.specs.InnerParts.{roff_of, with_escaped, pushed, stripped, control_name};
+ghost use Rattle.roff_escape.specs.InnerParts.{roff_of, pushed, stripped, control_name};
 
 use crate::escape::Escape;
 use room::Text;
 
 // `Roff`: the text and whether a line starts after it, which stand for its payload, and `strip_newlines`. The text is lent, since of one that is held
-// within two structs Rattle does not tell what its room is when they end.
+// within two structs Rattle does not tell what its room is when they end; with a room and a length here in its place, what writes a byte in `escape`
+// would be of a `Roff` and not of a text alone, and `room`'s functions would be called where its methods are.
 #[derive(Drop)]
 pub struct Roff<'a, 'b> {
     pub text: &'a mut Text<'b>,
@@ -27,14 +28,16 @@ pub enum Font {
     Italic,
 }
 
-// The letter of a font in its escape.
-fn letter(font: Font) -> u8
-    ensures { font_escape font ≡ 0x5C ∷ 0x66 ∷ result ∷ [] }
-{
-    match font {
-        Font::Roman => b'R',
-        Font::Bold => b'B',
-        Font::Italic => b'I',
+impl Font {
+    // Its letter in its escape.
+    fn letter(self) -> u8
+        ensures { font_escape self ≡ 0x5C ∷ 0x66 ∷ result ∷ [] }
+    {
+        match self {
+            Font::Roman => b'R',
+            Font::Bold => b'B',
+            Font::Italic => b'I',
+        }
     }
 }
 
@@ -51,31 +54,6 @@ impl<'a, 'b> Roff<'a, 'b> {
         ensures { roff_of self.new ≡ stripped state (roff_of self.old) }
     {
         self.strip = state;
-    }
-
-    // `self.payload.push_str`
-    pub fn push(&mut self, mode: Escape, bytes: &[u8])
-        ensures { roff_of self.new ≡ pushed (piece mode bytes.now ∷ []) (roff_of self.old) }
-    {
-        let text = &mut *self.text;
-        self.fresh = crate::monoid::push_str(text, self.fresh, mode, bytes);
-    }
-
-    // A byte in a mode.
-    pub fn put_byte(&mut self, mode: Escape, c: u8)
-        ensures { roff_of self.new ≡ with_escaped mode (c ∷ []) (roff_of self.old) }
-    {
-        let text = &mut *self.text;
-        crate::escape::put_byte(text, mode, self.fresh, c);
-        self.fresh = crate::escape::starts_line(mode, c);
-    }
-
-    // Some bytes in a mode.
-    pub fn escape_bytes(&mut self, mode: Escape, bytes: &[u8])
-        ensures { roff_of self.new ≡ with_escaped mode bytes.now (roff_of self.old) }
-    {
-        let text = &mut *self.text;
-        self.fresh = crate::escape::escape_bytes(text, mode, self.fresh, bytes);
     }
 
     // What a control line begins with.
@@ -105,7 +83,7 @@ impl<'a, 'b> Roff<'a, 'b> {
     fn put_font(&mut self, font: Font)
         ensures { roff_of self.new ≡ pushed (piece unescaped (font_escape font) ∷ []) (roff_of self.old) }
     {
-        let mark: [u8; 3] = [b'\\', b'f', letter(font)];
+        let mark: [u8; 3] = [b'\\', b'f', font.letter()];
         self.push(Escape::Unescaped, &mark);
     }
 
@@ -113,11 +91,11 @@ impl<'a, 'b> Roff<'a, 'b> {
     fn plaintext(&mut self, bytes: &[u8], from: usize, to: usize)
         ensures { roff_of self.new ≡ pushed (plaintext self.old.strip (part bytes.now from to) ∷ []) (roff_of self.old) }
     {
-        let text = &mut *self.text;
-        self.fresh = crate::escape::escape_text(text, self.strip, self.fresh, bytes, from, to);
+        self.escape_text(bytes, from, to);
     }
 
-    // The bytes of a text from a place up to another, in a font. More of the text is read than goes out, in blocks: so it comes whole.
+    // The bytes of a text from a place up to another, in a font. More of the text is read than goes out, in blocks: so it comes whole. With a record's
+    // body alone, whose last bytes go one by one, pages of options took 1.3 of the time; with the text from its place on and a length, 1.0 to 1.1.
     pub fn text(&mut self, font: Font, bytes: &[u8], from: usize, to: usize)
         ensures { roff_of self.new ≡ pushed (text self.old.strip font (part bytes.now from to)) (roff_of self.old) }
     {

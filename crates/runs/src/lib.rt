@@ -9,7 +9,8 @@ ghost use Rattle.splitter.specs.Split.{before};
 ghost use Rattle.std.specs.List.{list_any};
 ghost use Rattle.runs.specs.InnerRuns.{among, Reached};
 
-// Whether a byte is one of four. No test hangs on another, so that the compiler makes them for 16 bytes at a time.
+// Whether a byte is one of four. No test hangs on another, so that the compiler makes them for 16 bytes at a time. (Four bytes and no test as a parameter,
+// here and below: with one, and with `as_chunks::<16>()` and `for` in the place of `whole_blocks`, HTML runs 1.5 % more instructions.)
 fn is_among(x: u8, a: u8, b: u8, c: u8, d: u8) -> bool
     ensures { result ≡ among a b c d x }
 {
@@ -24,7 +25,8 @@ fn marked(s: &[u8], at: usize, a: u8, b: u8, c: u8, d: u8) -> bool
     base::any(&s[at..at + 16], |x| is_among(x, a, b, c, d))
 }
 
-// How far on from a place there are whole blocks of 16 bytes that hold none of the four.
+// How far on from a place there are whole blocks of 16 bytes that hold none of the four. (A text and a place, since `run_end` answers a place in
+// the text; of the rest it would be a sum. No `as_chunks`, for the reason at `is_among`.)
 fn whole_blocks(s: &[u8], at: usize, a: u8, b: u8, c: u8, d: u8) -> usize
     requires { at ≤ length s.now }
     ensures { Reached (among a b c d) s.now at result }
@@ -53,7 +55,8 @@ pub fn run_end(s: &[u8], at: usize, a: u8, b: u8, c: u8, d: u8) -> usize
     i + found.unwrap_or(rest.len())
 }
 
-// How many of 32 bytes stand before the first that passes a test. No branch hangs on a byte: the least place is kept.
+// How many of 32 bytes stand before the first that passes a test. No branch hangs on a byte, and the least place stays: by `position` roff runs 57 to 66 %
+// more instructions.
 pub fn first_of<F: Fn(u8) -> bool>(block: &[u8; 32], test: F) -> usize
     requires { F.IsAlwaysCallable test }
     ensures { (p : ℕ → Bool) → AnswersAs F.post test p → result ≡ length (before p block.now) }

@@ -6,23 +6,22 @@ use lib.Seq.{length-take-le}
 use native.Mathlib.Nat.{sub-zero}
 use native.Mathlib.Omega.{arith}
 use borrow.Author.Tests.{le-leb, lt-leb}
-use Rattle.base.specs.Bytes.{part}
 use Rattle.base.specs.Result.{Result, gives, refused, ◌>>=◌}
 use Rattle.room.specs.Room.{padded, extended}
 use Rattle.refusal.specs.Answers.{answered}
 use Rattle.refusal.specs.declared.Refusal.{Refusal}
 use Rattle.renderer.specs.Rendered.{filled}
-use Rattle.compared.specs.InnerCompared.{is_rendered, is_answer}
+use Rattle.compared.specs.InnerCompared.{asked, is_rendered}
+use Rattle.compared.specs.declared.Refused.{Refused}
 use Rattle.compared.proofs.Answers.{rendered-by}
 use Rattle.compared.proofs.Comparing.{and_no}
-use Rattle.std.specs.Borrow.{GName}
+use Rattle.std.specs.Borrow.{Bor, GName}
 use Rattle.room.specs.Lent.{Lent, lent_empty, with_bytes}
 use Rattle.room.proofs.Lents.{with_both, sees}
-use Rattle.sample_calls.specs.InnerCalls.{by_letter, letter_of, wanted_text, agrees}
-use Rattle.std.specs.Prelude.{Result as Answer, Ok, Err}
+use Rattle.sample_calls.specs.InnerCalls.{by_letter, letter_of, wanted_text, wanted_of, agrees}
+use Rattle.std.specs.Prelude.{Result as Answer, Ok, Err, MatchResult, IsOkAnd, drop}
 use Rattle.sample_calls.specs.declared.Call.{Call}
 use Rattle.sample_calls.specs.declared.Call.TheVariants as call
-use Rattle.sample_calls.specs.declared.Refused.{Refused}
 
 -- what a call answers and leaves in its room is what a rule does
 abbrev pub By : Answer ℕ Refusal → ℕ → List ℕ → Result (List ℕ) → Type 0
@@ -40,39 +39,40 @@ pub cleared_refused : (n : ℕ) (room after : List ℕ) (x : Result (List ℕ)) 
 cleared_refused n room after x k p e f = rw f (e ∙ cleared n room)
 
 -- the wanted text of a call that is not roff's
-pub text-other : (asked : Call) (text : List ℕ) (size : ℕ) → (asked ≡ call.Roff → ⊥) → part text 35 size ≡ wanted_text (letter_of asked) text size
+pub text_other : (asked : Call) (text : List ℕ) → (asked ≡ call.Roff → ⊥) → drop 35 text ≡ wanted_text (letter_of asked) text
 unfolding wanted_text when◌then◌else◌
-text-other call.Check text size h = refl
-text-other call.Console text size h = refl
-text-other call.Brief text size h = refl
-text-other call.Html text size h = refl
-text-other call.StrictHtml text size h = refl
-text-other call.Markdown text size h = refl
-text-other call.Roff text size h = absurd (h refl)
+text_other call.Check text h = refl
+text_other call.Console text h = refl
+text_other call.Brief text h = refl
+text_other call.Html text h = refl
+text_other call.StrictHtml text h = refl
+text_other call.Markdown text h = refl
+text_other call.Roff text h = absurd (h refl)
+
+-- what is wanted, where of a text is wanted what a call wants of it
+pub asked_map : (letter : ℕ) {P : Bor (List ℕ) → Bor (List ℕ) → Type 0} (w m : Answer (Bor (List ℕ)) Refused)
+    → MatchResult w (λ x. IsOkAnd m (P x)) (λ e. m ≡ Err e) → ((x y : Bor (List ℕ)) → P x y → y.now ≡ wanted_text letter x.now)
+    → asked m ≡ wanted_of letter (asked w)
+asked_map letter (Ok x) (Ok y) h k = ap gives (k x y h)
+asked_map letter (Ok x) (Err e) h k = absurd h
+asked_map letter (Err e) m h k = rw h refl
 
 -- the answer beside the wanted one
-
-module _ (letter width n : ℕ) (document text : List ℕ) (r : Answer ℕ Refusal) (room : List ℕ) (by : By r n room (by_letter letter width n document)) where
-  pub wanted_refusal : (w : Refused) → is_rendered r room w.number w.place [] ≡ is_wanted letter width n document (Err w) text
+module _ (letter width n : ℕ) (document : List ℕ) (w : Result (List ℕ)) where
+  pub wanted-by : (r : Answer ℕ Refusal) (room : List ℕ) → By r n room (by_letter letter width n document)
+      → is_rendered r room (wanted_of letter w) ≡ is_wanted letter width n document w
   unfolding is_wanted
-  wanted_refusal w = rendered-by r n w.number w.place [] room _ by.0 by.1
+  wanted-by r room by = rendered-by r n room _ (wanted_of letter w) by.0 by.1
 
-  pub wanted-size : (size : ℕ) (x : List ℕ) → x ≡ wanted_text letter text size
-      → is_rendered r room 0 (length x) x ≡ is_wanted letter width n document (Ok size) text
-  unfolding is_wanted
-  wanted-size size x f =
-      rendered-by r n 0 (length x) x room _ by.0 by.1 ∙ ap (λ (t : List ℕ). is_answer n (by_letter letter width n document) 0 (length t) t) f
-
-module _ (letter width n : ℕ) (document : List ℕ) (w : Answer ℕ Refused) (text : List ℕ) where
-  pub agrees-no : is_call letter ≡ false → false ≡ agrees letter width n document w text
+  pub agrees_no : is_call letter ≡ false → false ≡ agrees letter width n document w
   unfolding agrees
-  agrees-no e = rw e
+  agrees_no e = rw e
 
-  pub agrees_large : 512 < n → false ≡ agrees letter width n document w text
+  pub agrees_large : 512 < n → false ≡ agrees letter width n document w
   unfolding agrees
-  agrees_large h = sym (ap (λ b. b && is_wanted letter width n document w text) (and_no (is_call letter) (lt-leb n 512 h)))
+  agrees_large h = sym (ap (λ b. b && is_wanted letter width n document w) (and_no (is_call letter) (lt-leb n 512 h)))
 
-  pub agrees-by : is_call letter ≡ true → n ≤ 512 → is_wanted letter width n document w text ≡ agrees letter width n document w text
+  pub agrees-by : is_call letter ≡ true → n ≤ 512 → is_wanted letter width n document w ≡ agrees letter width n document w
   unfolding agrees
   agrees-by e h = rw (e, le-leb n 512 h)
 

@@ -1,5 +1,6 @@
 -- Names of other crates and libraries that the proofs of this crate cite, by where they are from.
-pub use Prim.Native.Nat.{◌-◌, ◌<◌, ◌≤◌, ℕ}
+unfoldable pub use Rattle.base.specs.Choice.{when◌then◌else◌ as choose}
+pub use Prim.Native.Nat.{◌<◌, ◌≤◌, ℕ}
 unfoldable pub use Rattle.base.specs.Choice.{when◌then◌else◌}
 pub use Rattle.base.specs.Result.{measured}
 unfoldable pub use Rattle.sample_calls.specs.InnerCalls.{is_call, is_wanted}

@@ -1,6 +1,5 @@
 -- A call of the list of samples, whose first lines tell its form, beside the wanted answer. No rule of 01 stands here.
-use Rattle.std.specs.Prelude.{ℕ, Bool, true, false, ◌&&◌, List, [], leb, eqb, length, Result, Ok, Err}
-use Rattle.base.specs.Bytes.{part}
+use Rattle.std.specs.Prelude.{ℕ, Bool, true, false, ◌&&◌, List, leb, eqb, drop}
 use Rattle.base.specs.Choice.{when◌then◌else◌}
 use Rattle.base.specs.Result as answer
 use Rattle.document.specs.Document.{check}
@@ -10,7 +9,6 @@ use Rattle.html_rules.specs.Html.{html}
 use Rattle.html_rules.specs.Markdown.{markdown}
 use Rattle.manpage.specs.Roff.{roff}
 use Rattle.compared.specs.InnerCompared.{is_answer}
-use Rattle.sample_calls.specs.declared.Refused.{Refused}
 use Rattle.sample_calls.specs.declared.Call.{Call}
 use Rattle.sample_calls.specs.declared.Call.TheVariants as call
 
@@ -47,16 +45,19 @@ letter_of call.StrictHtml = 0x73
 letter_of call.Markdown = 0x6D
 letter_of call.Roff = 0x72
 
--- '= the wanted text, for roff after the preamble': it stands with the preamble before it
-unfoldable pub wanted_text : ℕ → List ℕ → ℕ → List ℕ
-wanted_text letter text size = when eqb letter 0x72 then part text 0 size else part text 35 size
+-- '= the wanted text, for roff after the preamble': of one that begins with the preamble
+unfoldable pub wanted_text : ℕ → List ℕ → List ℕ
+wanted_text letter text = when eqb letter 0x72 then text else drop 35 text
 
--- the rules answer as wanted: the text, or '! 10 60 the wanted refusal and its place'
-unfoldable pub is_wanted : ℕ → ℕ → ℕ → List ℕ → Result ℕ Refused → List ℕ → Bool
-is_wanted letter width n document (Ok size) text =
-    is_answer n (by_letter letter width n document) 0 (length (wanted_text letter text size)) (wanted_text letter text size)
-is_wanted letter width n document (Err r) text = is_answer n (by_letter letter width n document) r.number r.place []
+-- .. or '! 10 60 the wanted refusal and its place'
+abbrev pub wanted_of : ℕ → answer.Result (List ℕ) → answer.Result (List ℕ)
+wanted_of letter (answer.gives text) = answer.gives (wanted_text letter text)
+wanted_of letter (answer.refused k p) = answer.refused k p
+
+-- the rules answer as wanted
+unfoldable pub is_wanted : ℕ → ℕ → ℕ → List ℕ → answer.Result (List ℕ) → Bool
+is_wanted letter width n document w = is_answer n (by_letter letter width n document) (wanted_of letter w)
 
 -- .. to a call, in a room of at most 512 bytes
-unfoldable pub agrees : ℕ → ℕ → ℕ → List ℕ → Result ℕ Refused → List ℕ → Bool
-agrees letter width n document w text = is_call letter && leb n 512 && is_wanted letter width n document w text
+unfoldable pub agrees : ℕ → ℕ → ℕ → List ℕ → answer.Result (List ℕ) → Bool
+agrees letter width n document w = is_call letter && leb n 512 && is_wanted letter width n document w

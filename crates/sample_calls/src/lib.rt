@@ -4,6 +4,7 @@
 
 ghost use Rattle.std.specs.Prelude.{◌≡◌, MatchOption, true, false, [], ◌++◌, length};
 ghost use Rattle.base.specs.Result.{measured};
+ghost use Rattle.compared.specs.InnerCompared.{asked};
 ghost use Rattle.document.specs.Document.{check};
 ghost use Rattle.refusal.specs.Answers.{answered};
 ghost use Rattle.renderer.specs.Rendered.{filled};
@@ -12,30 +13,21 @@ ghost use Rattle.roff_escape.specs.Escape.{preamble};
 ghost use Rattle.sample_lines.specs.InnerLines.{text_from};
 ghost use Rattle.sample_calls.specs.InnerCalls.{by_letter, letter_of, is_call, wanted_text, is_wanted, agrees};
 
+use compared::Refused;
 use console_rules::{Measure, Settings};
 use refusal::Refusal;
 use room::Text;
 
-// A wanted refusal: its number and place.
-#[derive(Clone, Copy)]
-pub struct Refused {
-    pub number: usize,
-    pub place: usize,
-}
-
-// The wanted answer: the size of a text, with roff's preamble before it, or a refusal.
-pub type Wanted = Result<usize, Refused>;
-
-// The bytes of roff's preamble.
-const PREAMBLE: usize = 35;
+// What stands before roff's text. (Its bytes stand here and in `roff_escape`: what is wanted takes nothing from the renderer that it is compared with.)
+const PREAMBLE: &[u8] = b".ie \\n(.g .ds Aq \\(aq\n.el .ds Aq '\n";
 
 // The wanted text of a line `=`, with roff's preamble before it.
 pub fn put_wanted(text: &mut [u8], line: &[u8]) -> usize
     ensures { seen text.new result ≡ extended (length text.old) (preamble ++ text_from line.now 2) [] }
 {
     let mut t = Text::new(text);
-    t.put_all(b".ie \\n(.g .ds Aq \\(aq\n.el .ds Aq '\n");
-    sample_lines::put_text(&mut t, line, 2);
+    t.put_all(PREAMBLE);
+    sample_lines::put_text(&mut t, base::get_from(line, 2));
     t.finish()
 }
 
@@ -51,7 +43,8 @@ enum Call {
     Roff,
 }
 
-// The call that a letter stands for.
+// The call that a letter stands for. (No `TryFrom`: it would need a type for the error, of which the one caller has no use.)
+#[tactic(auto, unfolding(crate::specs::InnerCalls::is_call, crate::proofs::Names::choose))]
 fn call_of(letter: u8) -> Option<Call>
     ensures { MatchOption result (is_call letter ≡ false) (λ call. (letter ≡ letter_of call) × (is_call letter ≡ true)) }
 {
@@ -67,13 +60,14 @@ fn call_of(letter: u8) -> Option<Call>
     }
 }
 
-// The wanted text for a call.
-fn wanted_text<'a>(call: Call, text: &'a [u8], size: usize) -> &'a [u8]
-    ensures { result.now ≡ wanted_text (letter_of call) text.now size }
+// The wanted text for a call, of one that begins with the preamble.
+#[tactic(auto, using(crate::proofs::Calls::text_other), unfolding(crate::specs::InnerCalls::wanted_text, crate::proofs::Names::choose))]
+fn wanted_text<'a>(call: Call, text: &'a [u8]) -> &'a [u8]
+    ensures { result.now ≡ wanted_text (letter_of call) text.now }
 {
     match call {
-        Call::Roff => base::get(text, 0, size),
-        _ => base::get(text, PREAMBLE, size),
+        Call::Roff => text,
+        _ => base::get_from(text, PREAMBLE.len()),
     }
 }
 
@@ -87,7 +81,7 @@ fn check_in(document: &[u8], room: &mut [u8]) -> Result<usize, Refusal>
     Ok(0)
 }
 
-// The console in bytes, `full` or not.
+// The console in bytes, `full` or not. (As in `sefgrunn` and `recorded`: one function for the three would stand in `console_rules`, where no function stands.)
 fn settings(width: usize, full: bool) -> Settings
     ensures { result ≡ record { width = width; full = full; measure = Measure.Bytes } }
 {
@@ -99,6 +93,7 @@ fn settings(width: usize, full: bool) -> Settings
 }
 
 // A call.
+#[tactic(auto, unfolding(crate::specs::InnerCalls::by_letter, crate::proofs::Names::choose))]
 fn called(call: Call, document: &[u8], width: usize, room: &mut [u8]) -> Result<usize, Refusal>
     ensures answer { answered result ≡ measured (by_letter (letter_of call) width (length room.old) document.now) }
     ensures room { room.new ≡ filled (length room.old) (by_letter (letter_of call) width (length room.old) document.now) }
@@ -119,32 +114,26 @@ fn is_wanted(
     call: Call,
     width: usize,
     document: &[u8],
-    w: Wanted,
-    text: &[u8],
+    wanted: Result<&[u8], Refused>,
     room: &mut [u8],
 ) -> bool
-    ensures { result ≡ is_wanted (letter_of call) width (length room.old) document.now w text.now }
+    ensures { result ≡ is_wanted (letter_of call) width (length room.old) document.now (asked wanted.entry) }
 {
     let answer = called(call, document, width, room);
-    match w {
-        Ok(size) => {
-            let wanted = wanted_text(call, text, size);
-            compared::is_rendered(answer, room, 0, wanted.len(), wanted)
-        }
-        Err(r) => compared::is_rendered(answer, room, r.number, r.place, b""),
-    }
+    compared::is_rendered(answer, room, wanted.map(|text| wanted_text(call, text)))
 }
 
-// Whether a letter stands for a call that answers as wanted, in a room of so many bytes, 512 at most.
+// Whether a letter stands for a call that answers as wanted, a text that begins with the preamble or a refusal, in a room of so many bytes, 512 at most.
+// (An array: no heap is used, as in the library.)
+#[tactic(auto, using(crate::proofs::Calls::agrees_no))]
 pub fn agrees(
     letter: u8,
     width: usize,
     size: usize,
     document: &[u8],
-    w: Wanted,
-    text: &[u8],
+    wanted: Result<&[u8], Refused>,
 ) -> bool
-    ensures { result ≡ agrees letter width size document.now w text.now }
+    ensures { result ≡ agrees letter width size document.now (asked wanted.entry) }
 {
     let Some(call) = call_of(letter) else {
         return false;
@@ -153,5 +142,5 @@ pub fn agrees(
         return false;
     }
     let mut space = [0xA5u8; 512];
-    is_wanted(call, width, document, w, text, &mut space[..size])
+    is_wanted(call, width, document, wanted, &mut space[..size])
 }

@@ -1,7 +1,6 @@
 -- What a line adds to a document, by its letter. Assumes nothing.
 use Rattle.sample_lines.proofs.Names.{ℕ, suc, ◌+◌, ◌-◌, ◌/◌, ◌%◌, ◌≤◌, ◌<◌, ◌≡◌, ap, ◌∙◌, List, [], ◌∷◌, ◌++◌, append-nil, length}
-use Rattle.sample_lines.proofs.Names.{arith, ap₂, number_at}
-use Rattle.sample_lines.proofs.Names.{next_number, Number, repeated}
+use Rattle.sample_lines.proofs.Names.{arith, ap₂, two_numbers, repeated}
 use Rattle.sample_lines.specs.InnerAdding.{head, text_record, block_records}
 use Rattle.room.specs.Lent.{Lent, with_bytes}
 use Rattle.room.proofs.Lents.{with_both, with_same}
@@ -32,7 +31,6 @@ record_wrote old mid new kind x size a b e f =
     with_same new old _ _ (ap (λ (l : List ℕ). l ++ x) (repeated_once _ ∙ ap₂ head a b)) (with_both old mid new _ x e f)
 
 -- block records, of the numbers that stand in the line
-pub blocks_are : (first : ℕ) (line : List ℕ) {n m : Number} → n ≡ number_at line 2 → m ≡ next_number line n
-    → repeated m.value (head 0 (first + n.value)) ≡ block_records first line
+pub blocks_are : (first : ℕ) (line : List ℕ) {n : ℕ × ℕ} → n ≡ two_numbers line → repeated n.1 (head 0 (first + n.0)) ≡ block_records first line
 unfolding block_records
-blocks_are first line e f = rw (f, e)
+blocks_are first line e = rw e

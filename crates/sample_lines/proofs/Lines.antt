@@ -1,36 +1,33 @@
 -- The numbers and the text of a line, one byte at a time. Assumes nothing.
-use Rattle.sample_lines.proofs.Names.{ℕ, zero, suc, ◌+◌, ◌*◌, ◌-◌, ◌≤◌, ◌<◌, ◌≡◌, refl, sym, ap, ap₂, ◌∙◌, Bool, true, false, ◌&&◌, List}
-use Rattle.sample_lines.proofs.Names.{[], ◌∷◌, leb, eqb, length, drop, get_or, drop_of_length-le, arith, le-leb, lt-leb, eq-eqb, ne_eqb}
+use Rattle.sample_lines.proofs.Names.{ℕ, zero, suc, ◌+◌, ◌*◌, ◌-◌, ◌≤◌, ◌<◌, ◌≡◌, refl, sym, ap, ◌∙◌, Bool, true, false, ◌&&◌, List}
+use Rattle.sample_lines.proofs.Names.{[], ◌∷◌, leb, eqb, length, drop, get_or, arith, le-leb, lt-leb, eq-eqb, ne_eqb}
 use Rattle.sample_lines.proofs.Names.{if_true, if_false, and_both, same, number_from, hex_digit, written}
-use Rattle.std.proofs.Common.{◌==◌, nat_le, add-one, drop-cons}
+use Rattle.std.proofs.Common.{◌==◌, nat_le}
 use Rattle.std.proofs.lemmas.List.{nil_from_length}
 use Rattle.base.specs.Choice.{when◌then◌else◌, among}
 use Rattle.compared.proofs.Comparing.{and_no}
 
--- A number from a place on
+-- The number that some bytes begin with
+pub number_end : (value : ℕ) (s : List ℕ) → length s ≡ 0 → number_from value s ≡ (value, s)
+unfolding number_from
+number_end value s e = rw (nil_from_length s e) refl
 
-module _ (line : List ℕ) (value at : ℕ) where
-  pub number-end : length line ≤ at → record { value = value; next = at } ≡ number_from value at (drop at line)
+module _ (value b : ℕ) (s xs : List ℕ) (e : xs ≡ b ∷ s) where
+  pub number_more : (digit : ℕ) → digit ≡ b - 0x30 → among 0x30 0x39 b ≡ true → value ≤ 1_000_000
+      → number_from value xs ≡ number_from (value * 10 + digit) s
   unfolding number_from
-  number-end h = rw (drop_of_length-le line h)
+  number_more digit f a c =
+      ap (number_from value) e ∙ if_true _ _ (and_both a (le-leb value 1_000_000 c)) ∙ ap (λ (d : ℕ). number_from (value * 10 + d) s) (sym f)
 
-  module _ (h : at < length line) where
-    pub number_more : (digit : ℕ) → digit ≡ get_or line at 0 - 0x30 → among 0x30 0x39 (get_or line at 0) ≡ true → value ≤ 1_000_000
-        → number_from value at (drop at line) ≡ number_from (value * 10 + digit) (at + 1) (drop (at + 1) line)
-    unfolding number_from
-    number_more digit e a c =
-        ap (number_from value at) (drop-cons line at 0 h) ∙ if_true _ _ (and_both a (le-leb value 1_000_000 c))
-        ∙ ap₂ (λ (d n : ℕ). number_from (value * 10 + d) (at + 1) (drop n line)) (sym e) (sym (add-one at))
+  stop : (among 0x30 0x39 b && leb value 1_000_000) ≡ false → number_from value xs ≡ (value, xs)
+  unfolding number_from
+  stop f = ap (number_from value) e ∙ if_false _ _ f ∙ ap (λ (l : List ℕ). (value, l)) (sym e)
 
-    stop : (among 0x30 0x39 (get_or line at 0) && leb value 1_000_000) ≡ false → record { value = value; next = at } ≡ number_from value at (drop at line)
-    unfolding number_from
-    stop e = sym (ap (number_from value at) (drop-cons line at 0 h) ∙ if_false _ _ e)
+  pub number-other : among 0x30 0x39 b ≡ false → number_from value xs ≡ (value, xs)
+  number-other a = stop (rw a)
 
-    pub number-other : among 0x30 0x39 (get_or line at 0) ≡ false → record { value = value; next = at } ≡ number_from value at (drop at line)
-    number-other a = stop (rw a)
-
-    pub number_large : 1_000_000 < value → record { value = value; next = at } ≡ number_from value at (drop at line)
-    number_large a = stop (and_no (among 0x30 0x39 (get_or line at 0)) (lt-leb value 1_000_000 a))
+  pub number_large : 1_000_000 < value → number_from value xs ≡ (value, xs)
+  number_large a = stop (and_no (among 0x30 0x39 b) (lt-leb value 1_000_000 a))
 
 -- A byte of a text
 
@@ -66,12 +63,12 @@ unfolding when◌then◌else◌
 when_at_most true x y n h k = h
 when_at_most false x y n h k = k
 
-pub length-written : (n : ℕ) (s : List ℕ) → length (written n s) ≤ length s
+pub length_written : (n : ℕ) (s : List ℕ) → length (written n s) ≤ length s
 unfolding written
-length-written n [] = omega arith
-length-written (suc n) (b ∷ s) = omega (arith, length-written n s)
-length-written zero (b ∷ s) =
-    when_at_most (b == 0x5C && nat_le 2 (length s)) _ (b ∷ written 0 s) _ (omega (arith, length-written 2 s)) (omega (arith, length-written 0 s))
+length_written n [] = omega arith
+length_written (suc n) (b ∷ s) = omega (arith, length_written n s)
+length_written zero (b ∷ s) =
+    when_at_most (b == 0x5C && nat_le 2 (length s)) _ (b ∷ written 0 s) _ (omega (arith, length_written 2 s)) (omega (arith, length_written 0 s))
 
 -- Two lists of which the first byte is taken
 

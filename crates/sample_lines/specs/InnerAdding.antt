@@ -1,7 +1,7 @@
 -- What a line of the list of samples adds to a document. No rule of 01 stands here.
 use Rattle.std.specs.Prelude.{ℕ, zero, suc, ◌+◌, ◌/◌, ◌%◌, List, [], ◌∷◌, ◌++◌, length, ◌==◌, nat_lt, slice_index}
 use Rattle.base.specs.Choice.{when◌then◌else◌}
-use Rattle.sample_lines.specs.InnerLines.{number_at, next_number, text_from}
+use Rattle.sample_lines.specs.InnerLines.{two_numbers, text_from}
 
 -- some bytes, so many times
 unfoldable pub repeated : ℕ → List ℕ → List ℕ
@@ -18,7 +18,7 @@ text_record kind x = head (length x) kind ++ x
 
 -- block records: the index and how many there are stand in the line
 unfoldable pub block_records : ℕ → List ℕ → List ℕ
-block_records first line = repeated (next_number line (number_at line 2)).value (head 0 (first + (number_at line 2).value))
+block_records first line = repeated (two_numbers line).1 (head 0 (first + (two_numbers line).0))
 
 -- 'T E L M I: text in style Text, Emphasis, Literal, Metavar, Invalid'; 0 for any other letter
 unfoldable pub style_of : ℕ → ℕ
@@ -35,5 +35,5 @@ added_by line =
     when nat_lt 0 (style_of (slice_index line 0)) then text_record (style_of (slice_index line 0)) (text_from line 2) else
     when slice_index line 0 == 0x28 then block_records 0x0100 line else
     when slice_index line 0 == 0x29 then block_records 0x0200 line else
-    when slice_index line 0 == 0x5A then repeated (number_at line 2).value (0 ∷ []) else
+    when slice_index line 0 == 0x5A then repeated (two_numbers line).0 (0 ∷ []) else
     text_from line 2

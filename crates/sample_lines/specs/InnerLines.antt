@@ -3,23 +3,20 @@ use Rattle.std.specs.Prelude.{ℕ, zero, suc, ◌+◌, ◌-◌, ◌*◌, ◌%◌
 use Rattle.base.specs.Choice.{when◌then◌else◌, among}
 use Rattle.splitter.specs.Split.{Chunk, raw, paragraph, line_break}
 use Rattle.compared.specs.InnerCompared.{same}
-use Rattle.sample_lines.specs.declared.Number.{Number}
 use Rattle.sample_lines.specs.declared.Tally.{Tally}
 
--- a number and the place after it: decimal digits, as long as it is at most 1,000,000
-unfoldable pub number_from : ℕ → ℕ → List ℕ → Number
-number_from value at [] = record { value = value; next = at }
-number_from value at (b ∷ s) =
-    when among 0x30 0x39 b && nat_le value 1_000_000 then number_from (value * 10 + (b - 0x30)) (at + 1) s else
-    record { value = value; next = at }
+-- a number and what follows it: decimal digits, as long as it is at most 1,000,000
+unfoldable pub number_from : ℕ → List ℕ → ℕ × List ℕ
+number_from value [] = (value, [])
+number_from value (b ∷ s) = when among 0x30 0x39 b && nat_le value 1_000_000 then number_from (value * 10 + (b - 0x30)) s else (value, b ∷ s)
 
--- the number at a place of a line
-abbrev pub number_at : List ℕ → ℕ → Number
-number_at line from = number_from 0 from (drop from line)
+-- the number that some bytes begin with
+abbrev pub number_in : List ℕ → ℕ × List ℕ
+number_in s = number_from 0 s
 
--- the number after another, one space on
-abbrev pub next_number : List ℕ → Number → Number
-next_number line n = number_at (drop n.next line) 1
+-- the number of a line, after its letter and a space, and the one after it, one space on
+abbrev pub two_numbers : List ℕ → ℕ × ℕ
+two_numbers line = let first = number_in (drop 2 line) in (first.0, (number_in (drop 1 first.1)).0)
 
 unfoldable pub hex_digit : ℕ → ℕ
 hex_digit b = when among 0x30 0x39 b then b - 0x30 else when among 0x41 0x46 b then b - 0x41 + 10 else 0
@@ -38,11 +35,11 @@ text_from line from = written 0 (drop from line)
 
 -- the text of a line `~`, one space after the width
 abbrev pub chunk_text : List ℕ → List ℕ
-chunk_text line = text_from (drop (number_at line 2).next line) 1
+chunk_text line = text_from (number_in (drop 2 line)).1 1
 
 -- '~ 1 a: the next chunk .. is `a` with width 1; P a paragraph; B a line break'
 unfoldable pub is_chunk : List ℕ → Chunk → Bool
-is_chunk line (raw text width) = slice_index line 0 == 0x7E && width == (number_at line 2).value && same text (chunk_text line)
+is_chunk line (raw text width) = slice_index line 0 == 0x7E && width == (number_in (drop 2 line)).0 && same text (chunk_text line)
 is_chunk line paragraph = slice_index line 0 == 0x50
 is_chunk line line_break = slice_index line 0 == 0x42
 

@@ -9,7 +9,7 @@ ghost use Rattle.room.specs.Lent.{text_of as text_in, with_bytes};
 ghost use Rattle.splitter.specs.Answers.{chunk_of};
 ghost use Rattle.splitter.specs.Split.{raw};
 ghost use Rattle.compared.specs.InnerCompared.{same};
-ghost use Rattle.sample_lines.specs.InnerLines.{number_at, next_number, hex_digit, written, text_from, is_chunk, tally_of};
+ghost use Rattle.sample_lines.specs.InnerLines.{number_in, two_numbers, hex_digit, written, is_chunk, tally_of};
 
 use compared::byte_or;
 use room::Text;
@@ -20,7 +20,7 @@ mod documents;
 pub use documents::add;
 
 // How many answers were compared, and how many of them differ.
-#[derive(Clone, Copy)]
+#[derive(Clone, Copy, Default)]
 pub struct Tally {
     pub compared: u64,
     pub differ: u64,
@@ -28,6 +28,7 @@ pub struct Tally {
 
 impl Tally {
     // One answer more.
+    #[tactic(auto, unfolding(crate::specs::InnerLines::tally_of, crate::proofs::Names::choose))]
     pub fn add(&mut self, same: bool)
         ensures { self.new ≡ tally_of self.old same }
     {
@@ -38,38 +39,40 @@ impl Tally {
     }
 }
 
-// A decimal number, and the place after its last digit.
-#[derive(Clone, Copy)]
-pub struct Number {
-    pub value: usize,
-    pub next: usize,
-}
-
-// The number at a place, 0 where there is no digit: as an Option it would be given a 0 at each of its uses.
-pub fn number_at(line: &[u8], from: usize) -> Number
-    ensures { (result ≡ number_at line.now from) × (result.value ≤ 10_000_255) }
+// The number that some bytes begin with, and what follows it; 0 where there is no digit: as an Option it would be given a 0 at each of its uses.
+fn split_number<'a>(bytes: &'a [u8]) -> (usize, &'a [u8])
+    ensures { ((result.0, result.1.now) ≡ number_in bytes.now) × (result.0 ≤ 10_000_255) }
 {
-    // A counter, since the place after the last digit is a part of the answer.
     let mut value: usize = 0;
-    let mut at = from;
-    while at < line.len() {
-        let b = line[at];
+    let mut rest = bytes;
+    while let Some((b, others)) = rest.split_first() {
         if !b.is_ascii_digit() || 1_000_000 < value {
             break;
         }
-        value = value * 10 + usize::from(b - b'0');
-        at += 1;
+        value = value * 10 + usize::from(*b - b'0');
+        rest = others;
     }
-    Number { value, next: at }
+    (value, rest)
 }
 
-// The number after another, one space on.
-pub fn next_number(line: &[u8], n: Number) -> Number
-    ensures { (result ≡ next_number line.now n) × (result.value ≤ 10_000_255) }
+// The number of a line, after its letter and a space.
+pub fn number(line: &[u8]) -> usize
+    ensures { (result ≡ (two_numbers line.now).0) × (result ≤ 10_000_255) }
 {
-    number_at(base::get_from(line, n.next), 1)
+    split_number(base::get_from(line, 2)).0
 }
 
+// The two numbers of a line, one space apart, after its letter and a space.
+pub fn two_numbers(line: &[u8]) -> (usize, usize)
+    ensures { (result ≡ two_numbers line.now) × (result.0 ≤ 10_000_255) × (result.1 ≤ 10_000_255) }
+{
+    let (first, rest) = split_number(base::get_from(line, 2));
+    let (second, _) = split_number(base::get_from(rest, 1));
+    (first, second)
+}
+
+// What a hexadecimal digit stands for; any other byte for 0. (No `char::to_digit`: it takes small letters too, which stand for 0 here.)
+#[tactic(auto, unfolding(crate::specs::InnerLines::hex_digit, crate::proofs::Names::choose))]
 fn hex_digit(b: u8) -> u8
     ensures { (result ≡ hex_digit b) × (result < 16) }
 {
@@ -104,6 +107,7 @@ impl<'a> Iterator for Written<'a> {
 
     ghost remaining = { item_count (λ t. written 0 t.0.now) };
 
+    #[tactic(auto, using(crate::proofs::Lines::written_empty))]
     fn next(&mut self) -> Option<u8> {
         let (first, others) = self.0.split_first()?;
         let (byte, rest) = first_written(*first, others);
@@ -112,35 +116,30 @@ impl<'a> Iterator for Written<'a> {
     }
 }
 
-// The text from a place of a line on.
-fn text_of<'a>(line: &'a [u8], from: usize) -> Written<'a>
-    ensures { written 0 result.0.now ≡ text_from line.now from }
+// Adds the text that some bytes stand for.
+pub fn put_text(t: &mut Text, bytes: &[u8])
+    ensures { text_in t.new ≡ with_bytes (written 0 bytes.now) (text_in t.old) }
 {
-    Written(base::get_from(line, from))
-}
-
-// Adds the text from a place of a line on.
-pub fn put_text(t: &mut Text, line: &[u8], from: usize)
-    ensures { text_in t.new ≡ with_bytes (text_from line.now from) (text_in t.old) }
-{
-    for b in text_of(line, from) {
+    for b in Written(bytes) {
         t.put(b);
     }
 }
 
-// How many bytes the text from a place of a line on has.
-fn text_size(line: &[u8], from: usize) -> usize
-    ensures { result ≡ length (text_from line.now from) }
+// How many bytes the text has that some stand for.
+#[tactic(auto, using(crate::proofs::Lines::length_written))]
+fn text_size(bytes: &[u8]) -> usize
+    ensures { result ≡ length (written 0 bytes.now) }
 {
-    text_of(line, from).count()
+    Written(bytes).count()
 }
 
-// Whether a text is the one from a place of a line on.
-fn is_text(text: &[u8], line: &[u8], from: usize) -> bool
-    ensures { result ≡ same text.now (text_from line.now from) }
+// Whether a text is the one that some bytes stand for.
+// (A loop: `Iterator::eq` promises of each of its two iterators what it gave, and no lemma of std makes two lists of that.)
+fn is_text(text: &[u8], bytes: &[u8]) -> bool
+    ensures { result ≡ same text.now (written 0 bytes.now) }
 {
     let mut rest = text;
-    for b in text_of(line, from) {
+    for b in Written(bytes) {
         let Some((first, others)) = rest.split_first() else {
             return false;
         };
@@ -153,21 +152,21 @@ fn is_text(text: &[u8], line: &[u8], from: usize) -> bool
 }
 
 // Whether a text with its width is the chunk of a line `~`.
+#[tactic(auto, unfolding(crate::specs::InnerLines::is_chunk))]
 fn is_raw(line: &[u8], text: &[u8], width: usize) -> bool
     ensures { result ≡ is_chunk line.now (raw text.now width) }
 {
-    let number = number_at(line, 2);
-    byte_or(line, 0, 0) == b'~'
-        && width == number.value
-        && is_text(text, base::get_from(line, number.next), 1)
+    let (number, rest) = split_number(base::get_from(line, 2));
+    byte_or(line, 0, 0) == b'~' && width == number && is_text(text, base::get_from(rest, 1))
 }
 
 // Whether a chunk of a body is the one of a line: `~` with the width and the text, `P`, a paragraph, or `B`, a line break.
+#[tactic(auto, unfolding(crate::specs::InnerLines::is_chunk))]
 pub fn is_chunk(line: &[u8], body: &[u8], piece: Piece) -> bool
     ensures { result ≡ is_chunk line.now (chunk_of body.now piece) }
 {
     match piece {
-        Piece::Raw(from, to, width) => is_raw(line, base::get(body, from, to), width),
+        Piece::Raw { from, to, width } => is_raw(line, base::get(body, from, to), width),
         Piece::Space(_) => is_raw(line, b" ", 1),
         Piece::Paragraph(_) => byte_or(line, 0, 0) == b'P',
         Piece::LineBreak(_) => byte_or(line, 0, 0) == b'B',

@@ -6,6 +6,7 @@ use Rattle.base.proofs.Results.{refused-gives, gives_same}
 use Rattle.buffer.specs.Answers.{Of01}
 use Rattle.buffer.proofs.Answering.{stops, so_far-on}
 use Rattle.draft.specs.declared.Draft.{Draft}
+use Rattle.sefgrunn.proofs.Names.{refl}
 use Rattle.sefgrunn.proofs.Names.{Answer, Ok, Err, Calls}
 use Rattle.draft.proofs.Holding.{so_far_held}
 use Rattle.sefgrunn.specs.Drafts.{WordsAfter, Drafts, resumes, ToldBy, DraftTold}
@@ -45,6 +46,11 @@ call_draft r d room new words words' k p rule whole e f t g = (
       subst (λ (x : Result (List ℕ)). Drafts x room new words words' k p) (sym f)
       (told_draft r (rule (draft_in words).length) room new words words' k p t.says h),
 )
+
+-- and one in a style or of a block that there is none of
+pub unknown_draft : {rule : Result (List ℕ)} (room words : List ℕ) (k p : ℕ) → refused 3 0 ≡ rule → k ≡ 3 → p ≡ 0 → Drafts rule room room words words k p
+unknown_draft room words k p e f g =
+    subst (λ (x : Result (List ℕ)). Drafts x room room words words k p) e (record { number = f; place = g; room = refl; draft = refl })
 
 -- one check
 pub told_resumed : (r : Answer Draft Refusal) (room words words' : List ℕ) (n k p : ℕ) → ToldBy r words words' k p → Resumed room n r

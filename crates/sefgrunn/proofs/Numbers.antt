@@ -1,8 +1,8 @@
 -- An answer's number and its length or place are those of the rules' result. Assumes nothing.
 use Rattle.sefgrunn.proofs.Names.{ℕ, ◌≡◌, refl, sym, ap, ◌∙◌, List, arith, length, Result, gives, refused, measured}
-use Rattle.sefgrunn.proofs.Names.{refusal_number, refusal_place, Refusal, answered, number_of, place_of, length_or_place}
+use Rattle.sefgrunn.proofs.Names.{Refusal, answered, number_of, place_of, length_or_place}
 use Prim.Native.Nat.{◌≤◌, ◌<◌}
-use Rattle.sefgrunn.proofs.Names.{Answer, Ok, Err, Style}
+use Rattle.sefgrunn.proofs.Names.{Answer, Style}
 use lib.Dec.{leb}
 use borrow.Author.Tests.{leb-true, lt-leb}
 use Rattle.base.specs.Choice.{among}
@@ -12,8 +12,9 @@ use Rattle.records.specs.declared.Block.{Block}
 use Rattle.records.specs.declared.Block.TheVariants as block
 use Rattle.records.specs.declared.Style.TheVariants as style
 use Rattle.base.specs.Choice.{when◌then◌else◌}
-use Rattle.base.specs.Result.{◌>>=◌}
 use Rattle.sefgrunn.specs.Numbers.{length_after, caller_reads, in_style, in_block}
+use Rattle.sefgrunn.proofs.Names.{subst}
+use Rattle.buffer.specs.Answers.{kept, Follows}
 
 -- a text and its length are refused alike
 pub measured-number : (x : Result (List ℕ)) → number_of (measured x) ≡ number_of x
@@ -38,17 +39,6 @@ pub caller_reads-gives : (x : Result (List ℕ)) (k p : ℕ) (text : List ℕ) �
     → caller_reads k p ≡ gives (length text)
 unfolding when◌then◌else◌
 caller_reads-gives x k p text f g e = rw (f, g, e)
-
--- a style's number, and a block's index, as they are asked for
-module _ {A : Type 0} (f : A → Result (List ℕ)) where
-  pub asked : (r : Answer A Refusal) (a : A) (x : Result (List ℕ)) → r ≡ Ok a → (answered r >>= f) ≡ x → x ≡ f a
-  unfolding ◌>>=◌
-  asked r a x e g = sym g ∙ ap (λ (r : Answer A Refusal). answered r >>= f) e
-
-  pub asked-out : (r : Answer A Refusal) (d : Refusal) (x : Result (List ℕ)) → r ≡ Err d → (answered r >>= f) ≡ x
-      → x ≡ refused (refusal_number d) (refusal_place d)
-  unfolding ◌>>=◌
-  asked-out r d x e g = sym g ∙ ap (λ (r : Answer A Refusal). answered r >>= f) e
 
 -- a style that has a number, and a number that none has
 module _ {k : ℕ} (f : Style → Result (List ℕ)) where
@@ -87,3 +77,16 @@ module _ {i : ℕ} (f : Block → Result (List ℕ)) where
 
   pub block-untold : 11 < i → refused 3 0 ≡ in_block i f
   block-untold h = sym (if_false _ _ (lt-leb i 11 h))
+
+-- what a call of the builder returns, stores and leaves in the room, as a rule gives it
+abbrev pub Builds : Result (List ℕ) → List ℕ → List ℕ → ℕ → ℕ → ℕ → ℕ → Type 0
+Builds rule old new n k m p = (k ≡ number_of rule) × ((m ≡ length_after n (measured rule)) × ((p ≡ place_of rule) × (new ≡ kept old rule)))
+
+pub builds-unknown : {rule : Result (List ℕ)} (room : List ℕ) (n k p : ℕ) → refused 3 0 ≡ rule → k ≡ 3 → p ≡ 0 → Builds rule room room n k n p
+builds-unknown room n k p e f g = subst (λ (x : Result (List ℕ)). Builds x room room n k n p) e (f, (refl, (g, refl)))
+
+pub builds-asked : {x rule : Result (List ℕ)} (b : Answer ℕ Refusal) (old new : List ℕ) (n k m p : ℕ) → x ≡ rule → Follows x old new b
+    → k ≡ number_of (answered b) → m ≡ length_after n (answered b) → p ≡ place_of (answered b) → Builds rule old new n k m p
+builds-asked {x} b old new n k m p e f g h i =
+    let t = built_number b x n f.answer in
+    subst (λ (x : Result (List ℕ)). Builds x old new n k m p) e (g ∙ t.0, (h ∙ t.1, (i ∙ t.2, f.room)))

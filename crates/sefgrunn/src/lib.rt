@@ -4,8 +4,8 @@
 
 #![tactic(auto)]
 
-ghost use Rattle.std.specs.Prelude.{◌≡◌, true, false, ◌≤◌, List, ℕ, IfErr, length, take, drop};
-ghost use Rattle.base.specs.Result.{Result, measured, ◌>>=◌ as bind};
+ghost use Rattle.std.specs.Prelude.{◌≡◌, true, false, ◌≤◌, length, take, drop};
+ghost use Rattle.base.specs.Result.{measured};
 ghost use Rattle.document.specs.Document.{check};
 ghost use Rattle.refusal.specs.Numbers.{refusal_number, refusal_place};
 ghost use Rattle.refusal.specs.Answers.{answered};
@@ -13,9 +13,7 @@ ghost use Rattle.renderer.specs.Rendered.{filled};
 ghost use Rattle.console_rules.specs.Console.{tabstop_in, settled_in, console};
 ghost use Rattle.console.specs.Answers.{Demand3};
 ghost use Rattle.console_bound.specs.Bound.{bound, room_bound};
-ghost use Rattle.buffer.specs.Answers.{kept, Follows};
-ghost use Rattle.records.specs.declared.Style.{Style};
-ghost use Rattle.records.specs.declared.Block.{Block};
+ghost use Rattle.buffer.specs.Answers.{kept};
 ghost use Rattle.buffer.specs.Builder.{adds_doc, adds_em_doc};
 ghost use Rattle.notes_rules.specs.Notes.{taken_in};
 ghost use Rattle.notes_rules.specs.Laws.{Faithful};
@@ -28,24 +26,27 @@ ghost use Rattle.joined_rules.specs.Joined.{check_joined, joins_into, unjoins_in
 ghost use Rattle.joined_render_rules.specs.Render.{joined_console, joined_html, joined_markdown, joined_roff};
 ghost use Rattle.figures.specs.Bundle.{figures};
 ghost use Rattle.sefgrunn.specs.Figures.{or_none};
-ghost use Rattle.draft.specs.Draft.{draft_in, Sound, Calls};
+ghost use Rattle.draft.specs.Draft.{draft_in, Sound};
 ghost use Rattle.sefgrunn.specs.Drafts.{WordsAfter, Drafts, resumes, DraftTold};
 ghost use Rattle.sefgrunn.specs.HouseShape.{ShapeTold};
 ghost use Rattle.sefgrunn.specs.Merge.{MergeTold};
-ghost use Rattle.sefgrunn.specs.Numbers.{number_of, place_of, length_or_place, or_zero, length_after, caller_reads, measure_asked, settings, in_style, in_block, writes_in, opens_in, closes_in};
+ghost use Rattle.sefgrunn.specs.Numbers.{number_of, place_of, length_or_place, or_zero, length_after, caller_reads, settings, writes_in, opens_in, closes_in};
 
 use console_rules::{Measure, Settings};
 use draft::Draft;
+use figures::Figures;
+use pages::Part;
 use records::{Block, Style};
 use refusal::Refusal;
 
-// Accepted, where no length is stored.
-fn accepted(place: &mut usize) -> u32
-    ensures number { result ≡ 0 }
-    ensures place { place.new ≡ 0 }
+// The number of an answer: 0 for accepted, else the refusal's.
+fn number<T: Drop>(answer: Result<T, Refusal>) -> u32
+    ensures { result ≡ number_of (answered answer) }
 {
-    *place = 0;
-    0
+    match answer {
+        Ok(_) => 0,
+        Err(a) => a.number(),
+    }
 }
 
 // A refusal's number, and its place.
@@ -57,13 +58,16 @@ fn refused(a: Refusal, place: &mut usize) -> u32
     a.number()
 }
 
-// The number of a verdict, and its place.
-fn checked(verdict: Result<(), Refusal>, place: &mut usize) -> u32
-    ensures number { result ≡ number_of (answered verdict) }
-    ensures place { place.new ≡ place_of (answered verdict) }
+// The number of an answer, and the refusal's place, 0 where it is accepted.
+fn told<T: Drop>(answer: Result<T, Refusal>, place: &mut usize) -> u32
+    ensures number { result ≡ number_of (answered answer) }
+    ensures place { place.new ≡ place_of (answered answer) }
 {
-    match verdict {
-        Ok(()) => accepted(place),
+    match answer {
+        Ok(_) => {
+            *place = 0;
+            0
+        }
         Err(a) => refused(a, place),
     }
 }
@@ -73,7 +77,7 @@ pub fn sefgrunn_check(document: &[u8], place: &mut usize) -> u32
     ensures number { result ≡ number_of (check document.now) }
     ensures place { place.new ≡ place_of (check document.now) }
 {
-    checked(document::check(document), place)
+    told(document::check(document), place)
 }
 
 // The number of an answer, and its length or place.
@@ -81,22 +85,25 @@ fn numbers_of(answer: Result<usize, Refusal>, at: &mut usize) -> u32
     ensures number { result ≡ number_of (answered answer) }
     ensures at { at.new ≡ length_or_place (answered answer) }
 {
-    match answer {
-        Ok(n) => {
-            *at = n;
-            0
-        }
-        Err(a) => refused(a, at),
-    }
+    *at = answer.unwrap_or_else(|a| a.place());
+    number(answer)
 }
 
-fn measure_asked(characters: bool) -> Measure
-    ensures { result ≡ measure_asked characters }
+// What a call asks of the console: `characters` off is the crate's measure.
+// (No `From<bool>` for a measure, which would not say which of the two `true` is; so in `recorded`, where the flag is read from a list.)
+fn settings(width: usize, full: bool, characters: bool) -> Settings
+    ensures { result ≡ settings width full characters }
 {
-    if characters {
-        return Measure::Characters;
+    let measure = if characters {
+        Measure::Characters
+    } else {
+        Measure::Bytes
+    };
+    Settings {
+        width,
+        full,
+        measure,
     }
-    Measure::Bytes
 }
 
 // `Doc::render_console` with `Color::Monochrome`; by characters, the measure that 02 adds.
@@ -114,16 +121,8 @@ pub fn sefgrunn_console(
     ensures demand3 { Demand3 (settings width full characters) document.now room.old room.new (caller_reads result at.new) }
     ensures enough { bound document.now ≤ length room.old → result ≡ 13 → ⊥ }
 {
-    let measure = measure_asked(characters);
-    let answer = console::render_console(
-        document,
-        Settings {
-            width,
-            full,
-            measure,
-        },
-        room,
-    );
+    let set = settings(width, full, characters);
+    let answer = console::render_console(document, set, room);
     numbers_of(answer, at)
 }
 
@@ -166,27 +165,21 @@ pub fn sefgrunn_tabstop(document: &[u8], tabstop: &mut usize, at: &mut usize) ->
     ensures tabstop { tabstop.new ≡ or_zero (tabstop_in document.now) }
     ensures at { at.new ≡ length_or_place (settled_in document.now) }
 {
-    match console_tabstop::search_tabstop(document) {
-        Ok(found) => {
-            *tabstop = found.columns.0;
-            *at = found.at;
-            0
-        }
-        Err(a) => {
-            *tabstop = 0;
-            refused(a, at)
-        }
-    }
+    let found = console_tabstop::search_tabstop(document);
+    *tabstop = found.map_or(0, |f| f.columns.0);
+    numbers_of(found.map(|f| f.at), at)
 }
 
 // Whether a document has house shape, 1 or 0; and the place of the first record after which no further records could lead to it.
+// (Neither `told` nor `numbers_of`: two numbers are stored, by three cases. By `map_or` and `map` its proof would speak of two closures.)
 pub fn sefgrunn_house_shape(document: &[u8], shaped: &mut u32, place: &mut usize) -> u32
     ensures { ShapeTold document.now result shaped.new place.new }
 {
     match shape::house_shape(document) {
         Ok(None) => {
             *shaped = 1;
-            accepted(place)
+            *place = 0;
+            0
         }
         Ok(Some(p)) => {
             *shaped = 0;
@@ -225,7 +218,7 @@ pub fn sefgrunn_joined_check(joined: &[u8], place: &mut usize) -> u32
     ensures number { result ≡ number_of (check_joined joined.now) }
     ensures place { place.new ≡ place_of (check_joined joined.now) }
 {
-    checked(joined_check::check(joined), place)
+    told(joined_check::check(joined), place)
 }
 
 // The figures of a bundle, or 16, 15, 14: `texts` are the accepted documents, `others` the refused ones. After a refusal the four numbers are 0.
@@ -244,22 +237,13 @@ pub fn sefgrunn_figures(
     ensures characters { characters.new ≡ (or_none (figures bundle.now)).characters }
     ensures place { place.new ≡ place_of (figures bundle.now) }
 {
-    match figures::figures_of(bundle) {
-        Ok(f) => {
-            *documents = f.documents;
-            *texts = f.accepted;
-            *others = f.refused;
-            *characters = f.characters;
-            accepted(place)
-        }
-        Err(a) => {
-            *documents = 0;
-            *texts = 0;
-            *others = 0;
-            *characters = 0;
-            refused(a, place)
-        }
-    }
+    let answer = figures::figures_of(bundle);
+    let f = answer.unwrap_or_default();
+    *documents = f.documents;
+    *texts = f.accepted;
+    *others = f.refused;
+    *characters = f.characters;
+    told(answer, place)
 }
 
 // `Doc::render_html`.
@@ -332,12 +316,7 @@ pub fn sefgrunn_joined_console(
     ensures at { at.new ≡ length_or_place (measured (joined_console (settings width full characters) (length room.old) joined.now)) }
     ensures room { room.new ≡ filled (length room.old) (joined_console (settings width full characters) (length room.old) joined.now) }
 {
-    let measure = measure_asked(characters);
-    let set = Settings {
-        width,
-        full,
-        measure,
-    };
+    let set = settings(width, full, characters);
     let answer = joined_render::joined_console(joined, set, room);
     numbers_of(answer, at)
 }
@@ -399,16 +378,9 @@ pub fn sefgrunn_page_count(text: &[u8], height: usize, count: &mut usize) -> u32
     ensures number { result ≡ number_of (page_count height text.now) }
     ensures count { count.new ≡ or_zero (page_count height text.now) }
 {
-    match pages::page_count(text, height) {
-        Ok(n) => {
-            *count = n;
-            0
-        }
-        Err(a) => {
-            *count = 0;
-            a.number()
-        }
-    }
+    let answer = pages::page_count(text, height);
+    *count = answer.unwrap_or(0);
+    number(answer)
 }
 
 // A page of a text, as a part of it: where it starts, and how many bytes it has; both 0 after a refusal.
@@ -424,18 +396,12 @@ pub fn sefgrunn_page(
     ensures length { len.new ≡ or_zero (measured (page_of height page text.now)) }
     ensures part { take len.new (drop start.new text.now) ≡ shown (page_of height page text.now) }
 {
-    match pages::find_page(text, height, page) {
-        Ok(part) => {
-            *start = part.start;
-            *len = part.size;
-            0
-        }
-        Err(a) => {
-            *start = 0;
-            *len = 0;
-            a.number()
-        }
-    }
+    let answer = pages::find_page(text, height, page);
+    // written out, since no other page has a part of no bytes for a refusal
+    let part = answer.unwrap_or(Part { start: 0, size: 0 });
+    *start = part.start;
+    *len = part.size;
+    number(answer)
 }
 
 // The number of what the builder answers; the length changes only where it accepts.
@@ -444,60 +410,12 @@ fn stored(built: Result<usize, Refusal>, len: &mut usize, place: &mut usize) -> 
     ensures length { len.new ≡ length_after len.old (answered built) }
     ensures place { place.new ≡ place_of (answered built) }
 {
-    match built {
-        Ok(n) => {
-            *len = n;
-            accepted(place)
-        }
-        Err(a) => refused(a, place),
-    }
+    *len = built.unwrap_or(*len);
+    told(built, place)
 }
 
-// The style with a number from 1 to 5; any other is refused as 3 with place 0.
-fn style_asked(style: u32) -> Result<Style, Refusal>
-    ensures asked { (f : Style → Result (List ℕ)) → bind (answered result) f ≡ in_style style f }
-    ensures numbers { IfErr result (λ a. refusal_number a ≤ 13) }
-{
-    match Style::try_from(style as usize) {
-        Ok(s) => Ok(s),
-        Err(_) => Err(Refusal::UnknownKind(0)),
-    }
-}
-
-// The block with an index from 0 to 11, likewise.
-fn block_asked(block: u32) -> Result<Block, Refusal>
-    ensures asked { (f : Block → Result (List ℕ)) → bind (answered result) f ≡ in_block block f }
-    ensures numbers { IfErr result (λ a. refusal_number a ≤ 13) }
-{
-    match Block::try_from(block as usize) {
-        Ok(b) => Ok(b),
-        Err(_) => Err(Refusal::UnknownKind(0)),
-    }
-}
-
-// The builder's calls in the style with a number, or of the block with an index.
-fn write_in(room: &mut [u8], len: usize, style: u32, text: &[u8]) -> Result<usize, Refusal>
-    ensures { Follows (writes_in room.old len style text.now) room.old room.new result }
-{
-    let style = style_asked(style)?;
-    buffer::write_str(room, len, style, text)
-}
-
-fn open_in(room: &mut [u8], len: usize, block: u32) -> Result<usize, Refusal>
-    ensures { Follows (opens_in room.old len block) room.old room.new result }
-{
-    let b = block_asked(block)?;
-    buffer::open_block(room, len, b)
-}
-
-fn close_in(room: &mut [u8], len: usize, block: u32) -> Result<usize, Refusal>
-    ensures { Follows (closes_in room.old len block) room.old room.new result }
-{
-    let b = block_asked(block)?;
-    buffer::close_block(room, len, b)
-}
-
-// `Doc::write_str`, in the style with a number from 1 to 5.
+// `Doc::write_str`, in the style with a number from 1 to 5; any other is refused as 3 with place 0. (`as`, since Rust has no From between u32 and usize; so in
+// the functions below. No generic function for style and block: these functions answer a number and no Result, so that a `let .. else` would follow it.)
 pub fn sefgrunn_write(
     room: &mut [u8],
     len: &mut usize,
@@ -510,18 +428,24 @@ pub fn sefgrunn_write(
     ensures place { place.new ≡ place_of (writes_in room.old len.old style text.now) }
     ensures room { room.new ≡ kept room.old (writes_in room.old len.old style text.now) }
 {
-    let built = write_in(room, *len, style, text);
+    let Ok(s) = Style::try_from(style as usize) else {
+        return refused(Refusal::UnknownKind(0), place);
+    };
+    let built = buffer::write_str(room, *len, s, text);
     stored(built, len, place)
 }
 
-// The start of the block with an index from 0 to 11.
+// The start of the block with an index from 0 to 11; any other is refused likewise.
 pub fn sefgrunn_open(room: &mut [u8], len: &mut usize, block: u32, place: &mut usize) -> u32
     ensures number { result ≡ number_of (opens_in room.old len.old block) }
     ensures length { len.new ≡ length_after len.old (measured (opens_in room.old len.old block)) }
     ensures place { place.new ≡ place_of (opens_in room.old len.old block) }
     ensures room { room.new ≡ kept room.old (opens_in room.old len.old block) }
 {
-    let built = open_in(room, *len, block);
+    let Ok(b) = Block::try_from(block as usize) else {
+        return refused(Refusal::UnknownKind(0), place);
+    };
+    let built = buffer::open_block(room, *len, b);
     stored(built, len, place)
 }
 
@@ -532,7 +456,10 @@ pub fn sefgrunn_close(room: &mut [u8], len: &mut usize, block: u32, place: &mut 
     ensures place { place.new ≡ place_of (closes_in room.old len.old block) }
     ensures room { room.new ≡ kept room.old (closes_in room.old len.old block) }
 {
-    let built = close_in(room, *len, block);
+    let Ok(b) = Block::try_from(block as usize) else {
+        return refused(Refusal::UnknownKind(0), place);
+    };
+    let built = buffer::close_block(room, *len, b);
     stored(built, len, place)
 }
 
@@ -570,13 +497,10 @@ pub fn sefgrunn_merge(first: &[u8], second: &[u8], room: &mut [u8], at: &mut usi
 fn drafted(answer: Result<Draft, Refusal>, draft: &mut [u64; 8], place: &mut usize) -> u32
     ensures { DraftTold answer draft.old draft.new result place.new }
 {
-    match answer {
-        Ok(d) => {
-            *draft = <[u64; 8]>::from(d);
-            accepted(place)
-        }
-        Err(a) => refused(a, place),
+    if let Ok(d) = answer {
+        *draft = <[u64; 8]>::from(d);
     }
+    told(answer, place)
 }
 
 // The draft of the document in the first `length` bytes of the room, by one check.
@@ -594,28 +518,6 @@ pub fn sefgrunn_draft_resume(
     drafted(answer, draft, place)
 }
 
-// The calls by a draft in the style with a number, or of the block with an index.
-fn write_by(room: &mut [u8], d: Draft, style: u32, text: &[u8]) -> Result<Draft, Refusal>
-    ensures { Calls (Sound room.old d) (writes_in room.old d.length style text.now) room.old room.new result }
-{
-    let style = style_asked(style)?;
-    draft::write_str(room, d, style, text)
-}
-
-fn open_by(room: &mut [u8], d: Draft, block: u32) -> Result<Draft, Refusal>
-    ensures { Calls (Sound room.old d) (opens_in room.old d.length block) room.old room.new result }
-{
-    let b = block_asked(block)?;
-    draft::open_block(room, d, b)
-}
-
-fn close_by(room: &mut [u8], d: Draft, block: u32) -> Result<Draft, Refusal>
-    ensures { Calls (Sound room.old d) (closes_in room.old d.length block) room.old room.new result }
-{
-    let b = block_asked(block)?;
-    draft::close_block(room, d, b)
-}
-
 // `sefgrunn_write` by a draft.
 pub fn sefgrunn_draft_write(
     room: &mut [u8],
@@ -627,7 +529,10 @@ pub fn sefgrunn_draft_write(
     ensures numbers { result ≤ 13 }
     ensures does { Sound room.old (draft_in draft.old) → Drafts (writes_in room.old (draft_in draft.old).length style text.now) room.old room.new draft.old draft.new result place.new }
 {
-    let answer = write_by(room, Draft::from(*draft), style, text);
+    let Ok(s) = Style::try_from(style as usize) else {
+        return refused(Refusal::UnknownKind(0), place);
+    };
+    let answer = draft::write_str(room, Draft::from(*draft), s, text);
     drafted(answer, draft, place)
 }
 
@@ -641,7 +546,10 @@ pub fn sefgrunn_draft_open(
     ensures numbers { result ≤ 13 }
     ensures does { Sound room.old (draft_in draft.old) → Drafts (opens_in room.old (draft_in draft.old).length block) room.old room.new draft.old draft.new result place.new }
 {
-    let answer = open_by(room, Draft::from(*draft), block);
+    let Ok(b) = Block::try_from(block as usize) else {
+        return refused(Refusal::UnknownKind(0), place);
+    };
+    let answer = draft::open_block(room, Draft::from(*draft), b);
     drafted(answer, draft, place)
 }
 
@@ -655,7 +563,10 @@ pub fn sefgrunn_draft_close(
     ensures numbers { result ≤ 13 }
     ensures does { Sound room.old (draft_in draft.old) → Drafts (closes_in room.old (draft_in draft.old).length block) room.old room.new draft.old draft.new result place.new }
 {
-    let answer = close_by(room, Draft::from(*draft), block);
+    let Ok(b) = Block::try_from(block as usize) else {
+        return refused(Refusal::UnknownKind(0), place);
+    };
+    let answer = draft::close_block(room, Draft::from(*draft), b);
     drafted(answer, draft, place)
 }
 

@@ -4,8 +4,10 @@ use Rattle.shape.proofs.Names.{ℕ, zero, suc, ◌+◌, ◌≡◌, refl, sym, ap
 use Rattle.shape.proofs.Names.{get_or, length-append, arith, eq-eqb, when◌then◌else◌, Result, gives, refused, ◌>>=◌, top, pushed, popped, length-pushed}
 use Rattle.shape.proofs.Names.{popped-pushed, bind_gives, gives_same, Token, index, size, tokens, reads, open_blocks, check, Block, Kind, kinds}
 use Rattle.shape.proofs.Names.{Shaped, OutOfPlace, Want, parts, Inside, opens, refuses, inside, texts, closes, go, stray, Walked, Answers}
-use Rattle.shape.proofs.Names.{Answer, Ok, Err, Misplaced}
+use Rattle.shape.proofs.Names.{◌≤◌, Answer, Ok, Err, Misplaced, before, depth, Balanced, length-popped}
 use lib.Seq.{get_or-append_seam}
+use Rattle.std.specs.Option.{MatchOption, IsSomeAnd}
+use Rattle.std.specs.Result.{result_err}
 use Rattle.records.specs.declared.Kind.TheVariants as kind
 use Rattle.document.proofs.Walks.{Allowed, open_after, accept-gives, first_gives, check-gives}
 use Rattle.shape.specs.InnerSteps as loose
@@ -33,6 +35,40 @@ reads-nested (b ∷ s) p zero stack last e =
 pub check-nested : (s x : List ℕ) → check s ≡ gives x → Nested [] (tokens 0 0 s) []
 unfolding open_blocks
 check-nested s x e = reads-nested s 0 0 [] [] (check-gives s x e).1
+
+-- a start is no text, no end and no unknown kind
+abbrev Starts : Kind → Type 0
+Starts (kind.Text st) = ⊥
+Starts (kind.Start b) = Unit {0}
+Starts (kind.End b) = ⊥
+Starts kind.Unknown = ⊥
+
+starts_of : {k : Kind} {b : Block} → k ≡ kind.Start b → Starts k
+starts_of e = subst (λ (x : Kind). Starts x) (sym e) tt
+
+-- so each block that is started is ended
+ends_all : {stack : List ℕ} {ts : List Token} → Nested stack ts [] → length stack ≤ 32 → (depth ts ≡ length stack) × Balanced ts
+unfolding depth Balanced
+ends_all over l = (refl, tt)
+ends_all {stack} (more {t = t} {ts = ts} a n) l = of t.kind a (ends_all n (after t.kind a))
+  where
+    after : (k : Kind) → Allowed k stack → length (open_after k stack) ≤ 32
+    after (kind.Text st) a = l
+    after (kind.Start b) a = omega (arith, length-pushed (index b) stack, a)
+    after (kind.End b) a = omega (arith, length-popped stack, l)
+    after kind.Unknown a = l
+
+    of : (k : Kind) → Allowed k stack → (depth ts ≡ length (open_after k stack)) × Balanced ts
+        → (before k (depth ts) ≡ length stack) × (((b : Block) → k ≡ kind.Start b → (1 ≤ depth ts) × (depth ts ≤ 32)) × Balanced ts)
+    of (kind.Text st) a d = (d.0, (λ b e. absurd (starts_of e), d.1))
+    of (kind.Start b) a d =
+        let n : depth ts ≡ length stack + 1 = d.0 ∙ length-pushed (index b) stack in
+        (omega (arith, n), (λ _ _. (omega (arith, n), omega (arith, n, a)), d.1))
+    of (kind.End b) a d = (omega (arith, d.0, length-popped stack, a.0), (λ c e. absurd (starts_of e), d.1))
+    of kind.Unknown a d = (d.0, (λ b e. absurd (starts_of e), d.1))
+
+pub check_balanced : (s x : List ℕ) → check s ≡ gives x → Balanced (tokens 0 0 s)
+check_balanced s x e = (ends_all (check-nested s x e) (omega arith)).1
 
 -- the open blocks' indices, the innermost last, and what is wanted after each, the innermost first
 
@@ -175,12 +211,15 @@ module _ (s : List ℕ) (accepted : check s ≡ gives []) where
       of (Some p) e = (accepted, a-stray e)
 
   -- by the way that the code found
-  module _ {a : Answer ℕ Misplaced} (walked : Walked s parts 0 0 a) where
-    pub found_out : {o : Misplaced} → a ≡ Err o → Answers s (gives (Some o.place))
-    found_out e = let k = subst (λ (x : Answer ℕ Misplaced). Walked s parts 0 0 x) e walked in (accepted, a-stray (k []))
-
-    pub found_none : {q : ℕ} → a ≡ Ok q → Answers s (gives None)
-    found_none e = let k = subst (λ (x : Answer ℕ Misplaced). Walked s parts 0 0 x) e walked in (accepted, no_stray (k.whole refl []))
+  pub found : {P : Misplaced → ℕ → Type 0} (us : List Token) (a : Answer Unit Misplaced) → Walked parts (tokens 0 0 s) us a
+      → {e : Option Misplaced} → e ≡ result_err a → (r : Option ℕ) → MatchOption e (r ≡ None) (λ o. IsSomeAnd r (λ p. P o p))
+      → ((o : Misplaced) (p : ℕ) → P o p → p ≡ o.place) → Answers s (gives r)
+  found us (Ok u) walked e r m f =
+      let none : r ≡ None = rw e at m in
+      subst (λ (x : Option ℕ). Answers s (gives x)) (sym none) (accepted, no_stray (walked.whole (ends_all (check-nested s [] accepted) (omega arith)).0 []))
+  found {P} us (Err o) walked e (Some p) m f =
+      let here : P o p = rw e at m in (accepted, a-stray (walked [] ∙ ap (λ (n : ℕ). Some n) (sym (f o p here))))
+  found us (Err o) walked e None m f = absurd (rw e at m)
 
 -- a document's answer by steps, after 1 to 8
 unfoldable pub by_step : List ℕ → Result (Option ℕ)

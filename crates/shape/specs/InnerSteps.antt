@@ -1,14 +1,13 @@
 -- What the functions inside this crate promise each other; no rule of 02 stands here. Records are taken one at a time: what may stand
 -- next, and for each open block what may stand after it.
-use Rattle.std.specs.Prelude.{ℕ, ◌+◌, ◌≤◌, ◌≡◌, Bool, true, false, List, [], ◌∷◌, length, drop, Option, None, Some, Result as Answer, Ok, Err}
+use Rattle.std.specs.Prelude.{ℕ, ◌+◌, ◌-◌, ◌≤◌, ◌≡◌, Bool, true, false, List, [], ◌∷◌, length, Option, None, Some, Result as Answer, Ok, Err}
 use Rattle.base.specs.Choice.{when◌then◌else◌}
-use Rattle.base.specs.Result.{gives}
-use Rattle.records.specs.Records.{Token, tokens_from}
+use Rattle.records.specs.Records.{Token}
 use Rattle.records.specs.declared.Block.{Block}
 use Rattle.records.specs.declared.Block.TheVariants as block
 use Rattle.records.specs.declared.Kind.{Kind}
 use Rattle.records.specs.declared.Kind.TheVariants as kind
-use Rattle.document.specs.Document.{reads, max_open}
+use Rattle.document.specs.Document.{max_open}
 use Rattle.shape.specs.Shape.{same, other, inline}
 use Rattle.shape.specs.declared.OutOfPlace.{OutOfPlace}
 
@@ -73,30 +72,31 @@ unfoldable pub stray : List Token → Want → List Want → Option ℕ
 stray [] w later = None
 stray (t ∷ ts) w later = go t.place (step t.kind w later) (stray ts)
 
--- the number of records from a place on
-abbrev pub ahead : List ℕ → ℕ → ℕ
-ahead s at = length (tokens_from s at)
+-- how many blocks are open before some records that end them all
+abbrev pub before : Kind → ℕ → ℕ
+before (kind.Text st) n = n
+before (kind.Start b) n = n - 1
+before (kind.End b) n = n + 1
+before kind.Unknown n = n
 
--- from one place to another nothing is out of place, whatever is wanted later
-abbrev pub Leads : List ℕ → Want → ℕ → Want → ℕ → Type 0
-Leads s w from v at = (later : List Want) → stray (tokens_from s from) w later ≡ stray (tokens_from s at) v later
+unfoldable pub depth : List Token → ℕ
+depth [] = 0
+depth (t ∷ ts) = before t.kind (depth ts)
 
--- nothing is refused from a place on, and so many blocks are open there, at most 32
-pub record OpenAt (s : List ℕ) (at depth : ℕ) : Type 0 where
-  pub stack : List ℕ
-  pub runs : reads at 0 stack (drop at s) ≡ gives []
-  pub shallow : length stack ≤ max_open
-  pub deep : length stack ≡ depth
+-- they end each block that they start, and at most 32 are open
+unfoldable pub Balanced : List Token → Type 0
+Balanced [] = Unit {0}
+Balanced (t ∷ ts) = ((b : Block) → t.kind ≡ kind.Start b → (1 ≤ depth ts) × (depth ts ≤ max_open)) × Balanced ts
 
--- A run was gone through. In a block it stops after that block's end record, from where on what may stand after the block is wanted. With no
--- block around, nothing in it is out of place.
-pub record Stopped (s : List ℕ) (w : Want) (depth from at : ℕ) : Type 0 where
-  pub fewer : ahead s at ≤ ahead s from
-  pub closed : (outer : ℕ) → depth ≡ outer + 1
-      → ((u : Want) (later : List Want) → stray (tokens_from s from) w (u ∷ later) ≡ stray (tokens_from s at) u later) × OpenAt s at outer
-  pub whole : depth ≡ 0 → (later : List Want) → stray (tokens_from s from) w later ≡ None
+-- A run was gone through, from some records up to others. In a block it stops after that block's end record, from where on what may stand
+-- after the block is wanted. With no block around, nothing in it is out of place.
+pub record Stopped (w : Want) (from to : List Token) : Type 0 where
+  pub fewer : length to ≤ length from
+  pub closed : 1 ≤ depth from
+      → ((u : Want) (later : List Want) → stray from w (u ∷ later) ≡ stray to u later) × (depth from ≡ depth to + 1) × Balanced to
+  pub whole : depth from ≡ 0 → (later : List Want) → stray from w later ≡ None
 
--- a run from a place on: where it stops, or what is out of place in it
-abbrev pub Walked : List ℕ → Want → ℕ → ℕ → Answer ℕ OutOfPlace → Type 0
-Walked s w depth from (Ok at) = Stopped s w depth from at
-Walked s w depth from (Err o) = (later : List Want) → stray (tokens_from s from) w later ≡ Some o.place
+-- a run from some records on: where it stops, or what is out of place in it
+abbrev pub Walked : Want → List Token → List Token → Answer Unit OutOfPlace → Type 0
+Walked w from to (Ok u) = Stopped w from to
+Walked w from to (Err o) = (later : List Want) → stray from w later ≡ Some o.place

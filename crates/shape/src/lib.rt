@@ -6,10 +6,11 @@ ghost use Rattle.std.specs.Prelude.{◌≡◌, ◌≤◌};
 ghost use Rattle.refusal.specs.Answers.{answered};
 ghost use Rattle.shape.specs.Shape.{other, inline};
 ghost use Rattle.shape.specs.Answers.{TheAnswer};
-ghost use Rattle.shape.specs.InnerSteps.{OpenAt, Walked};
+ghost use Rattle.records.specs.Listed.{left};
+ghost use Rattle.shape.specs.InnerSteps.{depth, Balanced, Walked};
 ghost use Rattle.shape.specs.InnerSteps as want;
 
-use records::{Block, Kind, Records, record_at};
+use records::{Block, Kind, Records};
 use refusal::Refusal;
 
 // The place of the first record that is out of place.
@@ -32,104 +33,76 @@ pub fn is_inline(b: Block) -> bool
     matches!(b, Block::TermRef | Block::Mono | Block::InlineBlock)
 }
 
-// The three functions below go over the records of one content, in a loop. Each answers where the content stops: after the end record of the block around
-// it, or at the document's end. Lists and what they hold are checked by calls: `parts` calls `pairs` for a list, and that calls `inlines` for a term and
-// `parts` for a body. Other blocks need no call: they hold what stands around them, so that `inner`, the number of those that are open, is all that is
-// kept of them. `depth` is how deep a call stands: so many blocks are open around its records, at most 32, and each call hands on one more at least. So
-// calls nest at most 33 deep.
+// The three functions below go over the records of one content, in a loop, up to the end record of the block around it, or the document's end: what calls
+// goes on there. Lists and what they hold are checked by calls: `parts` calls `pairs` for a list, and that calls `inlines` for a term and `parts` for a
+// body. Other blocks need no call: they hold what stands around them, so that `inner`, the number of those that are open, is all that is kept of them. At
+// most 32 blocks are open, and around each call one more is, so that calls nest at most 33 deep.
 // `inlines` is no case of `parts`: it calls neither of the two, and so stands outside of their cycle.
-// In an accepted document a block record has no body: the next record stands where its body would start, and its length is not read again.
-// `parts` and `pairs` are no `for` over records, since they go on where a call stopped. Each asks that the blocks around it are open (`OpenAt`): a struct of
-// a document, a place and a depth would be made anew at each call, with the same fact to be shown there.
+// `while let` in `parts` and `pairs`: a `for` would hold the iterator, which their bodies hand on. In `inlines` (tried with `records.by_ref()`): std's promise
+// of `next` through a reference does not say that the reference stays the same, so that what is left in `records` after the loop is not known.
+// `Balanced` stands in the three contracts: a type with it as its invariant would be `Records` once more, with a `next` of its own.
 
-// What a term holds, from a place on.
-fn inlines(document: &[u8], from: usize, depth: usize) -> Result<usize, OutOfPlace>
-    requires { OpenAt document.now from depth }
-    ensures { Walked document.now want.inlines depth from result }
+// What a term holds.
+fn inlines(records: &mut Records) -> Result<(), OutOfPlace>
+    requires { Balanced (left records.old) }
+    ensures { Walked want.inlines (left records.old) (left records.new) result }
 {
     let mut inner: usize = 0;
-    for r in Records::from_place(document, from) {
+    while let Some(r) = records.next() {
         match r.kind {
             Kind::Text(_) => {}
-            Kind::Start(b) => {
-                if !is_inline(b) {
-                    return Err(OutOfPlace { place: r.place });
-                }
-                inner += 1;
-            }
-            Kind::End(_) => {
-                if inner == 0 {
-                    return Ok(r.start);
-                }
-                inner -= 1;
-            }
-            Kind::Unknown => return Err(OutOfPlace { place: r.place }),
+            Kind::Start(b) if is_inline(b) => inner += 1,
+            Kind::End(_) if inner == 0 => return Ok(()),
+            Kind::End(_) => inner -= 1,
+            _ => return Err(OutOfPlace { place: r.place }),
         }
     }
-    Ok(document.len())
+    Ok(())
 }
 
-// Parts, from a place on: a list among them is checked by `pairs`.
+// Parts: a list's pairs are checked by `pairs`.
 #[cycle(pairs_parts)]
-fn parts(document: &[u8], from: usize, depth: usize) -> Result<usize, OutOfPlace>
-    requires { OpenAt document.now from depth }
-    ensures { Walked document.now want.parts depth from result }
+fn parts(records: &mut Records) -> Result<(), OutOfPlace>
+    requires { Balanced (left records.old) }
+    ensures { Walked want.parts (left records.old) (left records.new) result }
 {
-    let mut at = from;
     let mut inner: usize = 0;
-    while at < document.len() {
-        let h = record_at(document, at);
-        match h.kind {
-            Kind::Text(_) => {
-                at = h.next;
-            }
-            Kind::Start(b) => {
-                if is_other(b) {
-                    inner += 1;
-                    at = h.start;
-                } else {
-                    if b != Block::DefinitionList {
-                        return Err(OutOfPlace { place: at });
-                    }
-                    at = pairs(document, h.start, inner + depth + 1)?;
-                }
-            }
-            Kind::End(_) => {
-                if inner == 0 {
-                    return Ok(h.start);
-                }
-                inner -= 1;
-                at = h.start;
-            }
-            Kind::Unknown => return Err(OutOfPlace { place: at }),
+    while let Some(r) = records.next() {
+        match r.kind {
+            Kind::Text(_) => {}
+            Kind::Start(b) if is_other(b) => inner += 1,
+            Kind::Start(b) if b == Block::DefinitionList => pairs(records)?,
+            Kind::End(_) if inner == 0 => return Ok(()),
+            Kind::End(_) => inner -= 1,
+            _ => return Err(OutOfPlace { place: r.place }),
         }
     }
-    Ok(at)
+    Ok(())
 }
 
-// Pairs of a term and a body, from a place on: a body's parts are checked by `parts`.
+// Pairs of a term and a body: a body's parts are checked by `parts`.
 #[cycle(pairs_parts)]
-fn pairs(document: &[u8], from: usize, depth: usize) -> Result<usize, OutOfPlace>
-    requires { (1 ≤ depth) × OpenAt document.now from depth }
-    ensures { Walked document.now want.pairs depth from result }
+fn pairs(records: &mut Records) -> Result<(), OutOfPlace>
+    requires { (1 ≤ depth (left records.old)) × Balanced (left records.old) }
+    ensures { Walked want.pairs (left records.old) (left records.new) result }
 {
-    let mut at = from;
-    while at < document.len() {
-        let term = record_at(document, at);
+    while let Some(term) = records.next() {
         if let Kind::End(_) = term.kind {
-            return Ok(term.start);
+            return Ok(());
         }
         if term.kind != Kind::Start(Block::ItemTerm) {
-            return Err(OutOfPlace { place: at });
+            return Err(OutOfPlace { place: term.place });
         }
-        let after = inlines(document, term.start, depth + 1)?;
-        let body = record_at(document, after);
+        inlines(records)?;
+        let Some(body) = records.next() else {
+            return Ok(());
+        };
         if body.kind != Kind::Start(Block::ItemBody) {
-            return Err(OutOfPlace { place: after });
+            return Err(OutOfPlace { place: body.place });
         }
-        at = parts(document, body.start, depth + 1)?;
+        parts(records)?;
     }
-    Ok(at)
+    Ok(())
 }
 
 // Whether a document has the house shape: none, or the place of the first record that is out of place. In an accepted document an end record ends the
@@ -138,8 +111,5 @@ pub fn house_shape(document: &[u8]) -> Result<Option<usize>, Refusal>
     ensures { TheAnswer document.now (answered result) }
 {
     document::check(document)?;
-    match parts(document, 0, 0) {
-        Ok(_) => Ok(None),
-        Err(out) => Ok(Some(out.place)),
-    }
+    Ok(parts(&mut Records::of(document)).err().map(|out| out.place))
 }

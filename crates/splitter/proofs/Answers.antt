@@ -1,24 +1,22 @@
 -- The answers of the code as the rules have them. Assumes nothing.
-use Rattle.splitter.proofs.Names.{ℕ, ◌+◌, ◌-◌, ◌≤◌, ◌<◌, ◌≡◌, refl, sym, ap, ap₂, ◌∙◌, Bool, true, false, and-true, List, [], ◌∷◌, eqb, length, drop}
-use Rattle.splitter.proofs.Names.{get_or, length-drop, drop-drop, drop-cons, arith, eq-eqb, ne_eqb, when◌then◌else◌, starts_with, Chunk, raw, paragraph}
-use Rattle.splitter.proofs.Names.{line_break, line, word, ticks, four, is_line_end, Step, after_line_end, ticked, step, stripped, Follows, word_from, Code}
+use Rattle.splitter.proofs.Names.{ℕ, ◌+◌, ◌≤◌, ◌<◌, ◌≡◌, refl, sym, ap, ap₂, ◌∙◌, Bool, true, false, and-true, List, [], ◌∷◌, eqb, length, drop}
+use Rattle.splitter.proofs.Names.{get_or, drop-drop, drop-cons, arith, eq-eqb, ne_eqb, when◌then◌else◌, starts_with, Chunk, raw, paragraph}
+use Rattle.splitter.proofs.Names.{line_break, line, word, ticks, four, is_line_end, Step, after_line_end, ticked, step, Follows, word_from, Code}
 use Rattle.splitter.proofs.Names.{Cursor, Piece, Raw, Space, Paragraph, LineBreak, Some, None, Option}
-use Rattle.base.specs.Bytes.{part}
-use Rattle.splitter.specs.Answers.{piece_at, answer, first_chunk, placed_of, cursor, placed_from, piece_text, PieceWithin, Within}
+use Rattle.splitter.specs.Answers.{piece_at, answer, first_chunk, placed_of, cursor, placed_from, PieceWithin, Within}
 use Rattle.splitter.specs.declared.Code.TheVariants as code
 use Rattle.splitter.specs.declared.Word.{Word}
 use Rattle.splitter.proofs.Before.{before-after}
 use Rattle.splitter.proofs.Starts.{word-no_space}
-use Rattle.splitter.proofs.Stripped.{shorter_starts, shorter_drop, shorter_place, whole-starts-not}
 pub use Rattle.splitter.proofs.Fits.{count_short}
 use Rattle.splitter.proofs.Steps.{space_piece, word_piece, line-piece, first-none, first_some, first-within, placed-take, placed-done}
 
 -- an answer is that of a step of the rules where its parts are
 module _ (at : ℕ) where
   given : (s : Step) (p : Piece) (to : ℕ) (d : Code) → piece_at (at + s.begins) s.chunk ≡ p → to ≡ at + s.used → d ≡ s.code
-      → Some (p, cursor to d) ≡ answer at s
+      → (p, cursor to d) ≡ answer at s
   unfolding answer
-  given s p to d e f g = ap₂ (λ (q : Piece) (x : Cursor). Some (q, x)) (sym e) (ap₂ cursor f g)
+  given s p to d e f g = ap₂ (λ (q : Piece) (x : Cursor). (q, x)) (sym e) (ap₂ cursor f g)
 
   -- for a chunk that begins at the first of the bytes
   at_first : (c : Chunk) (p : Piece) → piece_at at c ≡ p → piece_at (at + 0) c ≡ p
@@ -29,19 +27,19 @@ module _ (body : List ℕ) (at to : ℕ) (e : to ≡ at + length (line (drop at 
   tick-piece : piece_at (at + 0) (raw (line (drop at body)) 1_000_001) ≡ Raw at to 1_000_001
   tick-piece = at_first at _ _ (line-piece at (line (drop at body)) 1_000_001 to e refl)
 
-  pub ticked-on : (last : Bool) → last ≡ false → Some (Raw at to 1_000_001, cursor (to + 1) code.Rest) ≡ answer at (ticked last (drop at body))
+  pub ticked-on : (last : Bool) → last ≡ false → (Raw at to 1_000_001, cursor (to + 1) code.Rest) ≡ answer at (ticked last (drop at body))
   unfolding ticked when◌then◌else◌
   ticked-on last f = rw f (given at (ticked false (drop at body)) (Raw at to 1_000_001) (to + 1) code.Rest tick-piece (omega arith) refl)
 
   module _ (last : Bool) (f : last ≡ true) where
     pub ticked-kept : starts_with (0x0A ∷ 0x0A ∷ []) (drop to body) ≡ true
-        → Some (Raw at to 1_000_001, cursor to code.No) ≡ answer at (ticked last (drop at body))
+        → (Raw at to 1_000_001, cursor to code.No) ≡ answer at (ticked last (drop at body))
     unfolding ticked when◌then◌else◌
     ticked-kept g =
         rw f (given at (ticked true (drop at body)) (Raw at to 1_000_001) to code.No tick-piece (rw (before-after is_line_end body at to e, g) e) refl)
 
     pub ticked-last : starts_with (0x0A ∷ 0x0A ∷ []) (drop to body) ≡ false
-        → Some (Raw at to 1_000_001, cursor (to + 1) code.No) ≡ answer at (ticked last (drop at body))
+        → (Raw at to 1_000_001, cursor (to + 1) code.No) ≡ answer at (ticked last (drop at body))
     unfolding ticked when◌then◌else◌
     ticked-last g =
         rw f (given at (ticked true (drop at body)) (Raw at to 1_000_001) (to + 1) code.No tick-piece
@@ -49,58 +47,41 @@ module _ (body : List ℕ) (at to : ℕ) (e : to ≡ at + length (line (drop at 
 
 -- After a line end, which stands at `at`
 module _ (body tail : List ℕ) (at : ℕ) (f : Follows body at tail) where
-  abbrev Answers : Option (Piece × Cursor) → Type 0
+  abbrev Answers : Piece × Cursor → Type 0
   Answers r = r ≡ answer at (after_line_end tail)
 
-  -- what stands after a prefix of the tail begins so far on
-  tail_place : (prefix rest : List ℕ) → rest ≡ stripped prefix tail → length rest < length tail → length body - length rest ≡ at + 1 + length prefix
-  tail_place prefix rest e h = shorter_place prefix tail rest e h body (at + 1) (omega (arith, f.0)) f.1
-
-  pub tail_short : (rest : List ℕ) → length rest < length tail → length rest ≤ length body
-  tail_short rest h = omega (arith, ap length f.1, length-drop (at + 1) body)
-
-  pub after-code : (rest : List ℕ) (to : ℕ) → rest ≡ stripped four tail → length rest < length tail
-      → to ≡ length body - length rest + length (line (drop (length body - length rest) body))
-      → Answers (Some (Raw (length body - length rest) to 1_000_000, cursor to code.No))
+  pub after-code : (to : ℕ) → starts_with four tail ≡ true → to ≡ at + 1 + 4 + length (line (drop (at + 1 + 4) body))
+      → Answers (Raw (at + 1 + 4) to 1_000_000, cursor to code.No)
   unfolding after_line_end when◌then◌else◌
-  after-code rest to e h k =
-      let p : at + 5 ≡ length body - length rest = omega (arith, tail_place four rest e h) in
-      let from = length body - length rest in
-      let z : at + 1 + 4 ≡ from = omega arith in
-      let q : drop 4 tail ≡ drop from body = ap (drop 4) f.1 ∙ drop-drop 4 (at + 1) body ∙ ap (λ (n : ℕ). drop n body) z in
-      rw (shorter_starts four tail rest e h, q)
+  after-code to s k =
+      let from = at + 1 + 4 in
+      let p : at + 5 ≡ from = omega arith in
+      let q : drop 4 tail ≡ drop from body = ap (drop 4) f.1 ∙ drop-drop 4 (at + 1) body in
+      rw (s, q)
       (given at _ (Raw from to 1_000_000) to code.No
       (rw p (line-piece from (line (drop from body)) 1_000_000 to k refl)) (omega arith) refl)
 
   module _ (na : starts_with four tail ≡ false) where
-    pub after-ticks : starts_with (0x0A ∷ ticks) tail ≡ true → Answers (Some (Paragraph at, cursor (at + 1 + 1) code.First))
+    pub after-ticks : starts_with (0x0A ∷ ticks) tail ≡ true → Answers (Paragraph at, cursor (at + 1 + 1) code.First)
     unfolding after_line_end when◌then◌else◌ piece_at
     after-ticks e = rw (na, e) (given at _ (Paragraph at) (at + 1 + 1) code.First (at_first at paragraph _ refl) (omega arith) refl)
 
     module _ (nb : starts_with (0x0A ∷ ticks) tail ≡ false) where
-      pub after-four : starts_with (0x0A ∷ four) tail ≡ true → Answers (Some (Paragraph at, cursor (at + 1) code.No))
+      pub after-four : starts_with (0x0A ∷ four) tail ≡ true → Answers (Paragraph at, cursor (at + 1) code.No)
       unfolding after_line_end when◌then◌else◌ piece_at
       after-four e = rw (na, nb, e) (given at _ (Paragraph at) (at + 1) code.No (at_first at paragraph _ refl) refl refl)
 
       module _ (nc : starts_with (0x0A ∷ four) tail ≡ false) where
-        pub after_para : (rest : List ℕ) → rest ≡ stripped (0x0A ∷ []) tail → length rest < length tail
-            → Answers (Some (Paragraph at, cursor (length body - length rest) code.No))
+        pub after_para : starts_with (0x0A ∷ []) tail ≡ true → Answers (Paragraph at, cursor (at + 1 + 1) code.No)
         unfolding after_line_end when◌then◌else◌ piece_at
-        after_para rest e h =
-            rw (na, nb, nc, shorter_starts (0x0A ∷ []) tail rest e h)
-            (given at _ (Paragraph at) (length body - length rest) code.No (at_first at paragraph _ refl)
-            (omega (arith, tail_place (0x0A ∷ []) rest e h)) refl)
+        after_para e = rw (na, nb, nc, e) (given at _ (Paragraph at) (at + 1 + 1) code.No (at_first at paragraph _ refl) (omega arith) refl)
 
         module _ (nd : starts_with (0x0A ∷ []) tail ≡ false) where
-          pub after_break : (rest : List ℕ) → rest ≡ stripped (0x20 ∷ []) tail → length rest < length tail
-              → Answers (Some (LineBreak at, cursor (length body - length rest) code.No))
+          pub after_break : starts_with (0x20 ∷ []) tail ≡ true → Answers (LineBreak at, cursor (at + 1 + 1) code.No)
           unfolding after_line_end when◌then◌else◌ piece_at
-          after_break rest e h =
-              rw (na, nb, nc, nd, shorter_starts (0x20 ∷ []) tail rest e h)
-              (given at _ (LineBreak at) (length body - length rest) code.No (at_first at line_break _ refl)
-              (omega (arith, tail_place (0x20 ∷ []) rest e h)) refl)
+          after_break e = rw (na, nb, nc, nd, e) (given at _ (LineBreak at) (at + 1 + 1) code.No (at_first at line_break _ refl) (omega arith) refl)
 
-          pub after_space : starts_with (0x20 ∷ []) tail ≡ false → Answers (Some (Space at, cursor (at + 1) code.No))
+          pub after_space : starts_with (0x20 ∷ []) tail ≡ false → Answers (Space at, cursor (at + 1) code.No)
           unfolding after_line_end when◌then◌else◌ piece_at
           after_space e =
               rw (na, nb, nc, nd, e)
@@ -108,16 +89,17 @@ module _ (body tail : List ℕ) (at : ℕ) (f : Follows body at tail) where
 
 -- Outside ticks
 module _ (body : List ℕ) (at : ℕ) (h : at < length body) where
-  abbrev Plain : Option (Piece × Cursor) → Type 0
+  abbrev Plain : Piece × Cursor → Type 0
   Plain r = r ≡ answer at (step code.No (drop at body))
 
+  -- by what the bytes from the place on start with
   module _ (n : starts_with (0x0A ∷ []) (drop at body) ≡ false) where
-    space_step : starts_with (0x20 ∷ []) (drop at body) ≡ true → Plain (Some (Space at, cursor (at + 1) code.No))
+    pub space_step : starts_with (0x20 ∷ []) (drop at body) ≡ true → Plain (Space at, cursor (at + 1) code.No)
     unfolding step when◌then◌else◌
     space_step e = rw (n, e) (given at _ (Space at) (at + 1) code.No (at_first at (raw (0x20 ∷ []) 1) _ (space_piece at)) refl refl)
 
-    word-step : (w : Word) → starts_with (0x20 ∷ []) (drop at body) ≡ false → w ≡ word_from body at
-        → Plain (Some (Raw at w.to w.width, cursor w.to code.No))
+    pub word-step : (w : Word) → starts_with (0x20 ∷ []) (drop at body) ≡ false → w ≡ word_from body at
+        → Plain (Raw at w.to w.width, cursor w.to code.No)
     unfolding step when◌then◌else◌
     word-step w m e =
         let f = ap (λ (x : Word). x.to) e in
@@ -126,37 +108,13 @@ module _ (body : List ℕ) (at : ℕ) (h : at < length body) where
         (given at _ (Raw at w.to w.width) w.to code.No
         (at_first at _ _ (word_piece at (word (drop at body)) _ w.to f (word-no_space (drop at body)) ∙ ap (Raw at w.to) (sym g))) f refl)
 
-  -- by what prefix stripping hands back of the bytes from the place on
-  module _ (input : List ℕ) (i : input ≡ drop at body) where
-    pub input_short : (rest : List ℕ) → length rest < length input → length rest ≤ length body
-    input_short rest l = omega (arith, ap length i, length-drop at body)
+  module _ (tail : List ℕ) (e : tail ≡ drop 1 (drop at body)) where
+    pub line_follows : Follows body at tail
+    line_follows = (h, e ∙ drop-drop 1 at body)
 
-    module _ (tail : List ℕ) (e : tail ≡ stripped (0x0A ∷ []) input) (l : length tail < length input) where
-      a-line : starts_with (0x0A ∷ []) (drop at body) ≡ true
-      a-line = sym (ap (starts_with (0x0A ∷ [])) i) ∙ shorter_starts (0x0A ∷ []) input tail e l
-
-      pub line_follows : Follows body at tail
-      line_follows = (h, shorter_drop (0x0A ∷ []) input tail e l ∙ ap (drop 1) i ∙ drop-drop 1 at body)
-
-      pub after_line : (r : Option (Piece × Cursor)) → r ≡ answer at (after_line_end tail) → Plain r
-      unfolding step when◌then◌else◌
-      after_line r g =
-          let q : drop 1 (drop at body) ≡ tail = sym (shorter_drop (0x0A ∷ []) input tail e l ∙ ap (drop 1) i) in
-          rw (a-line, q) g
-
-    module _ (tail : List ℕ) (e : tail ≡ stripped (0x0A ∷ []) input) (l : length input ≤ length tail) where
-      no_line : starts_with (0x0A ∷ []) (drop at body) ≡ false
-      no_line = sym (ap (starts_with (0x0A ∷ [])) i) ∙ whole-starts-not (0x0A ∷ []) input tail e (omega arith) l
-
-      pub a_space : (rest : List ℕ) → rest ≡ stripped (0x20 ∷ []) input → length rest < length input
-          → Plain (Some (Space at, cursor (length body - length rest) code.No))
-      a_space rest f k =
-          rw (shorter_place (0x20 ∷ []) input rest f k body at (omega arith) i)
-          (space_step no_line (sym (ap (starts_with (0x20 ∷ [])) i) ∙ shorter_starts (0x20 ∷ []) input rest f k))
-
-      pub a_word : (rest : List ℕ) (w : Word) → rest ≡ stripped (0x20 ∷ []) input → length input ≤ length rest → w ≡ word_from body at
-          → Plain (Some (Raw at w.to w.width, cursor w.to code.No))
-      a_word rest w f k g = word-step no_line w (sym (ap (starts_with (0x20 ∷ [])) i) ∙ whole-starts-not (0x20 ∷ []) input rest f (omega arith) k) g
+    pub line_step : (r : Piece × Cursor) → starts_with (0x0A ∷ []) (drop at body) ≡ true → r ≡ answer at (after_line_end tail) → Plain r
+    unfolding step when◌then◌else◌
+    line_step r n g = let q = sym e in rw (n, q) g
 
   -- by the byte at the place, as a reader of single bytes knows it
   starts-one : (x : ℕ) → starts_with (x ∷ []) (drop at body) ≡ eqb (get_or body at 0) x
@@ -164,15 +122,15 @@ module _ (body : List ℕ) (at : ℕ) (h : at < length body) where
   starts-one x = rw (drop-cons body at 0 h) (and-true _)
 
   module _ (n : get_or body at 0 ≡ 0x0A → ⊥) where
-    pub plain_space : get_or body at 0 ≡ 0x20 → Plain (Some (Space at, cursor (at + 1) code.No))
+    pub plain_space : get_or body at 0 ≡ 0x20 → Plain (Space at, cursor (at + 1) code.No)
     plain_space e = space_step (starts-one 0x0A ∙ ne_eqb _ _ n) (starts-one 0x20 ∙ eq-eqb _ _ e)
 
     pub plain_word : (w : Word) → (get_or body at 0 ≡ 0x20 → ⊥) → w ≡ word_from body at
-        → Plain (Some (Raw at w.to w.width, cursor w.to code.No))
+        → Plain (Raw at w.to w.width, cursor w.to code.No)
     plain_word w m e = word-step (starts-one 0x0A ∙ ne_eqb _ _ n) w (starts-one 0x20 ∙ ne_eqb _ _ m) e
 
 -- In ticks
-module _ (body : List ℕ) (at : ℕ) (r : Option (Piece × Cursor)) where
+module _ (body : List ℕ) (at : ℕ) (r : Piece × Cursor) where
   pub first-tick : r ≡ answer at (ticked false (drop at body)) → r ≡ answer at (step code.First (drop at body))
   unfolding step
   first-tick g = g
@@ -192,9 +150,9 @@ module _ (body : List ℕ) (c : Cursor) where
   within : (r : Option (Piece × Cursor)) → r ≡ first_chunk body c → Answered body c r
   within r e = (e, rw e (first-within body c))
 
-  pub answers_some : (d : Code) (r : Option (Piece × Cursor)) → c.at < length body → c.code ≡ d → r ≡ answer c.at (step d (drop c.at body))
-      → Answered body c r
-  answers_some d r h e g = within r (rw (← e) at g ∙ sym (first_some body c h))
+  pub answers_some : (d : Code) (r : Piece × Cursor) → c.at < length body → c.code ≡ d → r ≡ answer c.at (step d (drop c.at body))
+      → Answered body c (Some r)
+  answers_some d r h e g = within (Some r) (ap Some (rw (← e) at g) ∙ sym (first_some body c h))
 
   pub answers_none : length body ≤ c.at → Answered body c None
   answers_none h = within None (sym (first-none body c h))
@@ -222,7 +180,3 @@ module _ (body : List ℕ) (c : Cursor) (r : Option (Piece × Cursor)) where
   -- none: none is left
   pub ended : r ≡ None → Answered body c r → placed_from body c ≡ []
   ended e a = let b : Answered body c None = rw e at a in placed-done body c b.0
-
--- The text of a piece
-pub text-raw : (body : List ℕ) (from to width : ℕ) (p : Piece) → p ≡ Raw from to width → part body from to ≡ piece_text body p
-text-raw body from to width p e = rw e

@@ -1,5 +1,5 @@
 -- Names of other crates and libraries that the proofs of this crate cite, by where they are from.
-pub use Prim.Native.Nat.{◌+◌, ◌-◌, ◌/◌, ◌<◌, ◌≤◌, suc, zero, ℕ}
+pub use Prim.Native.Nat.{◌+◌, ◌-◌, ◌<◌, ◌≤◌, suc, zero, ℕ}
 pub use Rattle.base.proofs.Choice.{and_both, and_fails, and_left, and_right, le_or_lt, pick}
 pub use Rattle.base.proofs.Parts.{drop_less, part_over}
 pub use Rattle.base.proofs.Prefix.{starts-length, starts-split}
@@ -13,7 +13,6 @@ pub use Rattle.splitter.specs.declared.Cursor.{Cursor}
 pub use Rattle.splitter.specs.declared.Piece.{Piece}
 pub use Rattle.splitter.specs.declared.Piece.TheVariants.{LineBreak, Paragraph, Raw, Space}
 pub use Rattle.utf8.specs.Utf8.{characters, continues}
-pub use borrow.Author.Rules.{rules}
 pub use borrow.Author.Tests.{eq-eqb, eqb-true, le-leb, lt-leb, ne_eqb}
 pub use lib.Dec.{eqb}
 pub use lib.ListN.{drop, drop_of_length-le, get_or, length, length-drop, take, take-append-drop}

@@ -99,7 +99,7 @@ module _ (body : List ℕ) (c : Cursor) where
   unfolding first_chunk when◌then◌else◌
   first-none h = rw (le-leb _ _ h)
 
-  pub first_some : c.at < length body → first_chunk body c ≡ answer c.at (step_from body c)
+  pub first_some : c.at < length body → first_chunk body c ≡ Some (answer c.at (step_from body c))
   unfolding first_chunk when◌then◌else◌
   first_some h = rw (lt-leb _ _ h)
 
@@ -131,7 +131,7 @@ module _ (body : List ℕ) (c : Cursor) where
         let g = piece-chunk body (c.at + (step_from body c).begins) (step_from body c).chunk from-stands in
         (ap (λ (x : Piece × Cursor). placed_of body x.0) f ∙ g, ap (λ (x : Piece × Cursor). x.1) f)
 
-    some-within : Within body c (answer c.at (step_from body c))
+    some-within : Within body c (Some (answer c.at (step_from body c)))
     unfolding answer
     some-within =
         let l = length-drop c.at body in

@@ -25,12 +25,12 @@ abbrev pub start : Cursor
 start = cursor 0 code.No
 
 -- a step of the rules for the bytes from a place of a body on, as an answer
-unfoldable pub answer : ℕ → rules.Step → Option (Piece × Cursor)
-answer at s = Some (piece_at (at + s.begins) s.chunk, cursor (at + s.used) s.code)
+unfoldable pub answer : ℕ → rules.Step → Piece × Cursor
+answer at s = (piece_at (at + s.begins) s.chunk, cursor (at + s.used) s.code)
 
 -- 'a step giving a chunk and a cursor'; 'a cursor at or past the body's end has no further chunk'
 unfoldable pub first_chunk : List ℕ → Cursor → Option (Piece × Cursor)
-first_chunk body c = when leb (length body) c.at then None else answer c.at (step c.code (drop c.at body))
+first_chunk body c = when leb (length body) c.at then None else Some (answer c.at (step c.code (drop c.at body)))
 
 -- the chunk that a piece of a body is
 abbrev pub chunk_of : List ℕ → Piece → Chunk

@@ -1,12 +1,15 @@
 -- The chunks that are left: a step takes the first of them, and there are at most as many as bytes. Assumes nothing.
-use Rattle.splitter_iter.proofs.Names.{arith, Code, placed-take, placed-done, left, Splitter, Steps}
+use Rattle.splitter_iter.proofs.Names.{arith, Code, placed-take, placed-done, left, Splitter, splitter, Steps}
 use Prim.Native.Nat.{ℕ, zero, suc, ◌+◌, ◌-◌, ◌≤◌}
 use mathlib.Core.Path.{◌≡◌, ap}
 use mathlib.Core.List.{List, [], ◌∷◌}
 use lib.ListN.{length}
-use Rattle.std.specs.Prelude.{Some, None}
+use Rattle.std.specs.Prelude.{Option, Some, None}
 use Rattle.std.specs.Iterator.{Yields, Drains}
 use Rattle.splitter.specs.Split.{step, placed, split}
+use Rattle.splitter.proofs.Answers.{Took, took}
+use Rattle.splitter.proofs.Steps.{first-within}
+use Rattle.splitter.specs.Answers.{placed_from}
 use Rattle.splitter.specs.declared.Cursor.{Cursor}
 use Rattle.splitter.specs.declared.Piece.{Piece}
 
@@ -35,3 +38,13 @@ yielded (x ∷ xs) s t y = omega (arith, one_less s y.0 x y.1, yielded xs y.0 t 
 -- as many steps give a chunk as are left
 pub drained : (xs : List (Piece × Cursor)) (s : Splitter) → Drains Steps s xs → length xs ≡ length (left s)
 drained xs s d = omega (arith, yielded xs s d.1.0 d.1.1, none_left d.1.0 d.0 d.1.2)
+
+-- What a loop over the chunks learns of a step
+module _ (s t : Splitter) (r : Option (Piece × Cursor)) (step : Steps s r t) where
+  -- that gave a chunk: those that are left are it and those after it
+  pub took_next : (p : Piece) (d : Cursor) → r ≡ Some (p, d) → Took s.input.now s.cursor p d × (t ≡ splitter s.input d)
+  took_next p d e = (took s.input.now s.cursor r p d e (step.0, rw step.0 (first-within s.input.now s.cursor)), rw e at step.1)
+
+  -- that gave none: none is left
+  pub none_next : r ≡ None → placed_from s.input.now s.cursor ≡ []
+  none_next e = placed-done s.input.now s.cursor (rw (← e) step.0)

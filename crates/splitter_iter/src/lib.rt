@@ -9,7 +9,7 @@ ghost use Rattle.splitter.specs.Split.{split as split_of};
 ghost use Rattle.splitter.specs.Answers.{start};
 ghost use Rattle.splitter_iter.specs.InnerStruct.{splitter as splitter_at, left, Steps};
 
-use splitter::{Code, Cursor, Piece};
+use splitter::{Cursor, Piece};
 
 // A body, and the place in it up to which chunks were taken.
 #[derive(Drop)]
@@ -24,10 +24,7 @@ pub fn split<'a>(input: &'a [u8]) -> Splitter<'a>
 {
     Splitter {
         input,
-        cursor: Cursor {
-            at: 0,
-            code: Code::No,
-        },
+        cursor: Cursor::default(),
     }
 }
 

@@ -25,7 +25,7 @@ fn changed<F: FnOnce(&mut Skip)>(n: usize, change: F) -> usize
 {
     let mut skip = Skip::from(n);
     change(&mut skip);
-    skip.number()
+    usize::from(skip)
 }
 
 // A write that fails ends the program with its error.

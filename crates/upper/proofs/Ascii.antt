@@ -1,11 +1,11 @@
 -- What the table says of ASCII: a to z become A to Z, and nothing else changes. Assumes nothing.
-use Rattle.upper.proofs.Names.{◌≡◌, refl, ◌∙◌, Bool, true, List, [], ◌∷◌, ℕ, ◌<◌, when◌then◌else◌, Entry, table, entry_of, maps_to, ascii_upper, below}
+use Rattle.upper.proofs.Names.{◌≡◌, refl, ◌∙◌, Bool, true, List, [], ◌∷◌, ℕ, ◌<◌, when◌then◌else◌, Entry, table, entry_of, maps_to, ascii_upper}
 use Rattle.upper.proofs.Names.{◌≤◌, ⊎_elim, arith, le_or_lt, le-ltb, lt-ltb, le-leb, lt-leb}
 use Rattle.std.specs.Char.{to_ascii_uppercase}
 use Rattle.base.proofs.Bytes.{all, all_at}
-use Rattle.upper.proofs.Tables.{entry_below}
+use Rattle.upper.proofs.Tables.{below, entry_below}
 use Rattle.upper.proofs.Whole.{whole}
-use Rattle.upper.proofs.Columns.{same, same_eq}
+use Rattle.upper.proofs.Entries.{same, same_eq}
 
 abbrev agrees : List Entry → Bool
 agrees es = all 0x80 (λ c. same (entry_of es c) (ascii_upper c ∷ []))

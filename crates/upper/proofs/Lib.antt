@@ -2,7 +2,7 @@ mod Names
 pub mod Search
 pub mod Tables
 pub mod Whole
-pub mod Columns
+pub mod Entries
 pub mod Ascii
 pub mod Writing
 pub mod Text

@@ -3,10 +3,7 @@ pub use Prim.Native.Nat.{◌%◌, ◌+◌, ◌-◌, ◌/◌, ◌<◌, ◌≤◌,
 pub use Rattle.base.proofs.Choice.{and_both, and_left, and_right, eq_or_not, if_false, if_true, le_or_lt, pick}
 pub use Rattle.base.specs.Choice.{among}
 unfoldable pub use Rattle.base.specs.Choice.{when◌then◌else◌}
-pub use Rattle.upper.specs.InnerParts.{Columns, FarColumns, Beside, NearColumns, UppercasedAt, Wrote, below, beyond, characters_of, codes, single}
-pub use Rattle.upper.specs.InnerParts.{three_at}
-unfoldable pub use Rattle.upper.specs.InnerParts.{far, far_from_column, far_to_column, from_column, longer_column, near, near_from_column, near_to_column}
-unfoldable pub use Rattle.upper.specs.InnerParts.{to_column}
+pub use Rattle.upper.specs.InnerParts.{UppercasedAt, Wrote, characters_of}
 pub use Rattle.upper.specs.Table.{Entry, ◌becomes◌}
 unfoldable pub use Rattle.upper.specs.Table.{table}
 pub use Rattle.upper.specs.Upper.{ascending, entry_of, from, in_order, map_all, proper, scalars, to, under}

@@ -1,13 +1,13 @@
--- What holds of any table in order: each entry is what its character maps to, and a table can be cut at a number. Assumes nothing.
+-- What holds of any table in order: each entry is what its character maps to, and below a number only the entries below it count. Assumes nothing.
 use Rattle.upper.proofs.Names.{◌≡◌, refl, ap, ◌∙◌, Bool, true, ◌&&◌, List, [], ◌∷◌, map, ℕ, zero, suc, ◌<◌, ◌≤◌, not-suc-le-zero, le_of_suc-le-suc}
-use Rattle.upper.proofs.Names.{arith, ltb, eqb, length, get_or, length-map, get_or-map, ltb-true, ltb-false, eq-eqb, ne_eqb, when◌then◌else◌, among}
+use Rattle.upper.proofs.Names.{arith, ltb, eqb, length, get_or, length-map, get_or-map, ltb-false, eq-eqb, ne_eqb, when◌then◌else◌, among}
 use Rattle.upper.proofs.Names.{if_true, if_false, pick, and_left, and_right, and_both, scalar, Entry, ◌becomes◌, from, to, entry_of, under, ascending}
-use Rattle.upper.proofs.Names.{scalars, proper, in_order, below, beyond}
+use Rattle.upper.proofs.Names.{scalars, proper, in_order}
 use Rattle.upper.proofs.Search.{ascends}
 
 -- stands for the entry past the end of a table
 abbrev pub none : Entry
-none = 0 becomes []
+none = 0 becomes 0 ∷ []
 
 abbrev pub good : Entry → Bool
 good e = scalar (from e) && scalars (to e) && among 1 3 (length (to e))
@@ -37,7 +37,7 @@ module _ (e : Entry) (es : List Entry) (o : in_order (e ∷ es) ≡ true) where
 pub in_order_lem : (es : List Entry) → in_order es ≡ true → ascending (map from es) ≡ true
 in_order_lem es o = and_left (ascending (map from es)) (proper es) o
 
-from_at : (es : List Entry) (k : ℕ) → get_or (map from es) k 0 ≡ from (get_or es k none)
+pub from_at : (es : List Entry) (k : ℕ) → get_or (map from es) k 0 ≡ from (get_or es k none)
 from_at es k = get_or-map from es k none
 
 -- the first is below each that stands after it
@@ -59,7 +59,11 @@ pub no_entry : (es : List Entry) (c : ℕ) → ((k : ℕ) → k < length es → 
 no_entry [] c n = refl
 no_entry (e ∷ es) c n = if_false _ _ (ne_eqb (from e) c (n 0 (omega arith))) ∙ no_entry es c (λ k h. n (suc k) (omega arith))
 
--- a table cut at n: each part is in order, and a character is looked for in one of them
+-- The entries at the head of a table that are below n: a character below n is looked for among these.
+abbrev pub below : ℕ → List Entry → List Entry
+below n [] = []
+below n (e ∷ es) = when ltb (from e) n then e ∷ below n es else []
+
 under-below : (n c : ℕ) (es : List Entry) → under c (map from es) ≡ true → under c (map from (below n es)) ≡ true
 under-below n c [] b = refl
 under-below n c (e ∷ es) b = pick (λ l. under c (map from l) ≡ true) (ltb (from e) n) (λ _. b) (λ _. refl)
@@ -71,10 +75,6 @@ below-order n (e ∷ es) o =
     (λ _. with_rest e es o (below n es) (under-below n (from e) es (is-before e es o)) (below-order n es (rest_in_order e es o)))
     (λ _. refl)
 
-pub beyond-order : (n : ℕ) (es : List Entry) → in_order es ≡ true → in_order (beyond n es) ≡ true
-beyond-order n [] o = refl
-beyond-order n (e ∷ es) o = pick (λ l. in_order l ≡ true) (ltb (from e) n) (λ _. beyond-order n es (rest_in_order e es o)) (λ _. o)
-
 pub entry_below : (n : ℕ) (es : List Entry) (c : ℕ) → in_order es ≡ true → c < n → entry_of es c ≡ entry_of (below n es) c
 entry_below n [] c o h = refl
 entry_below n (e ∷ es) c o h =
@@ -85,10 +85,3 @@ entry_below n (e ∷ es) c o h =
     nowhere : n ≤ from e → (k : ℕ) → k < length (e ∷ es) → from (get_or (e ∷ es) k none) ≡ c → ⊥
     nowhere l zero g q = omega arith
     nowhere l (suc k) g q = omega (arith, first_below e es o k (le_of_suc-le-suc g))
-
-pub entry_beyond : (n : ℕ) (es : List Entry) (c : ℕ) → n ≤ c → entry_of es c ≡ entry_of (beyond n es) c
-entry_beyond n [] c h = refl
-entry_beyond n (e ∷ es) c h =
-    pick (λ l. entry_of (e ∷ es) c ≡ entry_of l c) (ltb (from e) n)
-    (λ q. let l = ltb-true (from e) n q in if_false _ _ (ne_eqb (from e) c (λ p. omega arith)) ∙ entry_beyond n es c h)
-    (λ _. refl)

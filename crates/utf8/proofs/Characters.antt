@@ -3,9 +3,9 @@
 use Rattle.utf8.proofs.Names.{◌≡◌, refl, ap, ap₂, sym, ◌∙◌, ⊎_elim, Bool, true, false, false≢true, List, [], ◌∷◌, ◌++◌, append-nil, ℕ, zero, suc, ◌+◌}
 use Rattle.utf8.proofs.Names.{◌-◌, ◌*◌, ◌<◌, ◌≤◌, not-suc-le-zero, add-one, arith, lt-ltb, length, get_or, drop, take, take-append-drop, length-drop}
 use Rattle.utf8.proofs.Names.{drop_of_length-le, drop-cons, drop-drop, get_or-drop, when◌then◌else◌, eq_or_not, and_left, and_right, if_true, if_false}
-use Rattle.utf8.proofs.Names.{Range, within, row_of, begins, size_of, well_formed, utf8, emit, decode_from, decode, encode, scalar, first_of, character_at}
+use Rattle.utf8.proofs.Names.{Range, within, row_of, never, begins, size_of, well_formed, utf8, emit, decode_from, decode, encode, scalar, first_of, character_at}
 use Rattle.utf8.proofs.Names.{Option, Some, None}
-use Rattle.utf8.proofs.Laws.{size-next, size-stop, size-one, head_at, rest_is}
+use Rattle.utf8.proofs.Laws.{size-next, size-stop, size-one, size-never, head_at, rest_is}
 use Rattle.utf8.proofs.Text.{Valid, decode-append, row_follows, follows, follow, follows_rest}
 use Rattle.utf8.proofs.Scalars.{lead_of, led, One, Chars, none, char, text_chars}
 
@@ -181,6 +181,10 @@ begun s at k h e t n q = rw (← q) (started s at h (sym (if_true k 0 t) ∙ e) 
 
 pub not-begun : (s : List ℕ) (at k : ℕ) {x : Bool} → when x then k else 0 ≡ size_of (drop at s) → x ≡ false → None ≡ character_at s at
 not-begun s at k e t = character_none s at (sym e ∙ if_false k 0 t)
+
+-- no character has such a first byte
+pub none_at : (s : List ℕ) (at : ℕ) → at < length s → (row_of (get_or s at 0)).after ≡ never.after → None ≡ character_at s at
+none_at s at h e = character_none s at (ap size_of (sym (head_at s at h)) ∙ sym (size-never (get_or s at 0) (drop (at + 1) s) e))
 
 module _ (s : List ℕ) (at l : ℕ) {c d : ℕ} where
   first_two : (k : ℕ) → Started s at k l → 1 < k → c ≡ get_or s at 0 - l → d ≡ c * 64 + (get_or s (at + 1) 0 - 0x80) → Going s at k 2 d

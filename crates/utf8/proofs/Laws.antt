@@ -10,9 +10,11 @@ use Rattle.std.specs.List.{count_by}
 use Rattle.std.proofs.lemmas.List.Recursion.{is_count_by}
 use Rattle.base.proofs.Counting.{none_passes_part}
 use Rattle.utf8.specs.InnerParts.{is_ascii}
-use Rattle.std.specs.Prelude.{Option, MatchOption}
-use Rattle.std.specs.Bool.{then_some}
-use Rattle.std.proofs.lemmas.List.{take_all}
+use Rattle.std.specs.Prelude.{MatchBool}
+use Rattle.std.specs.Str.{IsAscii, IsNotAscii}
+use Rattle.std.proofs.lemmas.List.Folds.{list_any_none, list_any_at}
+use Rattle.std.proofs.lemmas.List.Elements.{All-from_get_or}
+use Rattle.std.proofs.lemmas.List.{take_all, get_or_past}
 use lib.Dec.{eqb}
 
 -- what a byte adds to the count
@@ -184,6 +186,10 @@ pub any_range : (a : ℕ) → (a ≡ 0xE0 → ⊥) → (a ≡ 0xED → ⊥) → 
 unfolding when◌then◌else◌ low high
 any_range a k l m n = rw (ne_eqb a 0xE0 k, ne_eqb a 0xED l, ne_eqb a 0xF0 m, ne_eqb a 0xF4 n)
 
+pub due_two : (a : ℕ) → 0xC2 ≤ a → a < 0xE0 → (row_of a).after ≡ low a to high a ∷ []
+due_two a g h =
+    due_2 a g h ∙ ap (λ (r : Range). r ∷ []) (any_range a (λ z. omega arith) (λ z. omega arith) (λ z. omega arith) (λ z. omega arith))
+
 pub due_three : (a : ℕ) → 0xE0 ≤ a → a < 0xF0 → (row_of a).after ≡ low a to high a ∷ tail
 unfolding when◌then◌else◌ low high
 due_three a g h =
@@ -236,13 +242,6 @@ unfolding size_of
 size-empty [] h = refl
 size-empty (b ∷ t) h = let z : ⊥ = omega arith in absurd z
 
--- the size as an Option
-pub sized : (x : Bool) (k : ℕ) → 1 ≤ k → {n : ℕ} → when x then k else 0 ≡ n → {o : Option ℕ} → o ≡ then_some x k
-    → MatchOption o (n ≡ 0) (λ j. (1 ≤ j) × (j ≡ n))
-unfolding when◌then◌else◌
-sized true k h e f = rw f (h, e)
-sized false k h e f = rw f (sym e)
-
 -- a text is no more than its characters where none stands at its head
 pub ends_there : (t : List ℕ) → size_of t ≡ 0 → eqb (length t) 0 ≡ well_formed [] t
 ends_there [] e = refl
@@ -263,6 +262,16 @@ not_some false e = absurd (false≢true (sym e))
 
 pub ascii_part : (s : List ℕ) (i n m : ℕ) → i + n ≤ length s → m ≡ n → is_ascii (take m (drop i s)) ≡ true → (k : ℕ) → k < n → get_or s (i + k) 0 < 0x80
 ascii_part s i n m h q e k l = leb-false 0x80 _ (none_passes_part (λ b. leb 0x80 b) s i n m q h (not_none _ e) k l)
+
+-- std's test of ASCII, by its value
+pub ascii_told : (s : List ℕ) (r : Bool) → MatchBool r (IsAscii s) (IsNotAscii s) → r ≡ is_ascii s
+ascii_told s true h = rw (list_any_none (λ b. leb 0x80 b) s (All-from_get_or (λ b. leb 0x80 b ≡ false) s 0 (λ i g. lt-leb 0x80 _ (h i)))) refl
+ascii_told s false h = rw (list_any_at (λ b. leb 0x80 b) s h.0 0 inside (le-leb 0x80 _ h.1)) refl
+  where
+    inside : h.0 < length s
+    inside =
+        ⊎_elim (λ (o : length s ≤ h.0). let z : ⊥ = omega (arith, h.1, get_or_past s h.0 0 o) in absurd z) (λ (l : h.0 < length s). l)
+        (le_or_lt (length s) h.0)
 
 -- a run of ASCII
 pub ascii_run : (s : List ℕ) (i n : ℕ) → i + n ≤ length s → ((k : ℕ) → k < n → get_or s (i + k) 0 < 0x80)

@@ -9,7 +9,7 @@ use Rattle.utf8.proofs.Names.{if_true, if_false, same_test, not-passed, Range, �
 use Rattle.utf8.proofs.Names.{sound_at, beside_at, Tested, and-false, get_or-take, get_or-drop, length-take-le, length-drop}
 use Rattle.base.specs.Choice.{among}
 use Rattle.utf8.specs.InnerNeighbours.{asks, starts, beside, sound}
-use Rattle.utf8.proofs.Laws.{tail, begins-never, fits_begins, ascii_run, ascii_part, or_none, not_none, not_some, any_range}
+use Rattle.utf8.proofs.Laws.{tail, begins-never, fits_begins, ascii_run, ascii_part, or_none, any_range}
 use Rattle.utf8.proofs.Laws.{due_1, due_none, due_over, due_2, due_three, due_four}
 use Rattle.utf8.specs.InnerParts.{is_ascii}
 
@@ -262,15 +262,6 @@ module _ (s : List ℕ) (a : ℕ) (g : 3 ≤ a) where
         let q : a + (k.0 - 3) ≡ b + k.0 = omega (arith, k.1) in
         some_beside (k.0 - 3) (omega (arith, k.1, k.2, part_length))
         (rw q (sym (part_beside k.0 k.1 (omega (arith, k.2, part_length))) ∙ k.3))
-
--- what the tests found
-pub tested_all : (s : List ℕ) → ((k : ℕ) → 3 ≤ k → k < length s → beside_at s k ≡ true) → Tested s false
-tested_all s f = record { all = λ _. f; some = λ e. absurd (false≢true e) }
-
-pub tested_by : (s : List ℕ) (x : Bool) → (x ≡ false → (k : ℕ) → 3 ≤ k → k < length s → false ≡ not (beside_at s k))
-    → (x ≡ true → (k : ℕ) × (3 ≤ k) × (k < length s) × (true ≡ not (beside_at s k))) → Tested s x
-tested_by s true f e = record { all = λ z. absurd (false≢true (sym z)); some = λ z. let k = e z in (k.0, k.1, k.2, not_none _ (sym k.3)) }
-tested_by s false f e = tested_all s (λ k i j. not_some _ (sym (f refl k i j)))
 
 -- ASCII
 module _ (s : List ℕ) where

@@ -2,6 +2,7 @@ mod Names
 pub mod White
 pub mod WhiteBytes
 pub mod Ends
+pub mod AtEnd
 pub mod Points
 pub mod Trim
 pub mod Counting

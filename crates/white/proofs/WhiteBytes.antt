@@ -46,6 +46,3 @@ not_e3 b c n = rw (ne_eqb b 0x80 n)
 pub not_three : (a b c : ℕ) → (a ≡ 0xE2 → ⊥) → (a ≡ 0xE1 → ⊥) → (a ≡ 0xE3 → ⊥) → white_bytes (a ∷ b ∷ c ∷ []) ≡ false
 unfolding white_bytes whites encode when◌then◌else◌
 not_three a b c n m k = simp (and-false, ne_eqb a 0xE1 m, ne_eqb a 0xE2 n, ne_eqb a 0xE3 k)
-
--- three bytes, by the first two
-pub ruleset threes = (e281, e19a, e380, not_e2, not_e1, not_e3, not_three)

@@ -1,60 +1,35 @@
-// White_Space: its characters, the White_Space at the end of a text, and the characters that print.
+// White_Space: its characters, and the White_Space at the end of a text.
 
 #![tactic(auto)]
 
 ghost use Rattle.std.specs.Prelude.{◌≡◌, [], ◌∷◌, ◌<◌, ◌≤◌, ◌+◌, ◌-◌, length, take, MatchOption};
-ghost use Rattle.utf8.specs.Utf8.{utf8};
-ghost use Rattle.white.specs.White.{white, trim, printing_count};
+ghost use Rattle.white.specs.White.{white, trim};
 ghost use Rattle.white.specs.InnerParts.{white_bytes, white_size};
 
-// Whether these bytes are one White_Space character.
+// Whether a byte is a White_Space character by itself. (`u8::is_ascii_whitespace` is another set: it lacks 0x0B.)
 #[tactic(auto, using(crate::proofs::WhiteBytes::one))]
-fn white1(c: u8) -> bool
+pub fn is_ascii_white(c: u8) -> bool
     ensures { result ≡ white_bytes (c ∷ []) }
 {
     matches!(c, 0x20 | 0x09..=0x0D)
 }
 
-#[tactic(auto, using(crate::proofs::WhiteBytes::two, crate::proofs::WhiteBytes::not_two))]
-fn white2(b: u8, c: u8) -> bool
-    ensures { result ≡ white_bytes (b ∷ c ∷ []) }
-{
-    b == 0xC2 && matches!(c, 0x85 | 0xA0)
-}
-
-#[tactic(auto, using(crate::proofs::WhiteBytes::e280))]
-fn white_e280(c: u8) -> bool
-    ensures { result ≡ white_bytes (0xE2 ∷ 0x80 ∷ c ∷ []) }
-{
-    matches!(c, 0x80..=0x8A | 0xA8 | 0xA9 | 0xAF)
-}
-
-#[tactic(auto, using(crate::proofs::WhiteBytes::threes))]
-fn white3(a: u8, b: u8, c: u8) -> bool
-    ensures { result ≡ white_bytes (a ∷ b ∷ c ∷ []) }
-{
-    match (a, b) {
-        (0xE2, 0x80) => white_e280(c),
-        (0xE2, 0x81) => c == 0x9F,
-        (0xE1, 0x9A) => c == 0x80,
-        (0xE3, 0x80) => c == 0x80,
-        _ => false,
-    }
-}
-
 // How many bytes the White_Space character at the end of s has, if one stands there.
+#[tactic(auto, using(crate::proofs::AtEnd::ends, crate::proofs::Ends::size_1, crate::proofs::Ends::got1))]
 fn white_size(s: &[u8]) -> Option<usize>
     ensures { MatchOption result (white_size s.now ≡ 0) (λ k. (1 ≤ k) × (k ≡ white_size s.now)) }
 {
     match s {
-        [.., c] if white1(*c) => Some(1),
-        [.., b, c] if white2(*b, *c) => Some(2),
-        [.., a, b, c] if white3(*a, *b, *c) => Some(3),
+        [.., c] if is_ascii_white(*c) => Some(1),
+        [.., 0xC2, 0x85 | 0xA0] => Some(2),
+        [.., 0xE2, 0x80, 0x80..=0x8A | 0xA8 | 0xA9 | 0xAF] => Some(3),
+        [.., 0xE2, 0x81, 0x9F] | [.., 0xE1, 0x9A, 0x80] | [.., 0xE3, 0x80, 0x80] => Some(3),
         _ => None,
     }
 }
 
 // How many bytes of s are left without the White_Space at its end.
+// No `str::trim_end`: s is any bytes, and a `str` would ask for a test of all of it at each trim.
 pub fn trim_end(s: &[u8]) -> usize
     ensures { result ≡ length (trim s.now) }
 {
@@ -65,7 +40,7 @@ pub fn trim_end(s: &[u8]) -> usize
     text.len()
 }
 
-// Whether c has the property White_Space.
+// Whether c has the property White_Space. (A number and no `char`, for the reason at `utf8::decode`, so that `char::is_whitespace` does not serve.)
 pub fn is_white(c: u32) -> bool
     ensures { result ≡ white c }
 {
@@ -75,23 +50,4 @@ pub fn is_white(c: u32) -> bool
         0x2028 | 0x2029 | 0x202F | 0x205F | 0x3000 => true,
         _ => false,
     }
-}
-
-// How many characters of s are printing ones, 0 where s is not UTF-8: no Option, since the rule counts 0 there. The place goes on by hand, as each
-// character begins where the one before it ends.
-pub fn count_printing(s: &[u8]) -> usize
-    ensures { result ≡ printing_count s.now }
-{
-    let mut n: usize = 0;
-    let mut i: usize = 0;
-    while i < s.len() {
-        let Some((c, next)) = utf8::decode(s, i) else {
-            return 0;
-        };
-        if !is_white(c) {
-            n += 1;
-        }
-        i = next;
-    }
-    n
 }

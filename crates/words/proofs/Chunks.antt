@@ -16,7 +16,6 @@ use Rattle.splitter.specs.InnerParts.{word_from}
 use Rattle.splitter.specs.Answers.{placed_from, cursor}
 use Rattle.splitter.specs.declared.Code.TheVariants as code
 use Rattle.splitter.specs.declared.Piece.TheVariants.{Raw, Space}
-use Rattle.std.specs.Prelude.{Some}
 use Rattle.splitter.proofs.Before.{before-short, before-go, before-part, space_ends, neither_ends}
 use Rattle.splitter.proofs.Steps.{placed-take}
 use Rattle.splitter.proofs.Answers.{plain_word, plain_space, answers_some}
@@ -56,7 +55,7 @@ module _ (x : List ℕ) (at to : ℕ) (h : at < to) (inside : to ≤ length x) (
         near = omega arith;
         chunks = rw (z, one, one_character)
             (placed-take x (cursor at code.No) (Space at) (cursor (at + 1) code.No)
-            (answers_some x (cursor at code.No) code.No (Some (Space at, cursor (at + 1) code.No)) (omega arith) refl
+            (answers_some x (cursor at code.No) code.No (Space at, cursor (at + 1) code.No) (omega arith) refl
             (plain_space x at (omega arith) (plain at (omega arith) h) e)).0);
       }
 
@@ -67,7 +66,7 @@ module _ (x : List ℕ) (at to : ℕ) (h : at < to) (inside : to ≤ length x) (
     near = ⊎_elim (λ (l : end' ≤ to). l) (λ (l : to < end'). absurd (past l)) (le_or_lt end' to);
     chunks =
         placed-take x (cursor at code.No) (Raw at end' (characters (word (drop at x)))) (cursor end' code.No)
-        (answers_some x (cursor at code.No) code.No (Some (Raw at end' (characters (word (drop at x))), cursor end' code.No)) (omega arith) refl
+        (answers_some x (cursor at code.No) code.No (Raw at end' (characters (word (drop at x))), cursor end' code.No) (omega arith) refl
         (plain_word x at (omega arith) line (word_from x at) n refl)).0
         ∙ ap (λ (w : ℕ). record { place = at; chunk = raw (part x at end') w } ∷ placed_from x (cursor end' code.No))
         (sym (ap characters (before-part is_line_end_or_space x at end' refl)));

@@ -1,13 +1,11 @@
 -- Bytes of a line that are copied, block by block and byte by byte, and the words among them that are whole. Assumes nothing.
-use Prim.Native.Nat.{ℕ, zero, suc, ◌+◌, ◌-◌, ◌≤◌, ◌<◌}
+use Prim.Native.Nat.{ℕ, ◌+◌, ◌-◌, ◌≤◌, ◌<◌}
 use mathlib.Core.Path.{◌≡◌, refl, sym, ap, subst, ◌∙◌}
 use mathlib.Core.List.{List, [], ◌∷◌, ◌++◌, append-nil}
-use mathlib.Core.Bool.{Bool, true, false, not, false≢true}
-use lib.Dec.{eqb}
-use borrow.Author.Tests.{eqb-false}
+use mathlib.Core.Bool.{Bool, false, not}
 use mathlib.Core.Logic.{⊎_elim}
 use lib.ListN.{length, take, drop, get_or, set, length-set, length-take, length-drop, length-append, drop_of_length-le}
-use lib.Seq.{take-take, take-append-add, take-add, take-suc, take-suc-set, length-take-le, drop-cons, drop-drop, get_or-drop, get_or-take, take_all}
+use lib.Seq.{take-take, take-append-add, take-add, take-suc-set, length-take-le, drop-cons, drop-drop, get_or-drop, get_or-take, take_all}
 use native.Mathlib.Numerals.{add-one}
 use native.Mathlib.Omega.{arith}
 use Rattle.std.specs.Borrow.{GName}
@@ -17,7 +15,8 @@ use Rattle.base.specs.Result.{Result, gives, refused, ◌>>=◌}
 use Rattle.base.proofs.Choice.{le_or_lt}
 use Rattle.base.proofs.Results.{refused-gives}
 use Rattle.utf8.specs.Utf8.{characters, continues}
-use Rattle.utf8.proofs.Laws.{adds, adds_start, adds_more}
+use Rattle.std.specs.Int.{from_bool}
+use Rattle.utf8.proofs.Laws.{adds}
 use Rattle.room.specs.Room.{extended, seen}
 use Rattle.room.specs.Lent.{Given, Lent, lent, with_bytes}
 use Rattle.room.proofs.Laws.{wrote, seen-out, extended_in}
@@ -25,6 +24,7 @@ use Rattle.room.proofs.Lents.{lent_wrote, seen_given}
 use Rattle.splitter.specs.Split.{is_line_end_or_space}
 use Rattle.splitter.proofs.Before.{neither_ends}
 use Rattle.splitter.proofs.Fits.{count_short}
+use Rattle.splitter.proofs.Words.{adds_is}
 use Rattle.words.specs.InnerCopies.{NoLineEnd, NoWordCut, Copying, Stopped, Whole, Words, Copies, Follows}
 
 -- Parts
@@ -77,9 +77,6 @@ plain_there x i n plain k a b e =
 -- Bytes of a line
 
 module _ (x old : List ℕ) where
-  pub copying_start : Copying x old old 0 0
-  copying_start = record { size = refl; near = omega arith; plain = λ k a b e. omega arith; counts = refl; copied = refl }
-
   module _ (mid : List ℕ) (i width : ℕ) (c : Copying x old mid i width) where
     -- some bytes more
     pub copying_more : (n w : ℕ) (new : List ℕ) → i + n ≤ length x → length new ≡ length mid → NoLineEnd x i (i + n)
@@ -126,9 +123,10 @@ module _ (x old : List ℕ) where
           (ap (λ (m : ℕ). take (m + n) (take i mid ++ part)) (sym k) ∙ take-append-add (take i mid) part n
           ∙ ap (λ (y : List ℕ). take i mid ++ y) (f ∙ ap (take n) left-is)))
 
-      pub copying_block : (w : ℕ) → 8 ≤ length left → NoLineEnd left 0 8 → w ≡ characters (take 8 left) → take 8 part ≡ take 8 left
-          → Copying x old put (i + 8) (width + w)
-      copying_block w = on-there 8 w
+      pub copying_block : (block : List ℕ) (w : ℕ) → 8 ≤ length left → block ≡ take 8 left → NoLineEnd block 0 8 → w ≡ characters block
+          → take 8 part ≡ block → Copying x old put (i + 8) (width + w)
+      copying_block block w h s n e f =
+          on-there 8 w h (λ k a b z. n k a b (ap (λ (y : List ℕ). get_or y k 0) s ∙ get_or-take 8 left k 0 b ∙ z)) (e ∙ ap characters s) (f ∙ s)
 
       pub copying_join : (n w : ℕ) → Copying left (take (length mid - i) (drop i mid)) part n w → Copying x old put (i + n) (width + w)
       copying_join n w d = on-there n w d.near d.plain (sym d.counts) d.copied
@@ -143,44 +141,14 @@ module _ (x old : List ℕ) where
           (rw one (omega (arith, count_one (get_or x i 0))))
           (rw (one, add-one i) (take-suc-set mid i (get_or x i 0) (omega (arith, c.size))))
 
-      pub copying_one : w ≡ width + 1 → {r : Bool} → r ≡ not (continues (get_or x i 0)) → r ≡ true → Copying x old (set mid i (get_or x i 0)) (i + 1) w
-      copying_one e f t = on (omega (arith, adds_start (get_or x i 0) f t))
-
-      pub copying_none : w ≡ width → {r : Bool} → r ≡ not (continues (get_or x i 0)) → r ≡ false → Copying x old (set mid i (get_or x i 0)) (i + 1) w
-      copying_none e f t = on (omega (arith, adds_more (get_or x i 0) f t))
-
--- Eight bytes
-
--- without a line end, byte by byte
-pub plain-part : (s : List ℕ) (n : ℕ) → ((k : ℕ) → k < n → eqb (get_or s (0 + k) 0) 0x0A ≡ false) → NoLineEnd s 0 n
-plain-part s n h k a b e = let z : 0 + k ≡ k = omega arith in eqb-false _ 0x0A (rw z at (h k b)) e
-
-module _ (x old : List ℕ) where
-  -- the room after one byte of a block, and after each byte more
-  abbrev pub stored : ℕ → List ℕ
-  stored zero = set old 0 (get_or x 0 0)
-  stored (suc i) = set (stored i) (suc i) (get_or x (suc i) 0)
-
-  -- the first bytes of a block stand in a room
-  pub stored-block : (i : ℕ) → i < length x → i < length old → (length (stored i) ≡ length old) × (take (suc i) (stored i) ≡ take (suc i) x)
-  stored-block zero h k = (length-set old 0 (get_or x 0 0), take-suc-set old 0 (get_or x 0 0) k ∙ sym (take-suc x 0 0 h))
-  stored-block (suc i) h k =
-      let b = stored-block i (omega arith) (omega arith) in (
-        length-set (stored i) (suc i) (get_or x (suc i) 0) ∙ b.0,
-        take-suc-set (stored i) (suc i) (get_or x (suc i) 0) (omega (arith, b.0))
-            ∙ ap (λ (y : List ℕ). y ++ get_or x (suc i) 0 ∷ []) b.1 ∙ sym (take-suc x (suc i) 0 h),
-      )
+      -- counted where it starts a character
+      pub copying_next : {r : Bool} {m : ℕ} → r ≡ not (continues (get_or x i 0)) → m ≡ from_bool r → w ≡ width + m
+          → Copying x old (set mid i (get_or x i 0)) (i + 1) w
+      copying_next k f e = on (omega (arith, e, f, ap from_bool k, (adds_is (get_or x i 0)).0))
 
 -- Whole words
 
 module _ (x : List ℕ) (far width : ℕ) (counts : characters (take far x) ≡ width) where
-  -- a run that cuts no word
-  pub whole-end : length x ≤ far → Whole x far far width
-  whole-end h = record { near = omega arith; counts = counts; whole = λ _ k. absurd (omega arith); last = λ k a b. absurd (omega arith) }
-
-  pub whole-stop : is_line_end_or_space (get_or x far 0) ≡ true → Whole x far far width
-  whole-stop e = record { near = omega arith; counts = counts; whole = λ _ _ f. absurd (false≢true (sym f ∙ e)); last = λ k a b. absurd (omega arith) }
-
   -- where a word goes on across the end of a run, and no byte from a place on is a space, no more of the run is whole
   module _ (h : far < length x) (e : is_line_end_or_space (get_or x far 0) ≡ false) (plain : NoLineEnd x 0 far) (to : ℕ)
       (n : (j : ℕ) → to ≤ j → j < far → get_or (take far x) j 0 ≡ 0x20 → ⊥) where

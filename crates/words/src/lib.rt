@@ -27,55 +27,39 @@ fn ends_word(x: u8) -> bool
 // The three functions below take eight bytes at a time: loops of a fixed number of turns without a way out, and a copy that reads all before
 // it writes. A compiler turns each into a few instructions.
 
-// Whether a line end stands among the first 8 bytes of a text.
-fn has_line_end(text: &[u8]) -> bool
-    requires { 8 ≤ length text.now }
-    ensures { result ≡ false → NoLineEnd text.now 0 8 }
+// Whether a line end stands among 8 bytes.
+fn has_line_end(block: &[u8; 8]) -> bool
+    ensures { result ≡ false → NoLineEnd block.now 0 8 }
 {
-    base::any(&text[..8], |x| x == b'\n')
+    base::any(block, |x| x == b'\n')
 }
 
-// How many of the first 8 bytes of a text start a character.
-fn count(text: &[u8]) -> u8
-    requires { 8 ≤ length text.now }
-    ensures { result ≡ characters (take 8 text.now) }
+// How many of 8 bytes start a character.
+fn count(block: &[u8; 8]) -> u8
+    ensures { result ≡ characters block.now }
 {
-    base::few(&text[..8], &utf8::starts_character)
+    base::few(block, &utf8::starts_character)
 }
 
-// Copies the first 8 bytes of a text.
-fn copy_block(free: &mut [u8], text: &[u8])
-    requires { (8 ≤ length text.now) × (8 ≤ length free.old) }
-    ensures { take 8 free.new ≡ take 8 text.now }
+// Copies 8 bytes to the first 8 that are free.
+fn copy_block(free: &mut [u8], block: &[u8; 8])
+    requires { 8 ≤ length free.old }
+    ensures { take 8 free.new ≡ block.now }
 {
-    // the library's `copy_from_slice` of 8 bytes, and a loop over them, are slower
-    let a = text[0];
-    let b = text[1];
-    let c = text[2];
-    let d = text[3];
-    let e = text[4];
-    let f = text[5];
-    let g = text[6];
-    let h = text[7];
-    free[0] = a;
-    free[1] = b;
-    free[2] = c;
-    free[3] = d;
-    free[4] = e;
-    free[5] = f;
-    free[6] = g;
-    free[7] = h;
+    if let Some(to) = free.first_chunk_mut::<8>() {
+        *to = *block;
+    }
 }
 
 // Copies whole blocks of 8 bytes, up to one with a line end in it.
+// By places: of what a slice ends as whose blocks `as_chunks_mut` lends, its contract says nothing.
 fn copy_blocks(free: &mut [u8], text: &[u8]) -> Run
     requires { length text.now ≤ length free.old }
     ensures { Copying text.now free.old free.new result.len result.width }
 {
     let mut len = 0;
     let mut width: usize = 0;
-    while 8 <= text.len() - len {
-        let block = &text[len..];
+    while let Some(block) = text[len..].first_chunk::<8>() {
         if has_line_end(block) {
             break;
         }
@@ -93,15 +77,12 @@ fn copy_bytes(free: &mut [u8], text: &[u8]) -> Run
     ensures stopped { Stopped text.now result.len }
 {
     let mut width: usize = 0;
-    for len in 0..text.len() {
-        let x = text[len];
+    for (len, &x) in text.iter().enumerate() {
         if x == b'\n' {
             return Run { len, width };
         }
         free[len] = x;
-        if utf8::starts_character(x) {
-            width += 1;
-        }
+        width += usize::from(utf8::starts_character(x));
     }
     Run {
         len: text.len(),
@@ -144,6 +125,7 @@ pub fn copy_run(free: &mut [u8], text: &[u8], most: usize) -> Run
 }
 
 // The same after what is written in a room; where the room is too small already, none.
+// The fields of the text are used here: what is copied past the run is no write of it, so no method writes it.
 pub fn put_run(t: &mut Text, text: &[u8], most: usize) -> Run
     ensures puts { text_of t.new ≡ with_bytes (take result.len text.now) (text_of t.old) }
     ensures run { Follows text.now most (text_of t.old) result.len result.width }

@@ -1,5 +1,5 @@
 // Texts written by small pieces through the C interface (02, point 9): the laws of crate `write_laws`, said of calls of `sefgrunn_write`, from its contract. No
-// program calls these two functions.
+// program calls these two functions. (They take what that function takes.)
 
 #![tactic(auto)]
 

@@ -1,5 +1,6 @@
 // The builder for those who write by small pieces (02, point 9). The laws are about the builder's rules (specs/Small.antt, proofs/Laws.antt,
 // proofs/Empty.antt); the two functions say the same of calls of `buffer::write_str`, from its contract.
+// (They take what that function takes: a room and its length.)
 
 #![tactic(auto)]
 

@@ -1,19 +1,19 @@
-use Rattle.base.proofs.Names.{sym, ◌∙◌, ap, arith, starts_with}
-use Rattle.base.proofs.Prefix.{starts-short, starts-on, starts-not, starts-end}
+use Rattle.base.proofs.Names.{sym, ◌∙◌, ap, ℕ, eqb, starts_with, lt-leb}
+use Rattle.std.proofs.Common.{rules}
+use borrow.Author.Tests.{tests}
+use Rattle.std.proofs.lemmas.Iterator.{YieldsList-from_slice, YieldsList-from_zip}
+use Rattle.std.proofs.lemmas.Iterator.Search.{all_from_yields_List}
+use Rattle.base.proofs.Prefix.{starts-short, starts-zipped}
 use Rattle.base.proofs.starts_with.Goals as goal
 
-pub returns-then-rest-prefix : goal.returns-then-rest-prefix
-returns-then-rest-prefix c = sym (ap (starts_with c.args.prefix.now) (sym c.get_from-rest.ensures) ∙ starts-short _ _ c.if-rest-prefix.true)
+pub returns-then-prefix-rest : goal.returns-then-prefix-rest
+returns-then-prefix-rest c =
+    all_from_yields_List (λ (p : ℕ × ℕ). eqb p.0 p.1) c.all.new.self _ c.all.result c.all.ensures.ran
+    (YieldsList-from_zip (YieldsList-from_slice c.args.prefix.now cc) (YieldsList-from_slice c.get_from-rest.result.now cc))
+    (λ x b q k. search (rules, tests))
+    ∙ starts-zipped _ _ c.if-prefix-rest.true
+    ∙ ap (starts_with c.args.prefix.now) c.get_from-rest.ensures
 
-pub returns-then-rest-i : goal.returns-then-rest-i
-returns-then-rest-i c =
-    sym (ap (starts_with c.args.prefix.now) (sym c.get_from-rest.ensures) ∙ c.loop-i.invariant
-    ∙ starts-not _ _ c.loop-i.i c.loop-i-test.true c.if-rest-prefix.false c.if-rest-i.true)
-
-pub loop-i-preserved : goal.loop-i-preserved
-loop-i-preserved c = c.loop-i.invariant ∙ starts-on _ _ c.loop-i.i c.loop-i-test.true c.if-rest-prefix.false c.if-rest-i.false
-
-pub returns : goal.returns
-returns c =
-    let l = c.loop-i in
-    sym (ap (starts_with c.args.prefix.now) (sym c.get_from-rest.ensures) ∙ l.invariant ∙ starts-end c.args.prefix.now _ l.i (omega arith))
+pub returns-else-prefix-rest : goal.returns-else-prefix-rest
+returns-else-prefix-rest c =
+    lt-leb _ _ c.if-prefix-rest.false ∙ sym (ap (starts_with c.args.prefix.now) (sym c.get_from-rest.ensures) ∙ starts-short _ _ c.if-prefix-rest.false)

@@ -1,20 +1,23 @@
-use Rattle.compared.proofs.Names.{◌≡◌, sym, ap, ◌∙◌, get_or}
-use Rattle.compared.proofs.Filling.{holds-next, holds-other, holds_all}
+use Rattle.compared.proofs.Names.{ℕ, ◌∙◌, get_or, length, arith, eqb}
+use borrow.Author.Tests.{le-leb, lt-leb}
+use Rattle.std.proofs.Common.{rules, tests}
+use Rattle.std.proofs.lemmas.Iterator.{YieldsList-from_slice}
+use Rattle.std.proofs.lemmas.Iterator.Consumers.{YieldsList-from_enumerate}
+use Rattle.std.proofs.lemmas.Iterator.Search.{all_from_yields_List}
+use Rattle.compared.proofs.Filling.{all-filled}
+use Rattle.compared.proofs.holds_by.Goals.{then-text-room, else-text-room}
 use Rattle.compared.proofs.holds_by.Goals as goal
 
-pub returns-then-b-byte_or : goal.returns-then-b-byte_or
-returns-then-b-byte_or g c =
-    let l = c.loop-i in
-    let text = c.args.text.now in
-    let e : c.byte_or.result ≡ get_or text l.i (g.byte l.i) = c.byte_or.ensures ∙ ap (get_or text l.i) (c.requires.1.1 _ _ c.other.ensures) in
-    holds-other g.byte c.args.room.now text l.i c.loop-i-test.true l.invariant (λ f. c.if-b-byte_or.true (f ∙ sym e))
-
-pub loop-i-preserved : goal.loop-i-preserved
-loop-i-preserved g c =
-    let l = c.loop-i in
-    let text = c.args.text.now in
-    let e : c.byte_or.result ≡ get_or text l.i (g.byte l.i) = c.byte_or.ensures ∙ ap (get_or text l.i) (c.requires.1.1 _ _ c.other.ensures) in
-    holds-next g.byte c.args.room.now text l.i c.loop-i-test.true l.invariant (c.if-b-byte_or.false ∙ e)
-
 pub returns : goal.returns
-returns g c = holds_all g.byte c.args.room.now c.args.text.now c.loop-i.i c.loop-i-test.false c.loop-i.invariant
+returns g c =
+    let text = c.args.text.now in
+    let room = c.args.room.now in
+    elim c.if-text-room.branch [
+      | then-text-room w ↦
+          let whole = all_from_yields_List (λ (p : ℕ × ℕ). eqb p.1 (get_or text p.0 (g.byte p.0))) _ _ w.all.result w.all.ensures.ran
+          (YieldsList-from_enumerate (YieldsList-from_slice room cc) cc) (λ x b q k. (search (rules, tests), search (rules, tests, c.requires.1.1))) in
+          rw (le-leb (length text) (length room) w.if-text-room.true) (w.result-is ∙ whole ∙ all-filled g.byte text room 0 (length room) (omega arith))
+      | else-text-room w ↦
+          let longer = lt-leb (length text) (length room) w.if-text-room.false in
+          rw longer (w.result-is ∙ longer)
+    ]

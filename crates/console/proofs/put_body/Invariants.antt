@@ -1,13 +1,14 @@
 use Prim.Native.Nat.{◌+◌, ◌-◌}
+use mathlib.Core.Path.{◌≡◌}
 use lib.ListN.{length}
 use Rattle.console.proofs.Writing.{Writing}
 use Rattle.console.proofs.put_body.Given as goal
 
--- Invariant: what stands in the room, and the chunks from the cursor on, give what all chunks give (Writing).
+-- Invariant: what stands on the page, and the chunks of the body from the cursor on, give what all chunks give (Writing).
 -- What falls: the bytes of the body after the cursor.
 
-abbrev pub invariant-loop-cursor : goal.invariant-loop-cursor
-invariant-loop-cursor l = Writing l.set l.body l.margin.0 l.start l.initial.room l.initial.m l.room l.m l.cursor
+abbrev pub invariant-loop-chunks : goal.invariant-loop-chunks
+invariant-loop-chunks l = Writing l.set l.body l.margin.0 l.start l.initial.page l.page l.chunks.cursor × (l.chunks.input.now ≡ l.body)
 
-abbrev pub decreases-loop-cursor : goal.decreases-loop-cursor
-decreases-loop-cursor l = length l.body + 1 - l.cursor.at
+abbrev pub decreases-loop-chunks : goal.decreases-loop-chunks
+decreases-loop-chunks l = length l.body + 1 - l.chunks.cursor.at

@@ -8,16 +8,14 @@ use Rattle.console.proofs.render_console.Goals as goal
 
 pub returns : goal.returns
 returns c =
-    let clear-after = c.clear_after in
-    let s = c.rendered-answer in
+    let s = c.rendered in
     let a = c.args in
-    let answer =
-    standing-measured s.new.room s.result (console a.set (length a.room.now) a.document.now) s.ensures.same
-    s.ensures.fits in
+    let answer = standing-measured s.new.room s.result (console a.set (length a.room.now) a.document.now) s.ensures.same s.ensures.fits in
     let room =
-    cleared_room a.room.now s.new.room clear-after.new.room s.result (console a.set (length a.room.now) a.document.now)
-    s.ensures s.auto.room clear-after.ensures in record {
+    cleared_room a.room.now s.new.room c.cleared.new.room s.result (console a.set (length a.room.now) a.document.now)
+    s.ensures s.auto.room c.cleared.ensures.room in
+    rw c.cleared.ensures.answer record {
       answer = answer;
       room = room;
-      demand3 = demand3 a.set a.document.now a.room.now clear-after.new.room _ (λ text e. answer ∙ ap measured e) room;
+      demand3 = demand3 a.set a.document.now a.room.now c.cleared.new.room _ (λ text e. answer ∙ ap measured e) room;
     }

@@ -3,7 +3,7 @@ use mathlib.Core.List.{[]}
 use Prim.Native.Nat.{ℕ}
 use lib.ListN.{length}
 use Rattle.refusal.specs.declared.Refusal.TheVariants as refusal
-use Rattle.document.proofs.Walks.{verdict_gives, verdict_refused}
+use Rattle.document.proofs.Walks.{of_gives, of_refused}
 use Rattle.console_rules.specs.Console.{measure_of, text_by}
 use Rattle.console.proofs.Order.{console_long, console-wide, console-refused, console-text, stands-no, stands-exit, stands_by}
 use Rattle.records.specs.Records.{tokens}
@@ -18,16 +18,17 @@ returns-then-set-gt-MAX_WIDTH c =
     stands-no _ refusal.TooWide _
     (console-wide c.args.set _ c.args.document.now c.if-document-gt-MAX_BYTES.false c.if-set-gt-MAX_WIDTH.true)
 
-pub returns-in_err-check : goal.returns-in_err-check
-returns-in_err-check c =
+pub returns-in_err-accepted : goal.returns-in_err-accepted
+returns-in_err-accepted c =
     stands-exit _ c.from_residual.result _ _ c.from_residual.ensures.1
     (console-refused c.args.set _ c.args.document.now c.if-document-gt-MAX_BYTES.false c.if-set-gt-MAX_WIDTH.false _ _
-    (verdict_refused [] c.check.ensures c.in_err-check.was))
+    (of_refused _ c.of.ensures c.in_err-accepted.was))
 
 pub returns : goal.returns
 returns c =
     let set = c.args.set in
     let s = c.args.document.now in
+    let g = of_gives s c.of.ensures c.in_ok-accepted.was in
     stands_by c.walk.new.room c.walk.result _ _
-    (console-text set _ s c.if-document-gt-MAX_BYTES.false c.if-set-gt-MAX_WIDTH.false [] (verdict_gives [] c.check.ensures c.in_ok-check.was)
-    ∙ ap (λ (t : ℕ). text_by (measure_of set) set (length c.args.room.now) t (tokens 0 0 s)) (sym c.tabstop_of-tab.ensures.0)) c.walk.ensures
+    (console-text set _ s c.if-document-gt-MAX_BYTES.false c.if-set-gt-MAX_WIDTH.false [] g.0
+    ∙ ap (λ (t : ℕ). text_by (measure_of set) set (length c.args.room.now) t (tokens 0 0 s)) (sym c.tabstop_of-tab.ensures.0)) (rw g.1 at c.walk.ensures)

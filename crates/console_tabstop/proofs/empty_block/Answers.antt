@@ -1,4 +1,7 @@
-use mathlib.Core.Path.{sym, ap, ◌∙◌}
+use mathlib.Core.Path.{◌≡◌, sym, ap, ◌∙◌}
+use mathlib.Core.Bool.{true, false}
+use borrow.Author.Rules.{rules}
+use Rattle.records.specs.Records.{is_start, is_end}
 use Rattle.console_rules.specs.Console.{empty_block}
 use Rattle.console_tabstop.proofs.Scans.{first-none, first-one, first-two}
 use Rattle.console_tabstop.proofs.empty_block.Goals as goal
@@ -9,13 +12,15 @@ returns-in_default c = first-none c.in_default.ensures.steps.0 ∙ ap empty_bloc
 pub returns-in_default-next : goal.returns-in_default-next
 returns-in_default-next c = first-one c.in-Some.ensures.steps c.in_default-next.ensures.steps.0 ∙ ap empty_block c.from_place-records.ensures
 
-pub returns-then-starts_block : goal.returns-then-starts_block
-returns-then-starts_block c =
+pub returns-then-eq : goal.returns-then-eq
+returns-then-eq c =
     let both = first-two c.in-Some.ensures.steps c.in-Some-next.ensures.steps in
-    c.ends_block.ensures ∙ sym (sym (ap empty_block c.from_place-records.ensures) ∙ both ∙ rw (sym c.starts_block.ensures ∙ c.if-starts_block.true))
+    let first : is_start 7 c.in-Some.a.kind ≡ true = search rules in
+    let second : c.eq-then-eq.result ≡ is_end 7 c.in-Some-next.b.kind = search rules in
+    second ∙ sym (sym (ap empty_block c.from_place-records.ensures) ∙ both ∙ rw first)
 
-pub returns-else-starts_block : goal.returns-else-starts_block
-returns-else-starts_block c =
+pub returns-else-eq : goal.returns-else-eq
+returns-else-eq c =
     let both = first-two c.in-Some.ensures.steps c.in-Some-next.ensures.steps in
-    c.if-starts_block.false
-    ∙ sym (sym (ap empty_block c.from_place-records.ensures) ∙ both ∙ rw (sym c.starts_block.ensures ∙ c.if-starts_block.false))
+    let first : is_start 7 c.in-Some.a.kind ≡ false = search rules in
+    c.if-eq.false ∙ sym (sym (ap empty_block c.from_place-records.ensures) ∙ both ∙ rw first)

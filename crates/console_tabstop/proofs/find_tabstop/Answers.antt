@@ -5,21 +5,21 @@ use Rattle.records.specs.Answers.{head_of, Read}
 use Rattle.console_rules.specs.Console.{Terms, tabstop, settled_at}
 use Rattle.console_tabstop.specs.InnerCounted.{terms_of}
 use Rattle.console_tabstop.proofs.Searching.{on-done, on-settled, on-next}
-use Rattle.console_tabstop.proofs.find_tabstop.Goals.{After-whole_raw_at-h}
+use Rattle.console_tabstop.proofs.find_tabstop.Goals.{After-whole_raw_at-r}
 use Rattle.console_tabstop.proofs.find_tabstop.Goals as goal
 
 -- the record at `at`, which lies whole
-read : (c : After-whole_raw_at-h)
+read : (c : After-whole_raw_at-r)
     → Read c.args.document.now c.loop-at.at
-    (head_of c.whole_raw_at-h.result)
-read c = c.whole_raw_at-h.ensures (sym c.fits_at.ensures ∙ c.if-not-fits_at.false)
+    (head_of c.whole_raw_at-r.result)
+read c = c.whole_raw_at-r.ensures (sym c.fits_at.ensures ∙ c.if-not-fits_at.false)
 
 pub loop-at-preserved : goal.loop-at-preserved
 loop-at-preserved c =
     let l = c.loop-at in
     let later = sym c.settles.ensures ∙ c.if-settles.false in
-    on-next _ _ _ l.at (terms_of l.t) l.invariant (head_of c.whole_raw_at-h.result)
-    (read (goal.at.loop-at-preserved c).After-whole_raw_at-h) c.loop-at-test.true later _ c.term_on-t.ensures
+    on-next _ _ _ l.at (terms_of l.t) l.invariant (head_of c.whole_raw_at-r.result)
+    (read (goal.at.loop-at-preserved c).After-whole_raw_at-r) c.loop-at-test.true later _ c.on.ensures
 
 pub returns-then-not-fits_at : goal.returns-then-not-fits_at
 unfolding tabstop settled_at
@@ -36,8 +36,8 @@ returns-then-settles c =
     let l = c.loop-at in
     let here = sym c.settles.ensures ∙ c.if-settles.true in
     let e =
-    on-settled _ _ _ l.at (terms_of l.t) l.invariant (head_of c.whole_raw_at-h.result)
-    (read (goal.at.returns-then-settles c).After-whole_raw_at-h) c.loop-at-test.true here in record {
+    on-settled _ _ _ l.at (terms_of l.t) l.invariant (head_of c.whole_raw_at-r.result)
+    (read (goal.at.returns-then-settles c).After-whole_raw_at-r) c.loop-at-test.true here in record {
       tabstop = (e.0, omega arith);
       settled = e.1;
     }

@@ -1,10 +1,12 @@
 use Rattle.draft.proofs.Names.{ap, ◌∙◌, rules}
 use Rattle.records.specs.Listed.{left}
-use Rattle.draft.proofs.Holding.{built_0, built_inside, built_next, built_done}
+use Rattle.draft.proofs.Holding.{default-nothing, built_0, built_inside, built_next, built_done}
 use Rattle.draft.proofs.found.Goals as goal
 
 pub loop-r-init : goal.loop-r-init
-loop-r-init c = built_0 c.requires (ap left c.into_iter-r-iterator.ensures.into_iter_gives ∙ c.of-r-items.ensures)
+loop-r-init c =
+    rw (default-nothing c.default-d.result c.default-d.ensures)
+    (built_0 c.requires (ap left c.into_iter-r-iterator.ensures.into_iter_gives ∙ c.of-r-items.ensures))
 
 pub overflow_add-r : goal.overflow_add-r
 overflow_add-r c = let h = built_inside c.loop-r.invariant c.in-Some.ensures.steps in search (rules, h)

@@ -7,10 +7,11 @@ use Rattle.html.proofs.walk.Given as goal
 -- What is left of the body falls.
 abbrev pub invariant-chunks : goal.invariant-chunks
 invariant-chunks l =
-    InBody l.initial.t.room.ghost_name (length l.fn.room) l.strict l.full l.sheet l.document l.t (left l.r-iterator) l.lay l.blocks l.body l.cursor
+    InBody l.initial.t.room.ghost_name (length l.fn.room) l.strict l.full l.sheet l.document l.t (left l.r-iterator) l.lay l.blocks
+    l.chunks.input.now l.chunks.cursor
 
 abbrev pub decreases-chunks : goal.decreases-chunks
-decreases-chunks l = length l.body + 1 - l.cursor.at
+decreases-chunks l = length l.chunks.input.now + 1 - l.chunks.cursor.at
 
 -- The records: what stands there and the records that are left give the whole, and the open blocks are those of the accepted document.
 -- The records that are left become fewer.

@@ -14,7 +14,7 @@ pub loop-i-preserved : goal.loop-i-preserved
 loop-i-preserved c =
     left_byte _ _ _ _ (ran (goal.at.loop-i-preserved c).After-put_all) _
     (omega (arith, c.if-body-to.false)) (ne_eqb _ _ c.if-body-to-eq10.false)
-    (with_same _ _ _ _ (ap (escaped _) c.get-in-loop-i.ensures) c.put_text.ensures)
+    (with_same _ _ _ _ (ap (escaped _) c.get-in-loop-i.ensures) c.put_escaped.ensures)
 
 pub returns-then-body-to : goal.returns-then-body-to
 returns-then-body-to c =

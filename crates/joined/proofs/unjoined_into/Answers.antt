@@ -1,7 +1,8 @@
 use Rattle.std.proofs.lemmas.Result.{err_from_is_err_and}
-use Rattle.joined.proofs.Names.{rules, sym, ap, ◌∙◌, ◌≡◌, [], List, ℕ, seen, verdict_gives, verdict_refused}
+use Rattle.joined.proofs.Names.{rules, sym, ap, ◌∙◌, ◌≡◌, [], List, ℕ, verdict_gives, verdict_refused}
 use Rattle.room.specs.Lent.{Lent, with_bytes}
 use Rattle.room.proofs.Lents.{same_room}
+use Rattle.renderer.specs.Rendered.{standing}
 use Rattle.joined.proofs.Answering.{unjoin_refused, unjoin_parts}
 use Rattle.joined.proofs.unjoined_into.Goals as goal
 
@@ -11,8 +12,8 @@ returns-clause-text c =
     let t = c.new-t.ensures in
     let w = c.put_records.ensures in
     let name = (same_room _ _ _ _ w).0 ∙ ap (λ (v : Lent). v.name) t in
-    let back : _ ≡ c.finish-end.new.self.0 = search (rules, sym name) in
-    c.answer.ensures.text ∙ ap (λ (r : List ℕ). seen r c.finish-end.result) back ∙ c.finish-end.ensures
+    let back : _ ≡ c.finish.new.t.0 = search (rules, sym name) in
+    ap (λ (r : List ℕ). standing r c.finish.result) back ∙ c.finish.ensures.text
     ∙ unjoin_parts c.args.joined.now _ _ c.put_records.new.t v (w ∙ ap (with_bytes _) t)
 
 pub returns-in_err-check-clause-text : goal.returns-in_err-check-clause-text

@@ -1,16 +1,13 @@
-use Rattle.joined_check.proofs.Names.{sym, ◌∙◌}
-use Rattle.joined_check.proofs.Checking.{check_long, check-textless, check-reads}
+use Rattle.std.proofs.lemmas.Result.{err_from_is_err_and}
+use Rattle.joined_check.proofs.Names.{◌∙◌}
+use Rattle.document.proofs.Walks.{verdict_gives, verdict_refused}
+use Rattle.joined_check.proofs.Checking.{check-refused, check-reads}
 use Rattle.joined_check.proofs.check.Goals as goal
 
-pub returns-then-joined-gt-MAX_BYTES : goal.returns-then-joined-gt-MAX_BYTES
-returns-then-joined-gt-MAX_BYTES c = check_long (c.args.joined.now) c.if-joined-gt-MAX_BYTES.true
-
-pub returns-then-not-has_text : goal.returns-then-not-has_text
-returns-then-not-has_text c =
-    check-textless (c.args.joined.now) c.if-joined-gt-MAX_BYTES.false
-    (sym c.if-not-has_text.ensures)
+pub returns-in_err-check_text : goal.returns-in_err-check_text
+returns-in_err-check_text c =
+    let p = err_from_is_err_and c.from_residual.result c.from_residual.ensures.1 in
+    rw (p.1, p.2) (check-refused c.args.joined.now (verdict_refused _ c.check_text.ensures c.in_err-check_text.was))
 
 pub returns : goal.returns
-returns c =
-    c.read_shares.ensures ∙ check-reads (c.args.joined.now) c.if-joined-gt-MAX_BYTES.false
-    (sym c.if-not-has_text.ensures)
+returns c = c.read_shares.ensures ∙ check-reads c.args.joined.now (verdict_gives _ c.check_text.ensures c.in_ok-check_text.was)

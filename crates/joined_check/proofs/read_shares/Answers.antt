@@ -1,5 +1,5 @@
 use Rattle.std.proofs.lemmas.Result.{err_from_is_err_and}
-use Rattle.joined_check.proofs.Names.{◌-◌, length, sym, ◌∙◌, arith}
+use Rattle.joined_check.proofs.Names.{◌-◌, length, refl, sym, ◌∙◌, arith}
 use lib.ListN.{drop, length-drop}
 use lib.Seq.{take_all}
 use borrow.Author.Tests.{eqb-true, eqb-false}
@@ -25,28 +25,30 @@ returns-in_err-accept c =
     let p = err_from_is_err_and c.from_residual.result c.from_residual.ensures.1 in
     let no = verdict_refused _ c.accept.ensures c.in_err-accept.was in
     rw (p.1, p.2)
-    (sym (left-refused (length c.args.joined.now) l.s-iterator.at _ l.text.now l.blocks s.0 s.1.0 c.if-s-lt6.false c.size-size.ensures.0 c.kind.ensures no)
+    (sym (left-refused (length c.args.joined.now) l.s-iterator.at _ l.text.now l.blocks s.0 s.1.0 c.if-s-lt6.false refl refl no)
     ∙ l.invariant)
 
 pub slice_bounds-text-count : goal.slice_bounds-text-count
 slice_bounds-text-count c =
-    let l = c.loop-s in share_fits c.in-Some.s.place _ _ l.text.now l.blocks (verdict_gives _ c.accept.ensures c.in_ok-accept.was)
+    let l = c.loop-s in
+    let h = share_fits c.in-Some.s.place _ _ l.text.now l.blocks (verdict_gives _ c.accept.ensures c.in_ok-accept.was) in
+    omega (arith, h, c.size.ensures.0)
 
 pub slice_bounds-text-start : goal.slice_bounds-text-start
 slice_bounds-text-start c =
     let l = c.loop-s in
     let h = share_fits c.in-Some.s.place _ _ l.text.now l.blocks (verdict_gives _ c.accept.ensures c.in_ok-accept.was) in
-    omega (arith, h)
+    omega (arith, h, c.size.ensures.0)
 
 pub loop-s-preserved : goal.loop-s-preserved
 loop-s-preserved c =
     let l = c.loop-s in
     let s = c.in-Some.ensures.steps in
     let on = verdict_gives _ c.accept.ensures c.in_ok-accept.was in
-    let n = c.size-size.result in
+    let n = c.size.result in
     let rest = take_all (length l.text.now - n) (drop n l.text.now) (omega (arith, length-drop n l.text.now)) in
-    rw rest
-    (sym (left-next (length c.args.joined.now) l.s-iterator.at _ l.text.now l.blocks s.0 s.1.0 c.if-s-lt6.false c.size-size.ensures.0 c.kind.ensures on s.1.1)
+    rw (rest, c.size.ensures.0)
+    (sym (left-next (length c.args.joined.now) l.s-iterator.at _ l.text.now l.blocks s.0 s.1.0 c.if-s-lt6.false refl refl on s.1.1)
     ∙ l.invariant)
 
 pub returns-then-depth-ne0 : goal.returns-then-depth-ne0

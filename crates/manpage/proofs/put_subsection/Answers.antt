@@ -1,10 +1,10 @@
-use Rattle.manpage.proofs.Names.{ap, when◌then◌else◌, encode, bytes, pushed_none, pushed-same, subsection}
-use Rattle.manpage.proofs.Blocks.{subsection-nothing}
+use Rattle.manpage.proofs.Names.{when◌then◌else◌, encode, bytes, pushed_none, pushed-same, subsection}
+use Rattle.manpage.proofs.Blocks.{subsection_where, subsection-nothing}
 use Rattle.manpage.proofs.put_subsection.Goals as goal
 
-pub returns-in-Emphasis : goal.returns-in-Emphasis
+pub returns-then-eq : goal.returns-then-eq
 unfolding subsection bytes encode when◌then◌else◌
-returns-in-Emphasis c = pushed-same _ _ _ _ (ap subsection c.in-Emphasis.is) c.control0.ensures
+returns-then-eq c = pushed-same _ _ _ _ (subsection_where c.args.style c.if-eq.ensures) c.control0.ensures
 
-pub returns-in_default : goal.returns-in_default
-returns-in_default c = pushed-same _ _ _ _ (subsection-nothing c.args.style c.in_default.not-Emphasis) (pushed_none c.args.m.now)
+pub returns-else-eq : goal.returns-else-eq
+returns-else-eq c = pushed-same _ _ _ _ (subsection-nothing c.args.style c.if-eq.ensures) (pushed_none c.args.m.now)

@@ -2,8 +2,9 @@ use Rattle.std.proofs.lemmas.Result.{err_from_is_err_and}
 use Rattle.std.specs.Borrow.{GName}
 use Rattle.room.specs.Lent.{Lent, with_bytes}
 use Rattle.room.specs.declared.Text.{Text}
-use Rattle.manpage.proofs.Names.{◌≡◌, rules, sym, ap, ◌∙◌, [], List, ℕ, seen, preamble, roff, verdict_gives, verdict_refused}
-use Rattle.manpage.proofs.Encoding.{accepted_texts}
+use Rattle.renderer.specs.Rendered.{standing}
+use Rattle.manpage.proofs.Names.{◌≡◌, rules, sym, ap, ◌∙◌, List, ℕ, seen, preamble, roff}
+use Rattle.document.proofs.Walks.{of_gives, of_refused}
 use Rattle.manpage.proofs.Walking.{roff-refused, walked_refused, walked_given}
 use Rattle.manpage.proofs.rendered.Goals as goal
 
@@ -14,30 +15,29 @@ same_seen w t e = ap (λ (t : Text). seen t.room.now t.len) e
 named : (w : Text) (n : GName) → w.room.ghost_name ≡ n → (t : Text) → t ≡ w → n ≡ t.room.ghost_name
 named w n e t f = sym (ap (λ (t : Text). t.room.ghost_name) f ∙ e)
 
-pub walk-requires-clause-valid : goal.walk-requires-clause-valid
-walk-requires-clause-valid c = accepted_texts c.args.document.now [] (verdict_gives [] c.check.ensures c.in_ok-check.was)
-
-pub returns-in_err-check-clause-text : goal.returns-in_err-check-clause-text
-returns-in_err-check-clause-text c =
+pub returns-in_err-accepted-clause-text : goal.returns-in_err-accepted-clause-text
+returns-in_err-accepted-clause-text c =
     let p = err_from_is_err_and c.from_residual.result c.from_residual.ensures.1 in
-    rw (p.1, p.2) (sym (roff-refused _ (c.args.document.now) _ _ (verdict_refused [] c.check.ensures c.in_err-check.was)))
+    rw (p.1, p.2) (sym (roff-refused _ (c.args.document.now) _ _ (of_refused _ c.of.ensures c.in_err-accepted.was)))
 
 pub returns-in_err-walk-clause-text : goal.returns-in_err-walk-clause-text
 returns-in_err-walk-clause-text c =
     let p = err_from_is_err_and c.from_residual-in_err-walk.result c.from_residual-in_err-walk.ensures.1 in
     let t = c.put_preamble.ensures ∙ ap (λ (t : Lent). with_bytes preamble t) c.new-text.ensures in
+    let g = of_gives _ c.of.ensures c.in_ok-accepted.was in
     rw (p.1, p.2)
-    (walked_refused _ c.args.document.now _ _ c.walk.ensures.text c.in_err-walk.was (verdict_gives [] c.check.ensures c.in_ok-check.was)
+    (walked_refused _ c.args.document.now _ _ (rw g.1 at c.walk.ensures.text) c.in_err-walk.was g.0
     ∙ ap (λ (n : ℕ). roff n c.args.document.now) (ap (λ (v : Lent). v.size) t))
 
 pub returns-clause-text : goal.returns-clause-text
 returns-clause-text c =
     let w = c.walk.new.m in
+    let g = of_gives _ c.of.ensures c.in_ok-accepted.was in
     let t = c.put_preamble.ensures ∙ ap (λ (t : Lent). with_bytes preamble t) c.new-text.ensures in
     let l = c.walk.ensures.same.loan in
     let n = c.walk.ensures.same.name ∙ ap (λ (v : Lent). v.name) t in
-    let room : _ ≡ c.finish-len.new.self.0 = search (rules, l, sym l, named w.text.now _ n) in
-    let same : _ ≡ seen w.text.now.room.now w.text.now.len = c.finish-len.ensures ∙ search (rules, l, sym l, same_seen w.text.now) in
-    c.answer.ensures.text ∙ ap (λ (x : List ℕ). seen x c.finish-len.result) room ∙ same
-    ∙ walked_given _ c.args.document.now _ _ c.walk.ensures.text c.in_ok-walk.was (verdict_gives [] c.check.ensures c.in_ok-check.was)
+    let room : _ ≡ c.finish.new.t.0 = search (rules, l, sym l, named w.text.now _ n) in
+    let same : _ ≡ seen w.text.now.room.now w.text.now.len = c.finish.ensures.text ∙ search (rules, l, sym l, same_seen w.text.now) in
+    ap (λ (x : List ℕ). standing x c.finish.result) room ∙ same
+    ∙ walked_given _ c.args.document.now _ _ (rw g.1 at c.walk.ensures.text) c.in_ok-walk.was g.0
     ∙ ap (λ (n : ℕ). roff n c.args.document.now) (ap (λ (v : Lent). v.size) t)

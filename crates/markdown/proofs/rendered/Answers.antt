@@ -1,15 +1,14 @@
 use Rattle.std.proofs.lemmas.Result.{err_from_is_err_and}
-use Rattle.markdown.proofs.Names.{[], verdict_gives, verdict_refused}
+use Rattle.document.proofs.Walks.{of_gives, of_refused}
 use Rattle.markdown.proofs.Whole.{markdown-refused, markdown_accepted}
 use Rattle.markdown.proofs.rendered.Goals as goal
 
-pub walk-requires : goal.walk-requires
-walk-requires c = verdict_gives [] c.check.ensures c.in_ok-check.was
-
-pub returns-in_err-check-clause-text : goal.returns-in_err-check-clause-text
-returns-in_err-check-clause-text c =
+pub returns-in_err-accepted-clause-text : goal.returns-in_err-accepted-clause-text
+returns-in_err-accepted-clause-text c =
     let p = err_from_is_err_and c.from_residual.result c.from_residual.ensures.1 in
-    rw (p.1, p.2) (markdown-refused _ _ _ _ _ (verdict_refused [] c.check.ensures c.in_err-check.was))
+    rw (p.1, p.2) (markdown-refused _ _ _ _ _ (of_refused _ c.of.ensures c.in_err-accepted.was))
 
 pub returns-clause-text : goal.returns-clause-text
-returns-clause-text c = markdown_accepted _ _ _ _ (verdict_gives [] c.check.ensures c.in_ok-check.was) c.walk.ensures.text
+returns-clause-text c =
+    let g = of_gives _ c.of.ensures c.in_ok-accepted.was in
+    markdown_accepted _ _ _ _ g.0 (rw g.1 at c.walk.ensures.text)

@@ -6,10 +6,10 @@ use Rattle.markdown.proofs.walk.Given as goal
 -- The chunks of a body: what stands there and the chunks from the cursor on, with the end of the body and the records after it, give the
 -- whole. What is left of the body falls.
 abbrev pub invariant-chunks : goal.invariant-chunks
-invariant-chunks l = InBody l.initial.t.room.ghost_name (length l.fn.room) l.full l.document l.t (left l.records) l.lay l.body l.cursor
+invariant-chunks l = InBody l.initial.t.room.ghost_name (length l.fn.room) l.full l.document l.t (left l.records) l.lay l.chunks.input.now l.chunks.cursor
 
 abbrev pub decreases-chunks : goal.decreases-chunks
-decreases-chunks l = length l.body + 1 - l.cursor.at
+decreases-chunks l = length l.chunks.input.now + 1 - l.chunks.cursor.at
 
 -- The records: what stands there and the records that are left give the whole. The records that are left become fewer.
 abbrev pub invariant-records : goal.invariant-records

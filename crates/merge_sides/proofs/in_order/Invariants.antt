@@ -1,12 +1,12 @@
-use Rattle.merge_sides.proofs.Names.{◌≡◌, ◌-◌, length}
+use Rattle.merge_sides.proofs.Names.{◌-◌, length, Reads}
 use Rattle.merge_sides.proofs.Sides.{Climbing}
 use Rattle.merge_sides.proofs.in_order.Given as goal
 
--- The items from one on ascend as all do, and the first key has its term.
+-- The items from one on ascend as all do, and the key of that one has its term.
 -- What is left of the document falls.
 
-abbrev pub invariant-loop-at : goal.invariant-loop-at
-invariant-loop-at l = Climbing l.document l.key l.at l.e.next l.e.len × (length l.key ≡ 32768) × (length l.other ≡ 32768)
+abbrev pub invariant-loop-here : goal.invariant-loop-here
+invariant-loop-here l = Climbing l.document l.here × Reads l.document l.after
 
-abbrev pub decreases-loop-at : goal.decreases-loop-at
-decreases-loop-at l = length l.document - l.at
+abbrev pub decreases-loop-here : goal.decreases-loop-here
+decreases-loop-here l = length l.document - l.here.at

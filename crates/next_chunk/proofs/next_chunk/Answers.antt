@@ -10,4 +10,6 @@ returns-in-Some c =
 pub returns-in-None : goal.returns-in-None
 returns-in-None c =
     let a = c.args in
-    let s = c.step_at-step in next-done a.body.now a.at a.ticks _ c.code_of-code.ensures s.result s.ensures.chunk c.in-None.is
+    let s = c.step_at-step in
+    let d = c.default.ensures in
+    rw (d.0, d.1.1.1.0, d.1.1.1.1.0, d.1.1.1.1.1) (next-done a.body.now a.at a.ticks _ c.code_of-code.ensures s.result s.ensures.chunk c.in-None.is)

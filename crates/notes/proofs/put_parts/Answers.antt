@@ -1,45 +1,37 @@
-use Rattle.notes.proofs.Names.{sym, ◌∙◌, arith, header_mark, item_mark}
-use Rattle.base.proofs.Prefix.{starts_fits}
+use Rattle.std.proofs.Common.{rules, tests}
+use Rattle.notes.proofs.Names.{sym, ap, ◌∙◌, document}
 use Rattle.room.proofs.Lents.{with_none}
 use Rattle.notes.proofs.Steps.{step_header, step_item, step-blank, step_other, leaves_part, leaves_blank, leaves_none}
 use Rattle.notes.proofs.put_parts.Goals as goal
 
-pub text_end-e-requires : goal.text_end-e-requires
-text_end-e-requires c =
-    let header_at = c.header_at in
-    starts_fits header_mark _ c.loop-at.at header_at.result (omega arith) header_at.ensures c.if-header_at.true
+pub loop-rest-preserved-then-is_header : goal.loop-rest-preserved-then-is_header
+loop-rest-preserved-then-is_header c =
+    let p = c.put_part-rest.ensures in
+    leaves_part _ _ _ _ c.loop-rest.invariant _ _ _ p.text
+    (rw (p.rest, c.get_from.ensures) (step_header _ (sym c.is_header.ensures ∙ c.if-is_header.true)))
 
-pub loop-at-preserved-then-header_at : goal.loop-at-preserved-then-header_at
-loop-at-preserved-then-header_at c =
-    let e = c.text_end-e.ensures in
-    leaves_part _ _ _ _ c.loop-at.invariant _ _ _ e.inside c.put_part.ensures (step_header _ c.loop-at.at (sym c.header_at.ensures ∙ c.if-header_at.true) e)
+pub loop-rest-preserved-then-is_item : goal.loop-rest-preserved-then-is_item
+loop-rest-preserved-then-is_item c =
+    let p = c.put_part.ensures in
+    leaves_part _ _ _ _ c.loop-rest.invariant _ _ _ p.text
+    (rw (p.rest, c.get_from-then-is_item.ensures)
+    (step_item _ (sym c.is_header.ensures ∙ c.if-is_header.false) (sym c.is_item.ensures ∙ c.if-is_item.true)))
 
-pub text_end-e-requires-then-item_at : goal.text_end-e-requires-then-item_at
-text_end-e-requires-then-item_at c =
-    let item_at = c.item_at in
-    starts_fits item_mark _ c.loop-at.at item_at.result (omega arith) item_at.ensures c.if-item_at.true
+pub loop-rest-preserved-then-is_blank : goal.loop-rest-preserved-then-is_blank
+loop-rest-preserved-then-is_blank c =
+    leaves_blank _ _ _ _ c.loop-rest.invariant _
+    (step-blank _ (search (rules, tests)) (sym c.is_header.ensures ∙ c.if-is_header.false) (sym c.is_item.ensures ∙ c.if-is_item.false)
+    (sym c.is_blank.ensures ∙ c.if-is_blank.true)
+    ∙ ap document (sym c.after_line.ensures))
 
-pub loop-at-preserved-then-item_at : goal.loop-at-preserved-then-item_at
-loop-at-preserved-then-item_at c =
-    let e = c.text_end-e-then-item_at.ensures in
-    leaves_part _ _ _ _ c.loop-at.invariant _ _ _ e.inside c.put_part-then-item_at.ensures
-    (step_item _ c.loop-at.at (sym c.header_at.ensures ∙ c.if-header_at.false) (sym c.item_at.ensures ∙ c.if-item_at.true) e)
-
-pub loop-at-preserved-then-blank_at : goal.loop-at-preserved-then-blank_at
-loop-at-preserved-then-blank_at c =
-    let e = c.text_end-at.ensures in
-    leaves_blank _ _ _ _ c.loop-at.invariant _ e.inside
-    (step-blank _ c.loop-at.at c.loop-at-test.true (sym c.header_at.ensures ∙ c.if-header_at.false) (sym c.item_at.ensures ∙ c.if-item_at.false)
-    (sym c.blank_at.ensures ∙ c.if-blank_at.true) e)
-
-pub loop-at-preserved : goal.loop-at-preserved
-loop-at-preserved c =
-    let e = c.text_end-e-else-blank_at.ensures in
-    leaves_part _ _ _ _ c.loop-at.invariant _ _ _ e.inside c.put_part-else-blank_at.ensures
-    (step_other _ c.loop-at.at (sym c.header_at.ensures ∙ c.if-header_at.false) (sym c.item_at.ensures ∙ c.if-item_at.false)
-    (sym c.blank_at.ensures ∙ c.if-blank_at.false) e)
+pub loop-rest-preserved : goal.loop-rest-preserved
+loop-rest-preserved c =
+    let p = c.put_part-else-is_blank.ensures in
+    leaves_part _ _ _ _ c.loop-rest.invariant _ _ _ p.text
+    (rw p.rest (step_other _ (sym c.is_header.ensures ∙ c.if-is_header.false) (sym c.is_item.ensures ∙ c.if-is_item.false)
+    (sym c.is_blank.ensures ∙ c.if-is_blank.false)))
 
 pub returns : goal.returns
 returns c =
-    let t = c.loop-at.t in
-    leaves_none _ _ _ _ c.loop-at.invariant (with_none t.room.ghost_name t.room.now t.len) c.loop-at-test.false
+    let t = c.loop-rest.t in
+    leaves_none _ _ _ _ c.loop-rest.invariant (with_none t.room.ghost_name t.room.now t.len) (search (rules, tests))

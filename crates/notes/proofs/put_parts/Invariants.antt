@@ -1,13 +1,13 @@
-use Rattle.notes.proofs.Names.{◌-◌, length}
+use Rattle.notes.proofs.Names.{length}
 use Rattle.room.specs.Lent.{text_of}
 use Rattle.notes.proofs.Steps.{Leaves}
 use Rattle.notes.proofs.put_parts.Given as goal
 
--- What stands there, and then the document of the notes from `at` on, is what stood there at first, and then the whole document.
+-- What stands there, and then the document of the notes that are left, is what stood there at first, and then the whole document.
 -- The bytes left fall.
 
-abbrev pub invariant-loop-at : goal.invariant-loop-at
-invariant-loop-at l = Leaves l.s (text_of l.initial.t) (text_of l.t) l.at
+abbrev pub invariant-loop-rest : goal.invariant-loop-rest
+invariant-loop-rest l = Leaves l.s (text_of l.initial.t) (text_of l.t) l.rest
 
-abbrev pub decreases-loop-at : goal.decreases-loop-at
-decreases-loop-at l = length l.s - l.at
+abbrev pub decreases-loop-rest : goal.decreases-loop-rest
+decreases-loop-rest l = length l.rest

@@ -1,12 +1,17 @@
-use Rattle.pages.proofs.Names.{arith, ap, ◌∙◌}
+use Rattle.pages.proofs.Names.{arith, sym, ap, ◌∙◌}
 use Rattle.base.specs.Result.{gives}
-use Rattle.pages.proofs.Paging.{not-allowed, count_refused, count_rounded}
+use Rattle.pages.proofs.Paging.{not-allowed, height_in, count_refused, count_rounded}
 use Rattle.pages.proofs.page_count.Goals as goal
 
-pub returns-then-height-lt1 : goal.returns-then-height-lt1
-returns-then-height-lt1 c = let a = c.args in count_refused a.height (a.text.now) (not-allowed a.height c.then-height-lt1.either)
+pub returns-then-not-is_height : goal.returns-then-not-is_height
+returns-then-not-is_height c =
+    let a = c.args in count_refused a.height a.text.now (not-allowed a.height (sym c.is_height.ensures ∙ c.if-not-is_height.true))
+
+pub div_ceil-requires : goal.div_ceil-requires
+div_ceil-requires c = omega (arith, (height_in c.args.height (sym c.is_height.ensures ∙ c.if-not-is_height.false)).0)
 
 pub returns : goal.returns
 returns c =
     let a = c.args in
-    ap gives c.div_ceil.ensures ∙ count_rounded a.height (a.text.now) c.row_count.result (omega arith) (omega arith) c.row_count.ensures
+    let h = height_in a.height (sym c.is_height.ensures ∙ c.if-not-is_height.false) in
+    ap gives c.div_ceil.ensures ∙ count_rounded a.height a.text.now c.row_count.result h.0 h.1 c.row_count.ensures

@@ -1,10 +1,20 @@
-use Rattle.pages.proofs.Names.{◌∙◌, eqb, arith}
-use Rattle.pages.proofs.Rows.{fed_part, pass_block}
+use Rattle.std.proofs.Common.{rules, ◌^◌}
+use Rattle.pages.proofs.Names.{◌∙◌, ◌-◌, ◌<◌, length, sym, ap, eqb, arith, bytes_of, feeds}
+use Rattle.pages.proofs.Rows.{feeds_counted, pass_block, bytes-within}
 use Rattle.pages.proofs.skip_rows.Goals as goal
 
-pub loop-i-preserved : goal.loop-i-preserved
-loop-i-preserved c =
-    let s = c.args.s.now in
-    let l = c.loop-i in
-    let n = c.from-n.ensures ∙ c.few.ensures.number (λ b. eqb b 0x0A) record { each = λ x r h p. p } in
-    (omega arith, omega arith, pass_block s l.i l.due _ l.invariant.2 _ (omega arith) (fed_part s l.i 128 _ (omega arith) (omega arith) n) (omega arith))
+pub loop-block-preserved : goal.loop-block-preserved
+loop-block-preserved c =
+    let l = c.loop-block in
+    let rest = l.rest.now in
+    let cut = c.in-Some.ensures.cases in
+    let n = c.from-n.result in
+    let some = c.few.ensures.number (λ b. eqb b 0x0A) record { each = λ x r h p. p } ∙ sym (feeds_counted c.in-Some.block.now) in
+    let passed = pass_block rest 128 l.due n (omega (arith, cut.2)) (c.from-n.ensures ∙ some ∙ ap feeds cut.0) c.if-due-n.false in
+    (omega (arith, l.invariant.0, cut.2), omega (arith, l.invariant.0, l.invariant.1, cut.2, passed, ap (bytes_of (l.due - n)) cut.1))
+
+pub overflow_add-result : goal.overflow_add-result
+overflow_add-result c =
+    let small : length c.args.s.now < 2 ^ 64 = search rules in
+    let l = c.loop-block in
+    omega (arith, small, c.step_rows.ensures, bytes-within l.rest.now l.due, l.invariant.0)

@@ -1,11 +1,11 @@
-use Rattle.pages.proofs.Names.{◌≡◌, ◌+◌, ◌-◌, ◌≤◌, length, drop, bytes_of}
+use Rattle.pages.proofs.Names.{◌≡◌, ◌+◌, ◌-◌, ◌≤◌, length, bytes_of}
 use Rattle.pages.proofs.skip_rows.Given as goal
 
--- From i on, the rows that are due end where k rows end from the first place on.
+-- In what is left, the rows that are due end where k rows end in the whole.
 -- What is left of the text falls.
 
-abbrev pub invariant-loop-i : goal.invariant-loop-i
-invariant-loop-i l = (l.from ≤ l.i) × (l.i ≤ length l.s) × (l.from + bytes_of l.k (drop l.from l.s) ≡ l.i + bytes_of l.due (drop l.i l.s))
+abbrev pub invariant-loop-block : goal.invariant-loop-block
+invariant-loop-block l = (length l.rest ≤ length l.s) × (bytes_of l.k l.s ≡ (length l.s - length l.rest) + bytes_of l.due l.rest)
 
-abbrev pub decreases-loop-i : goal.decreases-loop-i
-decreases-loop-i l = length l.s - l.i
+abbrev pub decreases-loop-block : goal.decreases-loop-block
+decreases-loop-block l = length l.rest

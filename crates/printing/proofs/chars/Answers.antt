@@ -9,9 +9,9 @@ loop-i-preserved-then-s-i-lt128 c =
     let l = c.loop-i in
     elim c.if-ascii_prints.branch [
       | then-ascii_prints w ↦
-          reached_print (a.s.now) a.a l.i l.n l.invariant (omega arith) c.if-s-i-lt128.true w.n-is (sym c.ascii_prints.ensures ∙ w.if-ascii_prints.true)
+          reached_print (a.s.now) l.i l.n l.invariant (omega arith) c.if-s-i-lt128.true w.n-is (sym c.ascii_prints.ensures ∙ w.if-ascii_prints.true)
       | else-ascii_prints w ↦
-          reached_blank (a.s.now) a.a l.i l.n l.invariant (omega arith) c.if-s-i-lt128.true w.n-is (sym c.ascii_prints.ensures ∙ w.if-ascii_prints.false)
+          reached_blank (a.s.now) l.i l.n l.invariant (omega arith) c.if-s-i-lt128.true w.n-is (sym c.ascii_prints.ensures ∙ w.if-ascii_prints.false)
     ]
 
 pub returns-in_err-c : goal.returns-in_err-c
@@ -34,7 +34,7 @@ loop-i-preserved-then-not-is_white c =
     let l = c.loop-i in
     let e = sym c.decode.ensures ∙ c.in_ok-c.was in
     let r = read_character (a.s.now) l.i _ _ e in
-    reached_one (a.s.now) a.a l.i l.n _ _ l.invariant r (sym c.is_white.ensures ∙ c.if-not-is_white.true)
+    reached_one (a.s.now) l.i l.n _ _ l.invariant r (sym c.is_white.ensures ∙ c.if-not-is_white.true)
 
 pub loop-i-smaller : goal.loop-i-smaller
 loop-i-smaller c =
@@ -50,4 +50,4 @@ loop-i-preserved c =
     let l = c.loop-i in
     let e = sym c.decode.ensures ∙ c.in_ok-c.was in
     let r = read_character (a.s.now) l.i _ _ e in
-    reached_white (a.s.now) a.a l.i l.n _ _ l.invariant r (sym c.is_white.ensures ∙ c.if-not-is_white.false)
+    reached_white (a.s.now) l.i l.n _ _ l.invariant r (sym c.is_white.ensures ∙ c.if-not-is_white.false)

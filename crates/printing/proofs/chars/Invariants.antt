@@ -6,7 +6,7 @@ use Rattle.printing.proofs.chars.Given as goal
 -- The bytes that are left fall.
 
 abbrev pub invariant-loop-i : goal.invariant-loop-i
-invariant-loop-i l = Reached l.s l.a l.i l.n
+invariant-loop-i l = Reached l.s l.i l.n
 
 abbrev pub decreases-loop-i : goal.decreases-loop-i
 decreases-loop-i l = length l.s - l.i

@@ -1,12 +1,11 @@
-use Rattle.printing.proofs.Names.{◌-◌, length}
-use Rattle.printing.proofs.Laws.{Reached}
+use Rattle.printing.proofs.Names.{length}
+use Rattle.printing.proofs.Laws.{Left}
 use Rattle.printing.proofs.count.Given as goal
 
--- Whole characters stand up to here, and so many of them print.
--- The bytes that are left fall.
+-- The invariant: what prints in the text is what was counted and what prints in the rest.
+-- What falls: the bytes of the rest.
+abbrev pub invariant-loop-rest : goal.invariant-loop-rest
+invariant-loop-rest l = Left l.s l.rest l.n
 
-abbrev pub invariant-loop-i : goal.invariant-loop-i
-invariant-loop-i l = Reached l.s 0 l.i l.n
-
-abbrev pub decreases-loop-i : goal.decreases-loop-i
-decreases-loop-i l = length l.s - l.i
+abbrev pub decreases-loop-rest : goal.decreases-loop-rest
+decreases-loop-rest l = length l.rest

@@ -6,5 +6,5 @@ use Rattle.printing.proofs.some.Goals as goal
 pub returns-then-is_ascii : goal.returns-then-is_ascii
 returns-then-is_ascii c =
     let a = c.args in
-    block_went a.s.now a.a _ (omega arith) (omega arith) (sym c.is_ascii.ensures ∙ c.if-is_ascii.true)
+    block_went a.s.now 64 (omega arith) (omega arith) (sym c.is_ascii.ensures ∙ c.if-is_ascii.true)
     (c.from-prints.ensures ∙ c.few.ensures.number ascii_prints record { each = λ x r h p. p })

@@ -15,7 +15,6 @@ returns-then-document-at-lt6 c =
 pub returns : goal.returns
 unfolding size
 returns c =
-    let after-if1 = c in
-    let a = after-if1.args in
-    let k = c.kind_of-kind.ensures ∙ ap kind_of c.whole_two.ensures.0 in
-    read_fits (a.document.now) a.at _ after-if1.if-document-at.false k _ c.whole_four.ensures.0 (omega arith)
+    let a = c.args in
+    let k = c.from-kind.ensures ∙ ap kind_of c.whole_two.ensures.0 in
+    read_fits (a.document.now) a.at _ c.if-document-at.false k _ c.whole_four.ensures.0 (omega arith)

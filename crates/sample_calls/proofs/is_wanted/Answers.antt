@@ -1,23 +1,13 @@
-use Rattle.sample_calls.proofs.Names.{sym, ap, ◌∙◌, length, is_wanted}
-use Rattle.std.specs.Prelude.{ℕ, Result}
+use Rattle.sample_calls.proofs.Names.{ap, ◌∙◌}
+use Rattle.std.proofs.Common.{rules}
 use Rattle.sample_calls.specs.InnerCalls.{letter_of}
-use Rattle.sample_calls.specs.declared.Refused.{Refused}
-use Rattle.sample_calls.proofs.Calls.{wanted_refusal, wanted-size}
+use Rattle.compared.specs.InnerCompared.{asked, is_rendered}
+use Rattle.sample_calls.proofs.Calls.{asked_map, wanted-by}
 use Rattle.sample_calls.proofs.is_wanted.Goals as goal
 
-pub returns-in-Ok : goal.returns-in-Ok
-returns-in-Ok c =
+pub returns : goal.returns
+returns c =
     let a = c.args in
     let r = c.called-answer in
-    c.is_rendered.ensures
-    ∙ wanted-size (letter_of a.call) a.width _ a.document.now a.text.now r.result _ (r.ensures.answer, r.ensures.room) _ _
-    c.wanted_text-wanted.ensures
-    ∙ ap (λ (w : Result ℕ Refused). is_wanted (letter_of a.call) a.width (length a.room.now) a.document.now w a.text.now) (sym c.in-Ok.is)
-
-pub returns-in-Err : goal.returns-in-Err
-returns-in-Err c =
-    let a = c.args in
-    let r = c.called-answer in
-    c.is_rendered-in-Err.ensures
-    ∙ wanted_refusal (letter_of a.call) a.width _ a.document.now a.text.now r.result _ (r.ensures.answer, r.ensures.room) c.in-Err.r
-    ∙ ap (λ (w : Result ℕ Refused). is_wanted (letter_of a.call) a.width (length a.room.now) a.document.now w a.text.now) (sym c.in-Err.is)
+    c.is_rendered.ensures ∙ ap (is_rendered r.result _) (asked_map (letter_of a.call) a.wanted _ c.map.ensures.cases (λ x y h. search rules))
+    ∙ wanted-by (letter_of a.call) a.width _ a.document.now (asked a.wanted) r.result _ (r.ensures.answer, r.ensures.room)

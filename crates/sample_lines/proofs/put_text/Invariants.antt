@@ -1,4 +1,4 @@
-use Rattle.sample_lines.proofs.Names.{text_from, written}
+use Rattle.sample_lines.proofs.Names.{written}
 use Rattle.room.specs.Lent.{text_of}
 use Rattle.sample_lines.proofs.Writing.{Putting}
 use Rattle.sample_lines.proofs.put_text.Given as goal
@@ -6,4 +6,4 @@ use Rattle.sample_lines.proofs.put_text.Given as goal
 -- Invariant: the text that is left is left to write.
 -- What falls: the text that is left, which the iterator counts.
 abbrev pub invariant-loop-b : goal.invariant-loop-b
-invariant-loop-b l = Putting (text_from l.line l.from) (text_of l.initial.t) (written 0 l.b-iterator.0.now) (text_of l.t)
+invariant-loop-b l = Putting (written 0 l.bytes) (text_of l.initial.t) (written 0 l.b-iterator.0.now) (text_of l.t)

@@ -7,18 +7,17 @@ use Rattle.sefgrunn.proofs.sefgrunn_console.Goals as goal
 pub returns : goal.returns
 returns c =
     let r = c.render_console-answer in
-    let after-measure-asked = c in
-    let m = after-measure-asked.measure_asked-measure in
-    let a = after-measure-asked.args in
-    let set : Settings = record { width = a.width; full = a.full; measure = m.result } in
+    let a = c.args in
+    let set : Settings = c.settings-set.result in
     let x = console set (length (a.room.now)) (a.document.now) in
     let n = rendered-number r.result x r.ensures.answer in
     let number = c.numbers_of.ensures.number ∙ n.0 in
     let at = c.numbers_of.ensures.at ∙ n.1 in
-    let three = demand3 set (a.document.now) (a.room.now) _ _ (λ text e. caller_reads-gives x _ _ text number at e) r.ensures.room in record {
-      number = rw (← m.ensures) number;
-      at = rw (← m.ensures) at;
-      room = rw (← m.ensures) r.ensures.room;
-      demand3 = rw (← m.ensures) three;
+    let three = demand3 set (a.document.now) (a.room.now) _ _ (λ text e. caller_reads-gives x _ _ text number at e) r.ensures.room in
+    rw (← c.settings-set.ensures) record {
+      number = number;
+      at = at;
+      room = r.ensures.room;
+      demand3 = three;
       enough = room_enough set (length (a.room.now)) (a.document.now) _ number;
     }

@@ -1,13 +1,20 @@
-use Rattle.sefgrunn.proofs.Names.{ℕ, refl}
-use Rattle.sefgrunn.specs.Numbers.{opens_in}
-use Rattle.sefgrunn.proofs.Drafts.{call_draft}
+use Rattle.sefgrunn.proofs.Names.{Block, ℕ, sym, draft_in, opens_block}
+use Rattle.sefgrunn.proofs.Numbers.{block-told, block-untold}
+use Rattle.sefgrunn.proofs.Drafts.{call_draft, unknown_draft}
 use Rattle.sefgrunn.proofs.sefgrunn_draft_open.Goals as goal
+
+pub returns-in_default-clause-does : goal.returns-in_default-clause-does
+returns-in_default-clause-does c = λ _.
+    let a = c.args in
+    let e = block-untold (λ (b : Block). opens_block a.room.now (draft_in a.draft.now).length b) c.in_default.ensures.1 in
+    unknown_draft a.room.now a.draft.now _ _ e c.refused.ensures.number c.refused.ensures.place
 
 pub returns : goal.returns
 returns c =
     let a = c.args in
-    let told = call_draft c.open_by-answer.result _ (a.room.now) _ (a.draft.now) _ _ _ (λ (n : ℕ). opens_in (a.room.now) n a.block) _ c.from.ensures refl
-    c.drafted.ensures c.open_by-answer.ensures in record {
+    let e = block-told (λ (b : Block). opens_block a.room.now (draft_in a.draft.now).length b) c.in-Ok.b c.in-Ok.ensures in
+    let told = call_draft c.open_block-answer.result _ a.room.now _ a.draft.now _ _ _ (λ (n : ℕ). opens_block a.room.now n c.in-Ok.b) _ c.from.ensures (sym e)
+    c.drafted.ensures c.open_block-answer.ensures in record {
       numbers = told.0;
       does = told.1;
     }

@@ -1,11 +1,11 @@
-use Rattle.sefgrunn.proofs.Names.{◌∙◌, ap, Ok}
+use Rattle.sefgrunn.proofs.Names.{◌∙◌, ap, refl, Ok}
 use Rattle.sefgrunn.proofs.HouseShape.{told_yes, told_no, told_refused}
 use Rattle.sefgrunn.proofs.sefgrunn_house_shape.Goals as goal
 
 pub returns-in-Ok-None : goal.returns-in-Ok-None
 returns-in-Ok-None c =
     let h = c.house_shape in
-    told_yes _ h.result h.ensures (c.in-Ok-None.is ∙ ap Ok c.in-Ok-None.field-0-is) c.accepted.ensures.number c.accepted.ensures.place
+    told_yes _ h.result h.ensures (c.in-Ok-None.is ∙ ap Ok c.in-Ok-None.field-0-is) refl refl
 
 pub returns-in-Ok-Some : goal.returns-in-Ok-Some
 returns-in-Ok-Some c =

@@ -1,31 +1,34 @@
-use Rattle.shape.proofs.Names.{refl, sym, arith}
+use Rattle.shape.proofs.Names.{refl, sym, ◌∙◌, arith}
 use Rattle.shape.proofs.Blocks.{is_wrap, no_wrap}
-use Rattle.shape.proofs.Along.{along_over, along_text, along_enter, along_leave, along_stops, along_strays, along_unknown}
+use Rattle.shape.proofs.Loops.{over, on-text, on-start, on-end, stops, start_strays, unknown_strays}
 use Rattle.shape.proofs.inlines.Goals as goal
 
-pub loop-r-preserved-in-Text : goal.loop-r-preserved-in-Text
-loop-r-preserved-in-Text c = along_text c.loop-r.invariant c.in-Some.ensures.steps c.in-Text.is refl
+pub loop-r-preserved-in-Text-1 : goal.loop-r-preserved-in-Text-1
+loop-r-preserved-in-Text-1 c = on-text c.loop-r.invariant c.in-Some.ensures.steps c.in-Text.is refl
 
 -- a block that may stand in a term, and one that may not
 pub overflow_add-inner : goal.overflow_add-inner
 overflow_add-inner c =
-    omega (arith, (along_enter c.loop-r.invariant c.in-Some.ensures.steps c.in-Start.is (is_wrap _ (sym c.if-not-is_inline.ensures))).0)
+    omega (arith, (on-start c.in-Some.ensures.steps c.loop-r.invariant c.in-Start.is (is_wrap _ (sym c.is_inline.ensures ∙ c.if-is_inline.true))).0)
 
-pub loop-r-preserved-in-Start : goal.loop-r-preserved-in-Start
-loop-r-preserved-in-Start c = (along_enter c.loop-r.invariant c.in-Some.ensures.steps c.in-Start.is (is_wrap _ (sym c.if-not-is_inline.ensures))).1
+pub loop-r-preserved-then-is_inline : goal.loop-r-preserved-then-is_inline
+loop-r-preserved-then-is_inline c =
+    let o = is_wrap _ (sym c.is_inline.ensures ∙ c.if-is_inline.true) in
+    (on-start c.in-Some.ensures.steps c.loop-r.invariant c.in-Start.is o).1
 
-pub returns-then-not-is_inline : goal.returns-then-not-is_inline
-returns-then-not-is_inline c = along_strays c.loop-r.invariant c.in-Some.ensures.steps c.in-Start.is (no_wrap _ (sym c.if-not-is_inline.ensures))
+pub returns-in_default-kind : goal.returns-in_default-kind
+returns-in_default-kind c =
+    start_strays c.loop-r.invariant c.in-Some.ensures.steps c.in-Start.is (no_wrap _ (sym c.is_inline.ensures ∙ c.if-is_inline.false))
 
 -- the term ends, and a block in it
-pub returns-then-inner-eq0 : goal.returns-then-inner-eq0
-returns-then-inner-eq0 c = along_stops c.loop-r.invariant c.in-Some.ensures.steps c.in-End.is refl c.if-inner-eq0.true
+pub returns-in-End : goal.returns-in-End
+returns-in-End c = stops c.in-Some.ensures.steps c.loop-r.invariant c.in-End.is refl c.if-inner-eq0.true
 
 pub loop-r-preserved : goal.loop-r-preserved
-loop-r-preserved c = along_leave c.loop-r.invariant c.in-Some.ensures.steps c.in-End.is refl c.if-inner-eq0.false
+loop-r-preserved c = on-end c.in-Some.ensures.steps _ c.loop-r.invariant c.in-End.is refl c.if-inner-eq0.false
 
-pub returns-in-Unknown : goal.returns-in-Unknown
-returns-in-Unknown c = along_unknown c.loop-r.invariant c.in-Some.ensures.steps c.in-Unknown.is
+pub returns-in_default-kind-2 : goal.returns-in_default-kind-2
+returns-in_default-kind-2 c = unknown_strays c.loop-r.invariant c.in-Some.ensures.steps c.in_default-kind.is
 
 pub returns : goal.returns
-returns c = along_over c.loop-r.invariant c.in-None.ensures.steps.0
+returns c = let e = c.in_default.ensures.steps in over c.loop-r.invariant e.0 e.1

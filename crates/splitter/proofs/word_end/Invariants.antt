@@ -1,9 +1,7 @@
-use Rattle.splitter.proofs.Names.{◌≤◌, length}
-use Prim.Native.Nat.{max}
 use Rattle.splitter.proofs.Words.{Reading}
 use Rattle.splitter.proofs.word_end.Given as goal
 
--- The invariant: what was read and counted up to `to`, with what is still to come, is the word from `at` on; and `to` lies in the range.
--- What falls: as the range says.
-abbrev pub invariant-loop-to : goal.invariant-loop-to
-invariant-loop-to l = Reading l.body l.at l.to l.width × (l.at ≤ l.to) × (l.to ≤ max l.at (length l.body))
+-- The invariant: what was read and counted before `len`, with what is still to come, is the word from `at` on.
+-- What falls: as the iterator says.
+abbrev pub invariant-loop-len : goal.invariant-loop-len
+invariant-loop-len l = Reading l.rest l.len l.width

@@ -13,10 +13,10 @@ loop-len-preserved c =
     let w = c.put_all-len in (
       w.auto.out ∙ i.0,
       omega (arith, w.ensures.within),
-      λ q. going_more _ _ (i.2 q) (sym c.read.ensures ∙ c.in-Some.is) w.ensures (ap encode_all (c.maps_to.ensures q)),
+      going_more _ _ i.2 (sym c.read.ensures ∙ c.in-Some.is) w.ensures (ap encode_all c.maps_to.ensures),
     )
 
 pub returns-in_default : goal.returns-in_default
 returns-in_default c =
     let i = c.loop-len.invariant in
-    record { size = omega (arith, i.0, i.1); text = λ q. going_none _ _ (i.2 q) (sym c.read.ensures ∙ c.in_default.is) }
+    record { size = omega (arith, i.0, i.1); text = going_none _ _ i.2 (sym c.read.ensures ∙ c.in_default.is) }

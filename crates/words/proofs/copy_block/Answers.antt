@@ -1,6 +1,8 @@
+use mathlib.Core.Path.{◌∙◌}
 use native.Mathlib.Omega.{arith}
-use Rattle.words.proofs.Copying.{stored-block}
+use Rattle.std.proofs.Common.{take_all}
+use Rattle.std.proofs.lemmas.List.{take-append-le}
 use Rattle.words.proofs.copy_block.Goals as goal
 
-pub returns : goal.returns
-returns c = (stored-block c.args.text.now c.args.free.now 7 (omega arith) (omega arith)).1
+pub returns-in-Some : goal.returns-in-Some
+returns-in-Some c = take-append-le 8 _ _ (omega (arith, c.told-block)) ∙ take_all 8 _ (omega (arith, c.told-block))

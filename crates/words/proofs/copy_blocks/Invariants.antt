@@ -6,8 +6,8 @@ use Rattle.words.proofs.copy_blocks.Given as goal
 -- Invariant: the first bytes are copied, and `width` is the number of their characters (Copying).
 -- What falls: the bytes after them.
 
-abbrev pub invariant-loop-len : goal.invariant-loop-len
-invariant-loop-len l = Copying l.text l.initial.free l.free l.len l.width
+abbrev pub invariant-loop-block : goal.invariant-loop-block
+invariant-loop-block l = Copying l.text l.initial.free l.free l.len l.width
 
-abbrev pub decreases-loop-len : goal.decreases-loop-len
-decreases-loop-len l = length l.text - l.len
+abbrev pub decreases-loop-block : goal.decreases-loop-block
+decreases-loop-block l = length l.text - l.len

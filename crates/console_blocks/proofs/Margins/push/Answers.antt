@@ -4,7 +4,7 @@ use native.Mathlib.Omega.{arith}
 use lib.ListN.{length, length-take}
 use Rattle.base.specs.Stack.{pushed}
 use Rattle.base.proofs.Stack.{push-take}
-use Rattle.console_blocks.proofs.Depths.{push_shallow, shallow_on}
+use Rattle.console_blocks.proofs.Depths.{push_shallow}
 use Rattle.console_blocks.proofs.Margins.push.Goals as goal
 
 pub returns-then-self-lt-MAX_OPEN-clause-pushes : goal.returns-then-self-lt-MAX_OPEN-clause-pushes
@@ -25,6 +25,3 @@ pub returns-else-self-lt-MAX_OPEN-clause-pushes : goal.returns-else-self-lt-MAX_
 returns-else-self-lt-MAX_OPEN-clause-pushes c =
     let s = c.self.inside in
     λ slot fits. absurd (omega (arith, slot, ap length c.self.view_is, length-take s.count s.columns))
-
-pub returns-else-self-lt-MAX_OPEN-clause-deeper : goal.returns-else-self-lt-MAX_OPEN-clause-deeper
-returns-else-self-lt-MAX_OPEN-clause-deeper c = λ n k low h. shallow_on n c.args.self.now low k (omega (arith, h))

@@ -1,14 +1,16 @@
-use mathlib.Core.Path.{refl, sym}
-use native.Mathlib.Omega.{arith}
+use mathlib.Core.Path.{ap, ◌∙◌}
+use Prim.Native.Nat.{ℕ, ◌-◌}
+use lib.ListN.{length, take}
 use Rattle.base.specs.Stack.{top}
-use Rattle.base.proofs.Stack.{top-take}
+use Rattle.std.specs.Option.{unwrap_or}
+use Rattle.std.specs.Prelude.{Option}
+use Rattle.std.proofs.lemmas.Option.{unwrap_or-slice_get}
 use Rattle.console_blocks.proofs.Margins.top.Goals as goal
 
-pub returns-then-self-eq0 : goal.returns-then-self-eq0
-unfolding top
-returns-then-self-eq0 c = rw (← c.self.view_is, c.if-self-eq0.true) refl
-
 pub returns : goal.returns
+unfolding top
 returns c =
     let s = c.self.inside in
-    rw (← c.self.view_is) (sym (top-take s.columns s.count (omega arith) (omega arith)))
+    let m = take s.count s.columns in
+    rw (← c.self.view_is)
+    (c.unwrap_or.ensures ∙ ap (λ (r : Option ℕ). unwrap_or r 0) (c.copied.ensures ∙ c.last.ensures.value) ∙ unwrap_or-slice_get m (length m - 1) 0)

@@ -4,4 +4,4 @@ use Rattle.joined_rules.specs.Joined.{head_kind}
 use Rattle.joined_check.proofs.Share.kind.Goals as goal
 
 pub returns : goal.returns
-returns c = unfold head_kind in c.kind_of.ensures ∙ ap kind_of c.two.ensures.0
+returns c = unfold head_kind in c.from.ensures ∙ ap kind_of c.two.ensures.0

@@ -7,12 +7,12 @@ pub returns-then-self-place-clause-steps : goal.returns-then-self-place-clause-s
 returns-then-self-place-clause-steps c =
     let s = c.args.self.now in
     let e = heads_none s.joined.now s.at c.if-self-place.true in
-    ((e, e), tt)
+    ((e, e), refl)
 
 pub returns-clause-steps : goal.returns-clause-steps
 returns-clause-steps c =
     let s = c.args.self.now in
-    (left_part s.joined.now s.at c.if-self-place.false c.get.ensures, (refl, refl, refl))
+    (left_part s.joined.now s.at c.if-self-place.false c.get.ensures, (refl, refl))
 
 pub returns-clause-goes : goal.returns-clause-goes
 returns-clause-goes c =

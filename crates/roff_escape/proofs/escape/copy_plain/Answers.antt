@@ -33,8 +33,8 @@ pub overflow_add-result : goal.overflow_add-result
 overflow_add-result c =
     omega (arith, c.ranges.stop.fits, c.loop-i-test.true, c.copy_bytes.ensures.plain, few c.args.bytes.now c.args.stop c.loop-i.i)
 
-pub returns-then-saturating_sub-lt32 : goal.returns-then-saturating_sub-lt32
-returns-then-saturating_sub-lt32 c =
+pub returns-then-t : goal.returns-then-t
+returns-then-t c =
     let a = c.args in
     let l = c.loop-i in
     let e = c.copy_bytes.ensures in
@@ -53,8 +53,8 @@ returns-in_default c =
     copies_step a.bytes.now a.at a.stop _ _ _ l.i (a.stop - l.i) _ l.invariant c.requires
     (omega (arith, c.loop-i-test.true, e.plain, few a.bytes.now a.stop l.i)) (omega (arith, e.plain)) e.text
 
-pub returns-then-k-lt32 : goal.returns-then-k-lt32
-returns-then-k-lt32 c = block (goal.at.returns-then-k-lt32 c).After-copy_block-k
+pub returns-then-k-lt-BLOCK : goal.returns-then-k-lt-BLOCK
+returns-then-k-lt-BLOCK c = block (goal.at.returns-then-k-lt-BLOCK c).After-copy_block-k
 
 pub loop-i-preserved : goal.loop-i-preserved
 loop-i-preserved c = block (goal.at.loop-i-preserved c).After-copy_block-k

@@ -1,6 +1,7 @@
-use Rattle.roff_escape.proofs.Names.{sym, ap, ◌∙◌, ℕ, special_byte}
+use Rattle.roff_escape.proofs.Names.{◌≡◌, ◌∙◌, sym, ap, ℕ, if_true, if_false, when◌then◌else◌, special_byte}
 use Rattle.roff_escape.proofs.Escaping.{puts}
 use Rattle.roff_escape.proofs.Plain.{text_byte, hyphen_byte}
+use Rattle.roff_escape.proofs.escape.put_text_byte.Goals.{then-strip, else-strip}
 use Rattle.roff_escape.proofs.escape.put_text_byte.Goals as goal
 
 pub returns-then-c-eq45 : goal.returns-then-c-eq45
@@ -9,4 +10,9 @@ returns-then-c-eq45 c = puts _ _ _ _ (hyphen_byte c.args.c c.if-c-eq45.true c.ar
 pub returns : goal.returns
 returns c =
     let a = c.args in
-    puts _ _ _ _ (text_byte a.c a.strip a.start ∙ ap (λ (e : ℕ). special_byte e a.start a.c) (sym c.line_byte.ensures)) c.put_special.ensures
+    let ends : (when a.strip then 0x20 else 0x0A) ≡ c.if-strip.ends =
+    elim c.if-strip.branch [
+      | then-strip w ↦ if_true _ _ w.if-strip.true ∙ sym w.ends-is
+      | else-strip w ↦ if_false _ _ w.if-strip.false ∙ sym w.ends-is
+    ] in
+    puts _ _ _ _ (text_byte a.c a.strip a.start ∙ ap (λ (e : ℕ). special_byte e a.start a.c) ends) c.put_special.ensures

@@ -7,4 +7,4 @@ unfolding plaintext
 returns c =
     let a = c.args in
     let m = a.self.now in
-    payload_same _ _ (c.escape_text-self.ensures ∙ piece-put (text_mode m.strip) (part a.bytes.now a.from a.to) (text_unasked m.strip) _)
+    c.escape_text.ensures ∙ payload_same _ _ (piece-put (text_mode m.strip) (part a.bytes.now a.from a.to) (text_unasked m.strip) _)

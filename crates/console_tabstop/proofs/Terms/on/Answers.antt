@@ -1,0 +1,51 @@
+use mathlib.Core.Path.{◌≡◌, sym, ap, ◌∙◌}
+use borrow.Author.Rules.{rules}
+use mathlib.Core.Bool.{false≢true}
+use native.Mathlib.Omega.{arith}
+use Rattle.records.specs.Records.{kind_of}
+use Rattle.records.specs.declared.Block.TheVariants as block
+use Rattle.records.specs.declared.Kind.{Kind}
+use Rattle.records.proofs.Codes.{start-by-code, end-by-code, no-start-code, no-end-code}
+use Rattle.splitter.proofs.Answers.{count_short}
+use Rattle.console_rules.specs.Console.{term}
+use Rattle.console_tabstop.specs.InnerCounted.{terms_of}
+use Rattle.console_tabstop.proofs.Scans.{text-counted, term-passed}
+use Rattle.console_tabstop.proofs.Terms.on.Goals as goal
+
+pub returns-in-260 : goal.returns-in-260
+unfolding term
+returns-in-260 c =
+    let a = c.args in
+    c.start.ensures ∙ sym (ap (λ (k : Kind). term k a.body.now (terms_of a.self.now)) (start-by-code a.code block.ItemTerm c.in-260.is))
+
+pub returns-in-516 : goal.returns-in-516
+unfolding term
+returns-in-516 c =
+    let a = c.args in
+    c.end.ensures ∙ sym (ap (λ (k : Kind). term k a.body.now (terms_of a.self.now)) (end-by-code a.code block.ItemTerm c.in-516.is))
+
+pub overflow_add-self : goal.overflow_add-self
+overflow_add-self c = omega (arith, c.count.ensures, count_short c.args.body.now, c.requires)
+
+pub returns-in_default : goal.returns-in_default
+returns-in_default c =
+    let a = c.args in
+    text-counted a.body.now (terms_of a.self.now) (kind_of a.code) _ (sym c.is_text.ensures ∙ c.if-is_text.true) c.if-self.true
+    c.count.ensures
+
+-- a record that is no text, where a term is being counted, and any record where none is
+pub returns-else-is_text : goal.returns-else-is_text
+returns-else-is_text c =
+    let a = c.args in
+    let start : a.code ≡ 0x0104 → ⊥ = search rules in
+    let end : a.code ≡ 0x0204 → ⊥ = search rules in
+    term-passed a.body.now (terms_of a.self.now) (kind_of a.code) (no-start-code a.code 4 start) (no-end-code a.code 4 end)
+    (λ e. absurd (false≢true (sym (sym c.is_text.ensures ∙ c.if-is_text.false) ∙ e)))
+
+pub returns-else-self : goal.returns-else-self
+returns-else-self c =
+    let a = c.args in
+    let start : a.code ≡ 0x0104 → ⊥ = search rules in
+    let end : a.code ≡ 0x0204 → ⊥ = search rules in
+    term-passed a.body.now (terms_of a.self.now) (kind_of a.code) (no-start-code a.code 4 start) (no-end-code a.code 4 end)
+    (λ e. c.if-self.false)
