@@ -1,11 +1,8 @@
-use Rattle.notes.proofs.Names.{◌≡◌, ◌∙◌, ℕ, refl, arith, length, subst, sym}
+use Rattle.notes.proofs.Names.{◌≡◌, ◌∙◌, ℕ, arith, length, subst, sym}
 use Rattle.notes.specs.InnerParts.{Ends}
 use Rattle.notes.proofs.Scans.{going_feed, going_byte, ends_over, ends_feed}
 use Rattle.notes.proofs.text_length.Goals.{else-s-i-eq10-via-then-s-i-eq10+else-is_last, else-s-i-eq10-via-else-s-i-eq10}
 use Rattle.notes.proofs.text_length.Goals as goal
-
-pub loop-i-init : goal.loop-i-init
-loop-i-init c = record { inside = omega arith; is = refl }
 
 pub returns-then-is_last : goal.returns-then-is_last
 returns-then-is_last c =

@@ -7,9 +7,6 @@ pub returns-then-not-is_height : goal.returns-then-not-is_height
 returns-then-not-is_height c =
     let a = c.args in count_refused a.height a.text.now (not-allowed a.height (sym c.is_height.ensures ∙ c.if-not-is_height.true))
 
-pub div_ceil-requires : goal.div_ceil-requires
-div_ceil-requires c = omega (arith, (height_in c.args.height (sym c.is_height.ensures ∙ c.if-not-is_height.false)).0)
-
 pub returns : goal.returns
 returns c =
     let a = c.args in

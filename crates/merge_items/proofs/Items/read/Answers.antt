@@ -1,6 +1,6 @@
 use Rattle.merge_items.proofs.Names.{refl, ap, ◌∙◌}
 use Rattle.room.specs.Lent.{Lent}
-use Rattle.merge_items.proofs.Reading.{keyed, keyed_none}
+use Rattle.merge_items.proofs.Reading.{keyed}
 use Rattle.merge_items.proofs.Texts.{from_nothing}
 use Rattle.merge_items.proofs.Items.read.Goals as goal
 
@@ -15,6 +15,3 @@ returns-in-Some c =
       name = ap (λ (t : Lent). t.name) e;
       size = k;
     }
-
-pub returns-in_default : goal.returns-in_default
-returns-in_default c = record { document = refl; at = refl; keyed = keyed_none c.in_default.ensures; name = refl; size = refl }
