@@ -1,6 +1,7 @@
 -- A room that holds a text and then something else, compared one byte at a time. Assumes nothing.
 use Rattle.compared.proofs.Names.{ℕ, zero, suc, ◌+◌, ◌≤◌, ◌<◌, ◌≡◌, refl, sym, ◌∙◌, ⊎_elim, List, [], length, take, drop, get_or, set}
-use Rattle.compared.proofs.Names.{eqb, ◌∷◌, drop-cons, drop_of_length-le, length-append, get_or-append, take-suc-set, get_or_at, add-one, arith, le_or_lt, same, filled_by}
+use Rattle.compared.proofs.Names.{eqb, ◌∷◌, drop-cons, drop_of_length-le, length-append, get_or-append}
+use Rattle.compared.proofs.Names.{take-suc-set, get_or_at, add-one, arith, le_or_lt, same, filled_by}
 use Rattle.std.specs.List.{list_all, enumerate_from}
 
 module _ (other : ℕ → ℕ) where

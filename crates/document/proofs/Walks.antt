@@ -3,7 +3,8 @@
 use Rattle.document.proofs.Names.{ℕ, zero, suc, ◌+◌, ◌-◌, ◌≤◌, ◌<◌, ◌≡◌, refl, sym, ap, ◌∙◌, subst, true, false, false≢true, List, [], ◌∷◌, length}
 use Rattle.document.proofs.Names.{take, drop, get_or, set, length-drop, length-take-le, arith, leb-true, leb-false, ltb-false, eqb-true, part, Result}
 use Rattle.document.proofs.Names.{gives, refused, and_left, and_right, length-pushed, length-popped, push-take, pop_take, top-take, Token, index}
-use Rattle.document.proofs.Names.{size, record_fits, opens, closes, bodiless, accept, first, reads, open_blocks, short, closed, check, checked, ◌>>=◌, refusal_number}
+use Rattle.document.proofs.Names.{size, record_fits, opens, closes, bodiless, accept, first}
+use Rattle.document.proofs.Names.{reads, open_blocks, short, closed, check, checked, ◌>>=◌, refusal_number}
 use Rattle.document.proofs.Names.{refusal_place, Read, Kind, Style, Block, Head, Refusal, next_at}
 use lib.Dec.{leb, ltb, eqb}
 use Rattle.base.specs.Stack.{top, pushed, popped}

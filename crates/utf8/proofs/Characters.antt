@@ -3,7 +3,8 @@
 use Rattle.utf8.proofs.Names.{◌≡◌, refl, ap, ap₂, sym, ◌∙◌, ⊎_elim, Bool, true, false, false≢true, List, [], ◌∷◌, ◌++◌, append-nil, ℕ, zero, suc, ◌+◌}
 use Rattle.utf8.proofs.Names.{◌-◌, ◌*◌, ◌<◌, ◌≤◌, not-suc-le-zero, add-one, arith, lt-ltb, length, get_or, drop, take, take-append-drop, length-drop}
 use Rattle.utf8.proofs.Names.{drop_of_length-le, drop-cons, drop-drop, get_or-drop, when◌then◌else◌, eq_or_not, and_left, and_right, if_true, if_false}
-use Rattle.utf8.proofs.Names.{Range, within, row_of, never, begins, size_of, well_formed, utf8, emit, decode_from, decode, encode, scalar, first_of, character_at}
+use Rattle.utf8.proofs.Names.{Range, within, row_of, never, begins, size_of, well_formed}
+use Rattle.utf8.proofs.Names.{utf8, emit, decode_from, decode, encode, scalar, first_of, character_at}
 use Rattle.utf8.proofs.Names.{Option, Some, None}
 use Rattle.utf8.proofs.Laws.{size-next, size-stop, size-one, size-never, head_at, rest_is}
 use Rattle.utf8.proofs.Text.{Valid, decode-append, row_follows, follows, follow, follows_rest}

@@ -24,5 +24,6 @@ returns-clause-result_after c =
     let r = c.reach_margin.ensures in
     let g = c.pad_gutter.ensures in
     λ fits kept.
-    put-done (text_in p) kept p.lay a.margin.0 a.chunk.at a.chunk.text.now a.chunk.width.0 _ _ _ _ c.missing_to-missing.ensures c.if-missing-gt-MAX_MISSING.false
-    (r.by_index kept) (g.result_after (omega (arith, r.near.0)) kept) (c.place_here.ensures.result_after (omega (arith, r.near.0, g.near.0)) kept)
+    put-done (text_in p) kept p.lay a.margin.0 a.chunk.at a.chunk.text.now a.chunk.width.0 _ _ _ _
+    c.missing_to-missing.ensures c.if-missing-gt-MAX_MISSING.false (r.by_index kept)
+    (g.result_after (omega (arith, r.near.0)) kept) (c.place_here.ensures.result_after (omega (arith, r.near.0, g.near.0)) kept)
