@@ -54,13 +54,15 @@ fn walk(
         match r.kind {
             Kind::Unknown => {}
             Kind::Start(b) => {
-                html_tags::put_start(&mut t, &mut lay.style, b, &blocks);
+                let listed = blocks.is_innermost(Block::DefinitionList);
+                html_tags::put_start(&mut t, &mut lay.style, b, listed);
                 blocks.push(b);
                 lay.skip.start(b);
             }
             Kind::End(b) => {
                 blocks.pop();
-                html_tags::put_end(&mut t, &mut lay.style, b, &blocks);
+                let listed = blocks.is_innermost(Block::DefinitionList);
+                html_tags::put_end(&mut t, &mut lay.style, b, listed);
                 lay.skip.end(b);
             }
             Kind::Text(st) => {

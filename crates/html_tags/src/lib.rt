@@ -6,12 +6,11 @@ ghost use Rattle.std.specs.Prelude.{◌≡◌, ◌++◌};
 ghost use Rattle.base.specs.Result.{refused, ◌>>=◌ as bind};
 ghost use Rattle.room.specs.Lent.{text_of, with_bytes, wrote};
 ghost use Rattle.splitter.specs.Answers.{chunk_of};
-ghost use Rattle.html_rules.specs.Html.{opening, closing, start_tag, end_tag, in_list};
+ghost use Rattle.html_rules.specs.Html.{opening, closing, start_tag, end_tag};
 ghost use Rattle.renderer.specs.Rendered.{told};
 ghost use Rattle.html_tags.specs.InnerParts.{chunk_text, closed, block_text};
 ghost use Rattle.records.specs.declared.Style.TheVariants as style;
 
-use document::OpenBlocks;
 use html_escape::Escape;
 use records::{Block, Style};
 use refusal::Refusal;
@@ -32,18 +31,18 @@ fn style_tags(st: Style) -> (&'static [u8], &'static [u8])
     }
 }
 
-// The tags of a block's start and of its end, by the blocks that are open before the start or after the end.
+// The tags of a block's start and of its end, by whether a DefinitionList is the innermost block before the start or after the end.
 #[tactic(auto, unfolding(utf8::specs::Utf8::bytes, utf8::specs::Utf8::encode, crate::proofs::Names::choose))]
-fn block_tags(b: Block, blocks: &OpenBlocks) -> (&'static [u8], &'static [u8])
-    ensures start { result.0.now ≡ start_tag (in_list blocks.now) b }
-    ensures end { result.1.now ≡ end_tag (in_list blocks.now) b }
+fn block_tags(b: Block, listed: bool) -> (&'static [u8], &'static [u8])
+    ensures start { result.0.now ≡ start_tag listed b }
+    ensures end { result.1.now ≡ end_tag listed b }
 {
     match b {
         Block::Header => (b"# ", b""),
         Block::Section2 => (b"<div>\n", b"</div>"),
         Block::Section3 | Block::Section4 => (b"<div style='padding-left: 0.5em'>", b"</div>"),
         Block::ItemTerm => (b"<dt>", b"</dt>\n"),
-        Block::ItemBody if blocks.is_innermost(Block::DefinitionList) => (b"<dd>", b"</dd>\n"),
+        Block::ItemBody if listed => (b"<dd>", b"</dd>\n"),
         Block::ItemBody => (b"<li>", b"</li>\n"),
         Block::DefinitionList => (b"<dl>", b"</dl>\n"),
         Block::Block => (b"<p>", b"</p>"),
@@ -74,20 +73,20 @@ fn put_block(t: &mut Text, st: &mut Style, b: Block, tag: &[u8])
     t.put_all(tag);
 }
 
-// A block's start, by the blocks that are open before it.
-pub fn put_start(t: &mut Text, st: &mut Style, b: Block, blocks: &OpenBlocks)
-    ensures text { text_of t.new ≡ wrote (λ size. block_text size st.old b (start_tag (in_list blocks.now) b)) (text_of t.old) }
+// A block's start, by whether a DefinitionList is the innermost block before it.
+pub fn put_start(t: &mut Text, st: &mut Style, b: Block, listed: bool)
+    ensures text { text_of t.new ≡ wrote (λ size. block_text size st.old b (start_tag listed b)) (text_of t.old) }
     ensures style { st.new ≡ style.Text }
 {
-    put_block(t, st, b, block_tags(b, blocks).0);
+    put_block(t, st, b, block_tags(b, listed).0);
 }
 
-// A block's end, by the blocks that are open after it. Two functions, as the source has an arm for each: one would be told which tag to write.
-pub fn put_end(t: &mut Text, st: &mut Style, b: Block, blocks: &OpenBlocks)
-    ensures text { text_of t.new ≡ wrote (λ size. block_text size st.old b (end_tag (in_list blocks.now) b)) (text_of t.old) }
+// A block's end, by whether a DefinitionList is the innermost block after it. Two functions, as the source has an arm for each: one would be told which tag to write.
+pub fn put_end(t: &mut Text, st: &mut Style, b: Block, listed: bool)
+    ensures text { text_of t.new ≡ wrote (λ size. block_text size st.old b (end_tag listed b)) (text_of t.old) }
     ensures style { st.new ≡ style.Text }
 {
-    put_block(t, st, b, block_tags(b, blocks).1);
+    put_block(t, st, b, block_tags(b, listed).1);
 }
 
 // Meta: the style is closed, and then 11 is met. Markdown has the same with its own marks: one function for both would take the text that closes

@@ -5,6 +5,7 @@ use Rattle.renderer.specs.Rendered.{standing}
 use Rattle.splitter_iter.proofs.Left.{took_next, none_next}
 use Rattle.html.proofs.Walked.{default-plain, on-start, on_full, on-end, on-entered, on-left, on_meta, on_named, body_own}
 use Rattle.html.proofs.Walked.{on_hidden, on-body, body-done, body-stopped, body-line, body-on}
+use Rattle.html_tags.proofs.Blocks.{listed-is}
 use Rattle.html.proofs.walk.Goals as goal
 
 pub records-init : goal.records-init
@@ -27,15 +28,17 @@ returns-then-is_of-clause-text c =
 
 pub records-preserved-in-Start : goal.records-preserved-in-Start
 records-preserved-in-Start c =
+    let text = rw (c.is_innermost-listed.ensures ∙ listed-is _) at c.put_start.ensures.text in
     rw c.put_start.ensures.style
     (on-entered _ _ _ _ _ _ c.records.invariant c.in-Some.ensures.steps _ _ _
-    c.in-Start.is (sym c.is_of.ensures ∙ c.if-is_of.false) c.put_start.ensures.text c.push.ensures c.start.ensures)
+    c.in-Start.is (sym c.is_of.ensures ∙ c.if-is_of.false) text c.push.ensures c.start.ensures)
 
 pub records-preserved-in-End : goal.records-preserved-in-End
 records-preserved-in-End c =
+    let text = rw (c.is_innermost-listed-in-End.ensures ∙ listed-is _) at c.put_end.ensures.text in
     rw c.put_end.ensures.style
     (on-left _ _ _ _ _ _ c.records.invariant c.in-Some.ensures.steps _ _ _
-    c.in-End.is (sym c.is_of.ensures ∙ c.if-is_of.false) c.pop.ensures c.put_end.ensures.text c.end.ensures)
+    c.in-End.is (sym c.is_of.ensures ∙ c.if-is_of.false) c.pop.ensures text c.end.ensures)
 
 pub records-preserved-then-enabled : goal.records-preserved-then-enabled
 records-preserved-then-enabled c =
