@@ -1,6 +1,6 @@
 -- Bytes that are tested one and all, and counted by blocks of one size. Assumes nothing.
 use Rattle.base.proofs.Names.{ℕ, zero, suc, ◌+◌, ◌/◌, ◌*◌, ◌≤◌, ◌<◌, ◌≡◌, ◌∙◌, ap, Bool, List, get_or, take, drop, drop-drop, arith}
-use Rattle.base.proofs.Names.{length, length-take-le, length-drop, false, false≢true, sym, get_or-take}
+use Rattle.base.proofs.Names.{length, length-take-le, length-drop, take_all, false, false≢true, sym, get_or-take}
 use lib.Seq.{get_or-drop}
 use Rattle.base.proofs.Choice.{not-passed}
 use Rattle.std.specs.List.{count_by, list_any}
@@ -8,6 +8,10 @@ use Rattle.std.proofs.lemmas.List.Folds.{list_any_at}
 use Rattle.std.specs.Simd.{first_chunks}
 use Rattle.std.proofs.Math.Seq.{take-add}
 use Rattle.std.proofs.lemmas.List.Sums.{sum_by-append}
+
+-- of at most 255 bytes each is counted
+pub few_counted : (p : ℕ → Bool) (s : List ℕ) → length s ≤ 255 → count_by p (take 255 s) ≡ count_by p s
+few_counted p s h = ap (count_by p) (take_all 255 s h)
 
 -- a block, as a part of all
 pub block_at : (n k i : ℕ) (xs d : List ℕ) → i < k → get_or (first_chunks n k xs) i d ≡ take n (drop (i * n) xs)

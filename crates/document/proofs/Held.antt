@@ -1,5 +1,5 @@
 -- The open blocks as an array of blocks holds them, by their indices. Assumes nothing.
-use Rattle.document.proofs.Names.{ℕ, ◌+◌, ◌-◌, ◌≤◌, ◌<◌, ◌≡◌, refl, sym, ap, ap₂, ◌∙◌, List, length, take, set, get_or, length-take-le, arith, le_or_lt}
+use Rattle.document.proofs.Names.{ℕ, ◌+◌, ◌-◌, ◌≤◌, ◌<◌, ◌≡◌, sym, ap, ◌∙◌, List, length, take, set, get_or, length-take-le, arith, le_or_lt}
 use Rattle.document.proofs.Names.{push-take, pop_take, index, Block}
 use Rattle.document.proofs.Opening.{innermost-none, innermost-last}
 use Rattle.base.specs.Stack.{top, pushed, popped}

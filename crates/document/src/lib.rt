@@ -64,13 +64,15 @@ impl OpenBlocks {
         self.blocks[..self.depth].last() == Some(&b)
     }
 
-    // One more, where they are fewer than 32.
+    // One more; where 32 are open, they stay as they are.
     pub fn push(&mut self, b: Block)
-        requires { length self.old < max_open }
-        ensures { self.new ≡ pushed (index b) self.old }
+        ensures one_more { length self.old < max_open → self.new ≡ pushed (index b) self.old }
+        ensures full { max_open ≤ length self.old → self.new ≡ self.old }
     {
-        self.blocks[self.depth] = b;
-        self.depth += 1;
+        if self.depth < MAX_OPEN {
+            self.blocks[self.depth] = b;
+            self.depth += 1;
+        }
     }
 
     // Without the innermost, if there is one.

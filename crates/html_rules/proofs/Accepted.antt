@@ -1,6 +1,6 @@
 -- What holds at each record of a document that `check` accepted, by the records that are left there: it is sane, it is allowed with the blocks
 -- open there, and so are those after it. Assumes nothing.
-use Prim.Native.Nat.{ℕ, zero, suc, ◌+◌, ◌≤◌}
+use Prim.Native.Nat.{ℕ, zero, suc, ◌+◌, ◌<◌, ◌≤◌}
 use mathlib.Core.Path.{◌≡◌, subst}
 use mathlib.Core.List.{List, [], ◌∷◌}
 use lib.ListN.{length}
@@ -55,6 +55,9 @@ module _ {ts us : List Token} {t : Token} (stack : List ℕ) (a : Accepted ts st
 
   pub after_text : {st : Style} → t.kind ≡ kind.Text st → Accepted us stack
   after_text e = subst (λ (k : Kind). Accepted us (open_after k stack)) e this.2
+
+  pub start_slot : {b : Block} → t.kind ≡ kind.Start b → length stack < 32
+  start_slot e = subst (λ (k : Kind). Allowed k stack) e this.1
 
   pub after_start : {b : Block} → t.kind ≡ kind.Start b → Accepted us (pushed (index b) stack)
   after_start e = subst (λ (k : Kind). Accepted us (open_after k stack)) e this.2

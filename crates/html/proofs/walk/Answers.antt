@@ -6,6 +6,7 @@ use Rattle.splitter_iter.proofs.Left.{took_next, none_next}
 use Rattle.html.proofs.Walked.{default-plain, on-start, on_full, on-end, on-entered, on-left, on_meta, on_named, body_own}
 use Rattle.html.proofs.Walked.{on_hidden, on-body, body-done, body-stopped, body-line, body-on}
 use Rattle.html_tags.proofs.Blocks.{listed-is}
+use Rattle.html_rules.proofs.Accepted.{start_slot}
 use Rattle.html.proofs.walk.Goals as goal
 
 pub records-init : goal.records-init
@@ -28,10 +29,12 @@ returns-then-is_of-clause-text c =
 
 pub records-preserved-in-Start : goal.records-preserved-in-Start
 records-preserved-in-Start c =
+    let o = c.records.invariant in
+    let first = c.in-Some.ensures.steps in
     let text = rw (c.is_innermost-listed.ensures ∙ listed-is _) at c.put_start.ensures.text in
+    let blocks = c.push.ensures.one_more (start_slot _ o.opened first c.in-Start.is) in
     rw c.put_start.ensures.style
-    (on-entered _ _ _ _ _ _ c.records.invariant c.in-Some.ensures.steps _ _ _
-    c.in-Start.is (sym c.is_of.ensures ∙ c.if-is_of.false) text c.push.ensures c.start.ensures)
+    (on-entered _ _ _ _ _ _ o first _ _ _ c.in-Start.is (sym c.is_of.ensures ∙ c.if-is_of.false) text blocks c.start.ensures)
 
 pub records-preserved-in-End : goal.records-preserved-in-End
 records-preserved-in-End c =

@@ -1,8 +1,14 @@
 use mathlib.Core.Path.{sym, ◌∙◌}
-use mathlib.Core.Bool.{not}
+use Prim.Native.Nat.{ℕ}
+use mathlib.Core.Bool.{Bool, not}
+use borrow.Author.Rules.{rules}
+use Rattle.base.proofs.Counting.{few_counted}
 use Rattle.utf8.specs.Utf8.{continues}
 use Rattle.utf8.proofs.Laws.{characters_counted}
 use Rattle.words.proofs.count.Goals as goal
 
 pub returns : goal.returns
-returns c = c.few.ensures.number (λ b. not (continues b)) record { each = λ x r h p. p } ∙ sym (characters_counted _)
+returns c =
+    let block = c.args.block.now in
+    let p : ℕ → Bool = λ b. not (continues b) in
+    c.few.ensures.number p record { each = λ x r h q. q } ∙ few_counted p block (search rules) ∙ sym (characters_counted block)

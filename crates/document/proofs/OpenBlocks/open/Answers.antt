@@ -1,4 +1,4 @@
-use Rattle.document.proofs.Names.{arith}
+use Rattle.document.proofs.Names.{◌<◌, arith, length}
 use Rattle.document.proofs.Opening.{opens-deep, opens-more}
 use Rattle.document.proofs.OpenBlocks.open.Goals as goal
 
@@ -6,4 +6,6 @@ pub returns-then-depth-ge-MAX_OPEN-clause-opened : goal.returns-then-depth-ge-MA
 returns-then-depth-ge-MAX_OPEN-clause-opened c = opens-deep _ _ _ (omega (arith, c.depth.ensures.0))
 
 pub returns-clause-opened : goal.returns-clause-opened
-returns-clause-opened c = rw c.push.ensures (opens-more _ _ _ (omega (arith, c.depth.ensures.0)))
+returns-clause-opened c =
+    let low : length c.args.self.now < 32 = omega (arith, c.depth.ensures.0) in
+    rw (c.push.ensures.one_more low) (opens-more _ _ _ low)
