@@ -15,7 +15,7 @@ use Rattle.base.proofs.Choice.{if_true, if_false}
 use Rattle.base.proofs.Results.{bind_assoc, bind_end, bind_same}
 use Rattle.base.proofs.Stack.{length-popped}
 use Rattle.records.specs.Records.{index, tokens, tokens_from, record_fits}
-use Rattle.document.specs.Document.{check}
+use Rattle.document.specs.Document.{check, max_open}
 use Rattle.records.specs.Answers.{Read}
 use Rattle.refusal.specs.Numbers.{refusal_number, refusal_place}
 use Rattle.refusal.specs.declared.Refusal.{Refusal}
@@ -97,7 +97,7 @@ module _ (document : List ℕ) (set : Settings) (tab limit : ℕ) where
 
     module _ (h : Head) (r : Read document at h) (l : at < length document) where
       -- what the start of a block asks for
-      pub stand_startable : (b : Block) → h.kind ≡ kind.Start b → length document ≤ 32_768 → tab ≤ 28 → Startable margins p.lay tab
+      pub stand_startable : (b : Block) → h.kind ≡ kind.Start b → length document ≤ 32_768 → tab ≤ 28 → Startable max_open margins p.lay tab
       stand_startable b e few low = record {
         slot = (deep-start w.deep r l e).0;
         column = omega (arith, w.column, w.near);

@@ -17,7 +17,7 @@ ghost use Rattle.console.specs.InnerWritten.{Written};
 use console_blocks::Margins;
 use console_chunks::{Chunk, Page};
 use console_rules::{Columns, MAX_WIDTH, Measure, Settings};
-use document::{Accepted, MAX_BYTES};
+use document::{Accepted, MAX_BYTES, MAX_OPEN};
 use records::Kind;
 use refusal::Refusal;
 use splitter::Piece;
@@ -136,7 +136,7 @@ fn walk(accepted: &Accepted, set: Settings, tab: Columns, room: &mut [u8]) -> Re
 {
     let document = accepted.bytes();
     let mut page = Page::new(room);
-    let mut margins = Margins::new();
+    let mut margins = Margins::<MAX_OPEN>::new();
     // where the records after the next end of a Section4 begin; at first 0, which is passed already, so no Option
     let mut ahead: usize = 0;
     let mut at: usize = 0;

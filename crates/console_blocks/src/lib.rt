@@ -4,42 +4,41 @@
 
 ghost use Rattle.std.specs.Prelude.{◌≡◌, List, [], ℕ, ◌+◌, ◌≤◌, ◌<◌, ◌^◌, length};
 ghost use Rattle.base.specs.Stack.{top, pushed, popped};
-ghost use Rattle.document.specs.Document.{max_open};
 ghost use Rattle.console_rules.specs.Console.{tick, started as started_by, ended as ended_by};
 ghost use Rattle.console_chunks.specs.InnerShown.{page_of, ruled, Fits64};
 ghost use Rattle.console_blocks.specs.InnerDepth.{Shallow, Startable, Moved};
 
 use console_chunks::Page;
 use console_rules::Columns;
-use document::MAX_OPEN;
 use records::Block;
 use std::marker::Model;
 
-// The margins that the open blocks pushed, the innermost last. (Not the kit's `arrayvec::ArrayVec`: tried, as at `document::OpenBlocks`; with both, a page of
-// options takes 0.4 % more instructions. An own stack for both would be the array and the number alone: what is pushed and asked of the top differs.)
+// The margins that the open blocks pushed, the innermost last. Any number of slots will do; the console takes as many as blocks may be open.
+// (Not the kit's `arrayvec::ArrayVec`: tried, as at `document::OpenBlocks`; with both, a page of options takes 0.4 % more instructions. An own stack
+// for both would be the array and the number alone: what is pushed and asked of the top differs.)
 #[derive(Drop)]
-pub struct Margins {
+pub struct Margins<const N: usize> {
     // fixed memory, of which the first `count` are in use: no heap, a rule of the project; numbers, as the rules' margins are
-    columns: [usize; MAX_OPEN],
+    columns: [usize; N],
     count: usize,
 }
 
-impl Model for Margins {
+impl<const N: usize> Model for Margins<N> {
     ghost use Rattle.std.specs.Prelude.{List, ℕ, ◌≤◌, take};
 
     ghost Value = { List ℕ };
 
     ghost view = { λ s. take s.count s.columns };
 
-    ghost invariant = { λ s. s.count ≤ 32 };
+    ghost invariant = { λ s. s.count ≤ N };
 }
 
-impl Margins {
-    pub fn new() -> Margins
+impl<const N: usize> Margins<N> {
+    pub fn new() -> Margins<N>
         ensures { result ≡ [] }
     {
         Margins {
-            columns: [0; MAX_OPEN],
+            columns: [0; N],
             count: 0,
         }
     }
@@ -54,12 +53,12 @@ impl Margins {
     // A margin so far inside the innermost one, where there is a slot for it. The rules' numbers have no bound: the promise is theirs where the
     // code can hold the margin.
     pub fn push(&mut self, more: Columns)
-        ensures pushes { length self.old < max_open → Fits64 (top self.old + more.0) → self.new ≡ pushed (top self.old + more.0) self.old }
+        ensures pushes { length self.old < N → Fits64 (top self.old + more.0) → self.new ≡ pushed (top self.old + more.0) self.old }
         ensures counts { length self.new ≤ length self.old + 1 }
         ensures deeper { (n k : ℕ) → Shallow n self.old → n + more.0 ≤ k → Shallow k self.new }
     {
         let margin = console_chunks::plus(self.top(), more);
-        if self.count < MAX_OPEN {
+        if self.count < N {
             self.columns[self.count] = margin.0;
             self.count += 1;
         }
@@ -86,8 +85,14 @@ fn put_tick(page: &mut Page)
 // The start of a block, where `gap` says whether an adjacent gap lies ahead. The rules' numbers have no bound: the promise is theirs where there is a
 // slot for one margin more and the code can hold the numbers; at every record of an accepted document it is so.
 // The margins go beside the page: chunks are written at a margin that is handed over, whatever margins are kept.
-pub fn started(page: &mut Page, margins: &mut Margins, b: Block, tab: Columns, gap: bool)
-    ensures page_after { Startable margins.old page.old.lay tab.0 → page_of page.new margins.new ≡ ruled (λ n. started_by n tab.0 b gap) (page_of page.old margins.old) }
+pub fn started<const N: usize>(
+    page: &mut Page,
+    margins: &mut Margins<N>,
+    b: Block,
+    tab: Columns,
+    gap: bool,
+)
+    ensures page_after { Startable N margins.old page.old.lay tab.0 → page_of page.new margins.new ≡ ruled (λ n. started_by n tab.0 b gap) (page_of page.old margins.old) }
     ensures counts { length margins.new ≤ length margins.old + 1 }
     ensures moved { Moved page.old.lay page.new.lay }
     ensures deeper { (n : ℕ) → Shallow n margins.old → Shallow (n + (tab.0 + 4)) margins.new }
@@ -126,7 +131,7 @@ pub fn started(page: &mut Page, margins: &mut Margins, b: Block, tab: Columns, g
 }
 
 // The end of a block. It asks of the column what the start asks.
-pub fn ended(page: &mut Page, margins: &mut Margins, b: Block)
+pub fn ended<const N: usize>(page: &mut Page, margins: &mut Margins<N>, b: Block)
     ensures page_after { Fits64 (page.old.lay.column.0 + 1) → page_of page.new margins.new ≡ ruled (λ n. ended_by n b) (page_of page.old margins.old) }
     ensures pops { margins.new ≡ popped margins.old }
     ensures moved { Moved page.old.lay page.new.lay }

@@ -9,7 +9,7 @@ use Rattle.console_blocks.proofs.Margins.top.Goals as goal
 
 pub returns : goal.returns
 unfolding top
-returns c =
+returns g c =
     let s = c.self.inside in
     let m = take s.count s.columns in
     rw (← c.self.view_is)
