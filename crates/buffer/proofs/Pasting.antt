@@ -69,18 +69,18 @@ length-stored k body = omega arith
 
 -- a record's head and the text after what stands of its body already
 module _ (room : List ℕ) (last len k : ℕ) (t : List ℕ) (h : last ≤ len) (j : len ≤ length room) where
-  length-standing : length (drop (last + 6) (take len room)) ≡ len - (last + 6)
-  length-standing = length-drop (last + 6) (take len room) ∙ ap (λ (n : ℕ). n - (last + 6)) (length-take-le len room j)
+  length-body : length (drop (last + 6) (take len room)) ≡ len - (last + 6)
+  length-body = length-drop (last + 6) (take len room) ∙ ap (λ (n : ℕ). n - (last + 6)) (length-take-le len room j)
 
-  is-standing : drop (last + 6) (take len room) ≡ take (length (drop (last + 6) (take len room))) (drop (last + 6) room)
-  is-standing = sym (part_end len (last + 6) room) ∙ ap (λ (n : ℕ). take n (drop (last + 6) room)) (sym length-standing)
+  is-body : drop (last + 6) (take len room) ≡ take (length (drop (last + 6) (take len room))) (drop (last + 6) room)
+  is-body = sym (part_end len (last + 6) room) ∙ ap (λ (n : ℕ). take n (drop (last + 6) room)) (sym length-body)
 
   pub longer-is : longer (take len room) last k t ≡ take last room ++ stored k (drop (last + 6) (take len room) ++ t)
   longer-is = ap (λ (l : List ℕ). l ++ stored k (drop (last + 6) (take len room) ++ t)) (take-take last len room h)
 
   module _ (to : ℕ) (e : to ≡ max len (last + 6)) where
     pub longer_ends : to + length t ≡ last + length (stored k (drop (last + 6) (take len room) ++ t))
-    longer_ends = omega (arith, length-stored k (drop (last + 6) (take len room) ++ t), length-append (drop (last + 6) (take len room)) t, length-standing)
+    longer_ends = omega (arith, length-stored k (drop (last + 6) (take len room) ++ t), length-append (drop (last + 6) (take len room)) t, length-body)
 
     pub put-longer : (mid new : List ℕ) → to + length t ≤ length room → mid ≡ overwritten room last (head (to - (last + 6) + length t) k)
         → new ≡ overwritten mid to t → new ≡ pasted room last (stored k (drop (last + 6) (take len room) ++ t))
@@ -88,14 +88,14 @@ module _ (room : List ℕ) (last len k : ℕ) (t : List ℕ) (h : last ≤ len) 
     put-longer mid new i f g =
         let m = drop (last + 6) (take len room) in
         let size = to - (last + 6) + length t in
-        let n : length (m ++ t) ≡ size = omega (arith, length-append m t, length-standing) in
+        let n : length (m ++ t) ≡ size = omega (arith, length-append m t, length-body) in
         let six : length (head size k) ≡ 6 = length-head size k in
-        let q : to ≡ last + length (head size k) + length m = omega (arith, length-standing) in
-        let w : m ≡ take (length m) (drop (last + length (head size k)) room) = is-standing
+        let q : to ≡ last + length (head size k) + length m = omega (arith, length-body) in
+        let w : m ≡ take (length m) (drop (last + length (head size k)) room) = is-body
         ∙ ap (λ (i : ℕ). take (length m) (drop (last + i) room)) (sym six) in
         let f' : mid ≡ pasted room last (head size k) = set_fits room last size k f (omega arith) in
         let l : length mid ≡ length room = ap length f' ∙ length-pasted room last (head size k) (omega arith) (omega arith) in
         g ∙ overwritten_fits mid to t (omega arith)
         ∙ ap₂ (λ (r : List ℕ) (p : ℕ). pasted r p t) f' q
-        ∙ pasted_over room last (head size k) m t (omega (arith, length-standing)) w
+        ∙ pasted_over room last (head size k) m t (omega (arith, length-body)) w
         ∙ ap (pasted room last) (append_assoc (head size k) m t ∙ ap (λ (s : ℕ). head s k ++ (m ++ t)) (sym n))

@@ -7,7 +7,7 @@ ghost use Rattle.base.specs.Result.{refused, ◌>>=◌ as bind};
 ghost use Rattle.room.specs.Lent.{text_of, with_bytes, wrote};
 ghost use Rattle.splitter.specs.Answers.{chunk_of};
 ghost use Rattle.html_rules.specs.Html.{opening, closing, start_tag, end_tag};
-ghost use Rattle.renderer.specs.Rendered.{told};
+ghost use Rattle.renderer.specs.Rendered.{refusal_of};
 ghost use Rattle.html_tags.specs.InnerParts.{chunk_text, closed, block_text};
 ghost use Rattle.records.specs.declared.Style.TheVariants as style;
 
@@ -92,7 +92,7 @@ pub fn put_end(t: &mut Text, st: &mut Style, b: Block, listed: bool)
 // Meta: the style is closed, and then 11 is met. Markdown has the same with its own marks: one function for both would take the text that closes
 // the style, and only the call of change_style would go.
 pub fn meet_meta(t: &mut Text, st: &mut Style, at: usize) -> Refusal
-    ensures told { told result ≡ bind (text_of t.old).shown (λ x. bind (closed (text_of t.old).size st.old x) (λ _. refused 11 at)) }
+    ensures refused { refusal_of result ≡ bind (text_of t.old).shown (λ x. bind (closed (text_of t.old).size st.old x) (λ _. refused 11 at)) }
     ensures style { st.new ≡ style.Text }
 {
     change_style(t, st, Style::Text);

@@ -11,7 +11,7 @@ ghost use Rattle.records.specs.Records.{is_end};
 ghost use Rattle.records.specs.Listed.{left};
 ghost use Rattle.records.specs.declared.Style.TheVariants as style;
 ghost use Rattle.html_rules.specs.Markdown.{with_style, opening, closing, term_ends};
-ghost use Rattle.renderer.specs.Rendered.{told};
+ghost use Rattle.renderer.specs.Rendered.{refusal_of};
 ghost use Rattle.markdown_marks.specs.InnerParts.{marks, met_term, start_of, end_of, closed, started_text, ended_text, Few};
 
 use html_rules::Markdown;
@@ -106,7 +106,7 @@ pub fn put_end(t: &mut Text, l: &mut Markdown, b: Block)
 
 // Meta: the style is closed, and then 11 is met. HTML has the same with its own tags: one function for both would be told what closes the style.
 pub fn meet_meta(t: &mut Text, st: Style, at: usize) -> Refusal
-    ensures { told result ≡ bind (text_of t.old).shown (λ x. bind (closed (text_of t.old).size st x) (λ _. refused 11 at)) }
+    ensures { refusal_of result ≡ bind (text_of t.old).shown (λ x. bind (closed (text_of t.old).size st x) (λ _. refused 11 at)) }
 {
     change_to_markdown_style(t, st, Style::Text);
     renderer::no_form(t, at)

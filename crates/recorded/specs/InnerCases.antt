@@ -32,8 +32,8 @@ unfoldable pub past : List ℕ → List ℕ
 past s = drop (number_size s) s
 
 -- what an answer begins with: a number, 0 where nothing was refused, and a length or a count; or a refusal's number and place
-abbrev pub told_in : List ℕ → Answer ℕ Refused
-told_in s = cond (eqb (number_in s) 0) (Ok (number_in (past s))) (Err (record { number = number_in s; place = number_in (past s) }))
+abbrev pub wanted_in : List ℕ → Answer ℕ Refused
+wanted_in s = cond (eqb (number_in s) 0) (Ok (number_in (past s))) (Err (record { number = number_in s; place = number_in (past s) }))
 
 -- .. of a call that writes into a room, with what follows: a text, or a refusal
 abbrev pub wanted_by : Answer ℕ Refused → List ℕ → Rule (List ℕ)
@@ -83,9 +83,9 @@ keeps room document = holds_by pattern room document
 -- a call that writes into a room answers as a case says: a text, of the length that it tells, or a refusal with none
 abbrev pub is_made : Answer ℕ Refusal → List ℕ → List ℕ → Bool
 is_made made room answer =
-    let told = told_in answer in
+    let wanted = wanted_in answer in
     let text = past (past answer) in
-    eqb (result_unwrap_or told 0) (length text) && is_rendered made room (wanted_by told text)
+    eqb (result_unwrap_or wanted 0) (length text) && is_rendered made room (wanted_by wanted text)
 
 -- one call more of those with its number, where that is counted, and up to 1,000,000
 unfoldable pub counted : List ℕ → List ℕ → List ℕ

@@ -6,7 +6,7 @@
 ghost use Rattle.std.specs.Prelude.{◌≡◌, ◌<◌, ◌≤◌, false, [], length, get_or};
 ghost use Rattle.std.specs.Fn.{FnOnceReturnsAtMut};
 ghost use Rattle.compared.specs.InnerCompared.{is_verdict};
-ghost use Rattle.recorded.specs.InnerCases.{number_in, number_size, past as past_number, Decodes, told_in, call_of, document_of, answer_of};
+ghost use Rattle.recorded.specs.InnerCases.{number_in, number_size, past as past_number, Decodes, wanted_in, call_of, document_of, answer_of};
 ghost use Rattle.recorded.specs.InnerCases.{pattern, filled, keeps, is_made, counted, settings_of};
 
 use compared::{Refused, byte_or};
@@ -65,7 +65,7 @@ pub fn split_number<'a>(bytes: &'a [u8]) -> (usize, &'a [u8])
 
 // What an answer begins with, and what follows: a number, 0 where nothing was refused, and a length or a count; or a refusal's number and place.
 pub fn split_answer<'a>(answer: &'a [u8]) -> (Result<usize, Refused>, &'a [u8])
-    ensures told { result.0 ≡ told_in answer.now }
+    ensures wanted { result.0 ≡ wanted_in answer.now }
     ensures rest { result.1.now ≡ past_number (past_number answer.now) }
 {
     let (number, rest) = split_number(answer);
@@ -78,10 +78,10 @@ pub fn split_answer<'a>(answer: &'a [u8]) -> (Result<usize, Refused>, &'a [u8])
 
 // Whether a check answers as a case says.
 pub fn checks(checked: Result<(), Refusal>, answer: &[u8]) -> bool
-    ensures { result ≡ is_verdict checked (told_in answer.now) }
+    ensures { result ≡ is_verdict checked (wanted_in answer.now) }
 {
-    let (told, _) = split_answer(answer);
-    compared::is_verdict(checked, told)
+    let (wanted, _) = split_answer(answer);
+    compared::is_verdict(checked, wanted)
 }
 
 // What a call is given: its setting (width, style, block or place of a cursor), its flags, of which the first may be the ticks of a cursor, and
@@ -196,8 +196,8 @@ pub fn in_room<F: FnOnce(&mut [u8]) -> bool>(size: usize, document: &[u8], use_r
 fn is_made(made: Result<usize, Refusal>, room: &[u8], answer: &[u8]) -> bool
     ensures { result ≡ is_made made room.now answer.now }
 {
-    let (told, text) = split_answer(answer);
-    told.unwrap_or(0) == text.len() && compared::is_rendered(made, room, told.map(|_| text))
+    let (wanted, text) = split_answer(answer);
+    wanted.unwrap_or(0) == text.len() && compared::is_rendered(made, room, wanted.map(|_| text))
 }
 
 // Whether a call that writes into a room answers as a case says.

@@ -21,5 +21,5 @@ filled room (gives x) = padded room x
 filled room (refused n p) = replicate room 0
 
 -- a refusal, as a rule gives it
-abbrev pub told : Refusal → Result (List ℕ)
-told a = refused (refusal_number a) (refusal_place a)
+abbrev pub refusal_of : Refusal → Result (List ℕ)
+refusal_of a = refused (refusal_number a) (refusal_place a)

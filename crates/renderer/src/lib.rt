@@ -5,7 +5,7 @@
 ghost use Rattle.std.specs.Prelude.{◌≡◌, false, List, ℕ, ◌<◌, length};
 ghost use Rattle.splitter.specs.Answers.{chunk_of};
 ghost use Rattle.renderer.specs.Walk.{last};
-ghost use Rattle.renderer.specs.Rendered.{standing, filled, Inside, told};
+ghost use Rattle.renderer.specs.Rendered.{standing, filled, Inside, refusal_of};
 ghost use Rattle.base.specs.Result.{refused, ◌>>=◌ as bind};
 ghost use Rattle.room.specs.Room.{seen};
 ghost use Rattle.room.specs.Lent.{text_of};
@@ -53,7 +53,7 @@ pub fn finish(t: Text) -> Result<usize, Refusal>
 
 // Refusal 11 at a place, unless 13 was met before.
 pub fn no_form(t: &Text, at: usize) -> Refusal
-    ensures { told result ≡ bind (text_of t.now).shown (λ _. refused 11 at) }
+    ensures { refusal_of result ≡ bind (text_of t.now).shown (λ _. refused 11 at) }
 {
     if t.is_full() {
         Refusal::NoRoom

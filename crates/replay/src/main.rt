@@ -83,8 +83,8 @@ fn has_chunks(body: &[u8], listed: &[u8], count: usize) -> bool {
 
 // Whether the splitter answers as a case says.
 fn splits(body: &[u8], answer: &[u8]) -> bool {
-    let (told, listed) = recorded::split_answer(answer);
-    told.is_ok_and(|count| has_chunks(body, listed, count))
+    let (wanted, listed) = recorded::split_answer(answer);
+    wanted.is_ok_and(|count| has_chunks(body, listed, count))
 }
 
 // Whether `next_chunk` answers as a case says: what the chunk is and the cursor after it, where it begins, its length and its width.
@@ -112,9 +112,9 @@ fn hands_out(call: Call, body: &[u8], answer: &[u8]) -> bool {
 
 // Whether the search for the tabstop answers as a case says.
 fn finds_tabstop(document: &[u8], answer: &[u8]) -> bool {
-    let (told, tabstop) = recorded::split_answer(answer);
+    let (wanted, tabstop) = recorded::split_answer(answer);
     let tabstop = recorded::number(tabstop);
-    match (console_tabstop::search_tabstop(document), told) {
+    match (console_tabstop::search_tabstop(document), wanted) {
         (Ok(t), Ok(at)) => t.at == at && t.columns.0 == tabstop,
         (Err(a), Err(w)) => tabstop == 0 && compared::is_refusal(a, w),
         _ => false,

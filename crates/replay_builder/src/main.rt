@@ -17,8 +17,8 @@ where
 
 // Whether the builder's answer is what a case says: the new length and document, or a refusal, after which the document is as before.
 fn is_built(built: Result<usize, Refusal>, room: &[u8], before: &[u8], answer: &[u8]) -> bool {
-    let (told, rest) = recorded::split_answer(answer);
-    match (built, told) {
+    let (wanted, rest) = recorded::split_answer(answer);
+    match (built, wanted) {
         (Ok(n), Ok(at)) => {
             let (length, document) = recorded::split_number(rest);
             at == 0 && n == length && document.len() == n && recorded::keeps(room, document)

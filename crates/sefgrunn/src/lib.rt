@@ -59,7 +59,7 @@ fn refused(a: Refusal, place: &mut usize) -> u32
 }
 
 // The number of an answer, and the refusal's place, 0 where it is accepted.
-fn told<T: Drop>(answer: Result<T, Refusal>, place: &mut usize) -> u32
+fn number_with_place<T: Drop>(answer: Result<T, Refusal>, place: &mut usize) -> u32
     ensures number { result ≡ number_of (answered answer) }
     ensures place { place.new ≡ place_of (answered answer) }
 {
@@ -77,7 +77,7 @@ pub fn sefgrunn_check(document: &[u8], place: &mut usize) -> u32
     ensures number { result ≡ number_of (check document.now) }
     ensures place { place.new ≡ place_of (check document.now) }
 {
-    told(document::check(document), place)
+    number_with_place(document::check(document), place)
 }
 
 // The number of an answer, and its length or place.
@@ -171,7 +171,7 @@ pub fn sefgrunn_tabstop(document: &[u8], tabstop: &mut usize, at: &mut usize) ->
 }
 
 // Whether a document has house shape, 1 or 0; and the place of the first record after which no further records could lead to it.
-// (Neither `told` nor `numbers_of`: two numbers are stored, by three cases. By `map_or` and `map` its proof would speak of two closures.)
+// (Neither `number_with_place` nor `numbers_of`: two numbers are stored, by three cases. By `map_or` and `map` its proof would speak of two closures.)
 pub fn sefgrunn_house_shape(document: &[u8], shaped: &mut u32, place: &mut usize) -> u32
     ensures { ShapeTold document.now result shaped.new place.new }
 {
@@ -218,7 +218,7 @@ pub fn sefgrunn_joined_check(joined: &[u8], place: &mut usize) -> u32
     ensures number { result ≡ number_of (check_joined joined.now) }
     ensures place { place.new ≡ place_of (check_joined joined.now) }
 {
-    told(joined_check::check(joined), place)
+    number_with_place(joined_check::check(joined), place)
 }
 
 // The figures of a bundle, or 16, 15, 14: `texts` are the accepted documents, `others` the refused ones. After a refusal the four numbers are 0.
@@ -243,7 +243,7 @@ pub fn sefgrunn_figures(
     *texts = f.accepted;
     *others = f.refused;
     *characters = f.characters;
-    told(answer, place)
+    number_with_place(answer, place)
 }
 
 // `Doc::render_html`.
@@ -411,7 +411,7 @@ fn stored(built: Result<usize, Refusal>, len: &mut usize, place: &mut usize) -> 
     ensures place { place.new ≡ place_of (answered built) }
 {
     *len = built.unwrap_or(*len);
-    told(built, place)
+    number_with_place(built, place)
 }
 
 // `Doc::write_str`, in the style with a number from 1 to 5; any other is refused as 3 with place 0. (`as`, since Rust has no From between u32 and usize; so in
@@ -500,7 +500,7 @@ fn drafted(answer: Result<Draft, Refusal>, draft: &mut [u64; 8], place: &mut usi
     if let Ok(d) = answer {
         *draft = <[u64; 8]>::from(d);
     }
-    told(answer, place)
+    number_with_place(answer, place)
 }
 
 // The draft of the document in the first `length` bytes of the room, by one check.

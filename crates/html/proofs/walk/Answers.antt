@@ -25,7 +25,7 @@ returns-then-is_full-clause-text c = on_full _ _ _ _ _ _ c.records.invariant (c.
 
 pub returns-then-is_of-clause-text : goal.returns-then-is_of-clause-text
 returns-then-is_of-clause-text c =
-    on_meta _ _ _ _ _ _ c.records.invariant c.in-Some.ensures.steps _ (sym c.is_of.ensures ∙ c.if-is_of.true) c.meet_meta.ensures.told
+    on_meta _ _ _ _ _ _ c.records.invariant c.in-Some.ensures.steps _ (sym c.is_of.ensures ∙ c.if-is_of.true) c.meet_meta.ensures.refused
 
 pub records-preserved-in-Start : goal.records-preserved-in-Start
 records-preserved-in-Start c =
