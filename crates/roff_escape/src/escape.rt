@@ -148,7 +148,7 @@ fn copy_block(t: &mut Text, bytes: &[u8; BLOCK], most: usize) -> usize
     let block = *bytes;
     let room = &mut *t.room;
     base::copy_from_slice(room, t.len, &block);
-    let k = most.min(runs::first_of(&block, |c| !is_plain(c)));
+    let k = most.min(runs::first_in_block(&block, |c| !is_plain(c)));
     t.len += k;
     k
 }

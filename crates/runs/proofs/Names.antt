@@ -5,6 +5,7 @@ unfoldable pub use Rattle.base.specs.Choice.{when◌then◌else◌}
 pub use Rattle.runs.specs.InnerRuns.{Reached}
 unfoldable pub use Rattle.runs.specs.InnerRuns.{among}
 pub use borrow.Author.Rules.{rules}
+pub use borrow.Author.Tests.{le-leb, lt-leb}
 pub use lib.ListN.{drop, get_or, length, length-append, length-drop, take, take-append-drop}
 pub use lib.Seq.{drop-drop, length-take-le}
 pub use mathlib.Core.Bool.{Bool, ◌||◌, false, false≢true, true}

@@ -3,7 +3,8 @@
 
 #![tactic(auto)]
 
-ghost use Rattle.std.specs.Prelude.{◌≡◌, ◌+◌, ◌≤◌, ℕ, Bool, length, take, drop};
+ghost use Rattle.std.specs.Prelude.{◌≡◌, ◌+◌, ◌≤◌, ℕ, Bool, leb, length, take, drop};
+ghost use Rattle.base.specs.Choice.{when◌then◌else◌};
 ghost use Rattle.base.specs.Tests.{AnswersAs};
 ghost use Rattle.splitter.specs.Split.{before};
 ghost use Rattle.std.specs.List.{list_any};
@@ -57,7 +58,7 @@ pub fn run_end(s: &[u8], at: usize, a: u8, b: u8, c: u8, d: u8) -> usize
 
 // How many of 32 bytes stand before the first that passes a test. No branch hangs on a byte, and the least place stays: by `position` roff runs 57 to 66 %
 // more instructions.
-pub fn first_of<F: Fn(u8) -> bool>(block: &[u8; 32], test: F) -> usize
+pub fn first_in_block<F: Fn(u8) -> bool>(block: &[u8; 32], test: F) -> usize
     requires { F.IsAlwaysCallable test }
     ensures { (p : ℕ → Bool) → AnswersAs F.post test p → result ≡ length (before p block.now) }
 {
@@ -67,4 +68,15 @@ pub fn first_of<F: Fn(u8) -> bool>(block: &[u8; 32], test: F) -> usize
         k = k.min(place);
     }
     usize::from(k)
+}
+
+// Where the first of four bytes stands among the 32 at a place, 32 where none does; 0 where there are not 32.
+pub fn first_of(s: &[u8], at: usize, a: u8, b: u8, c: u8, d: u8) -> usize
+    ensures { result ≡ when leb (at + 32) (length s.now) then length (before (among a b c d) (take 32 (drop at s.now))) else 0 }
+{
+    let rest = base::get_from(s, at);
+    match rest.first_chunk::<32>() {
+        Some(block) => first_in_block(block, |x| is_among(x, a, b, c, d)),
+        None => 0,
+    }
 }

@@ -1,20 +1,20 @@
-use Rattle.runs.proofs.Names.{sym, ap, ◌∙◌, min, if_true, if_false, rules}
-use Rattle.runs.proofs.Runs.{least_more, least_all}
-use Rattle.runs.proofs.first_of.Goals.{then-test, else-test}
+use Rattle.runs.proofs.Names.{◌≡◌, ◌+◌, ◌≤◌, ◌<◌, sym, ap, ◌∙◌, arith, rules, length, take, drop, length-drop, if_true, if_false, le-leb, lt-leb, among}
+use Rattle.splitter.specs.Split.{before}
 use Rattle.runs.proofs.first_of.Goals as goal
 
-pub loop-j-preserved : goal.loop-j-preserved
-loop-j-preserved g c = λ p t.
-    let l = c.loop-j in
-    let x = c.args.block.now in
-    let same = rw c.from.ensures at (sym (t.each _ _ (search rules) c.test.ensures)) in
-    least_more p x 32 (search rules) l.j l.k _ c.loop-j-test.true (l.invariant p t)
-    (c.min-k.ensures ∙ ap (min l.k) (elim c.if-test.branch [
-      | then-test w ↦ w.place-is ∙ sym (if_true l.j 32 (same ∙ w.if-test.true))
-      | else-test w ↦ w.place-is ∙ sym (if_false l.j 32 (same ∙ w.if-test.false))
-    ]))
+pub returns-in-Some : goal.returns-in-Some
+returns-in-Some c =
+    let a = c.args in
+    let p = among a.a a.b a.c a.d in
+    let told = c.in-Some.ensures.cases in
+    let rest = c.get_from-rest.ensures in
+    let room : a.at + 32 ≤ length a.s.now = omega (arith, told.enough, ap length rest, length-drop a.at a.s.now) in
+    let block : c.in-Some.block.now ≡ take 32 (drop a.at a.s.now) = told.same ∙ ap (take 32) rest in
+    c.first_in_block.ensures p record { each = λ x r h q. search rules } ∙ ap (λ x. length (before p x)) block
+    ∙ sym (if_true _ 0 (le-leb (a.at + 32) (length a.s.now) room))
 
-pub returns : goal.returns
-returns g c = λ p t.
-    let l = c.loop-j in
-    c.from-2.ensures ∙ least_all p c.args.block.now 32 (search rules) l.j l.k c.loop-j-test.false (l.invariant p t)
+pub returns-in-None : goal.returns-in-None
+returns-in-None c =
+    let a = c.args in
+    let few : length a.s.now < a.at + 32 = omega (arith, c.in-None.ensures.cases, ap length c.get_from-rest.ensures, length-drop a.at a.s.now) in
+    sym (if_false _ 0 (lt-leb (a.at + 32) (length a.s.now) few))

@@ -8,7 +8,7 @@ use Rattle.roff_escape.proofs.escape.copy_block.Goals as goal
 few : (c : After-min-k) → c.min-k.result ≤ length c.args.bytes.now
 few c =
     let p : ℕ → Bool = λ x. not (plain x) in
-    let n = c.first_of.ensures p record { each = λ x r h q. search rules } in
+    let n = c.first_in_block.ensures p record { each = λ x r h q. search rules } in
     omega (arith, c.min-k.ensures, n, before-short p c.args.bytes.now)
 
 pub overflow_add-t : goal.overflow_add-t
