@@ -15,15 +15,12 @@ use console_rules::{Columns, MAX_TAB, MAX_TABSTOP};
 use records::{Block, Kind, Records};
 use refusal::Refusal;
 
-// Whether the start and the end of a Block come first. (Tried as two `matches!` of `records.next()`: they have two paths more on which a record is missing.)
-fn empty_block(document: &[u8], at: usize) -> bool
+// Whether the start and the end of a Block come first.
+pub fn empty_block(document: &[u8], at: usize) -> bool
     ensures { result ≡ empty_block (tokens_from document.now at) }
 {
     let mut records = Records::from_place(document, at);
-    let Some(a) = records.next() else {
-        return false;
-    };
-    let Some(b) = records.next() else {
+    let (Some(a), Some(b)) = (records.next(), records.next()) else {
         return false;
     };
     a.kind == Kind::Start(Block::Block) && b.kind == Kind::End(Block::Block)
@@ -53,7 +50,7 @@ fn section_end(document: &[u8], at: usize) -> usize
 }
 
 // The same, where it was `known` before: it is looked for only where the place known has been passed.
-fn look_ahead(document: &[u8], next: usize, known: usize) -> usize
+pub fn look_ahead(document: &[u8], next: usize, known: usize) -> usize
     ensures { Known document.now next known → Ahead document.now next result }
 {
     if known <= next {
