@@ -68,7 +68,8 @@ fn text_of<'a>(r: Record<'a>) -> &'a [u8]
 }
 
 // Text of a heading in upper case by the table. The steps are whole characters, so no `for`.
-// Bytes and no `&str`, here and in the next two functions: the check has tested them, and from_utf8 would test each text again.
+// Bytes and no `&str`, here and in the next two functions: a record's body is `&[u8]`. `from_utf8` would test it again, as the check of the document did, and
+// its Err arm would need an answer that no document leads to.
 // The bytes of `cased` are cut here alone, so by no method of `Uppercased`.
 fn escape_mapped(m: &mut Roff, bytes: &[u8])
     requires { utf8 bytes.now ≡ true }
@@ -193,8 +194,8 @@ fn started(m: &mut Roff, b: Block)
     }
 }
 
-// The end of a heading. `control` is called from one place, so that the compiler puts it into the
-// walk, and holds the length in a register there: from two places prose takes 1.07 to 1.08 of the time, and a page of headings 1.3.
+// The end of a heading. The name by itself, and no `match` with a call of `control` in each arm: called from two places `control` is not inlined into the
+// walk, and the text's length is then not held in a register: pages of options take 1.03 to 1.05 of the time, and a page of headings 1.15 to 1.2.
 fn headed(m: &mut Roff, b: Block, heading: Heading)
     requires { is_heading b ≡ true }
     ensures { (p : ℕ) (capture : Bool) → Follows (ended p b (locals m.old.strip heading.entry capture)) (roff_of m.old) (roff_of m.new) }

@@ -100,7 +100,8 @@ impl<'a> Items<'a> {
         items
     }
 
-    // The item at a place of the document is the next one, if one stands there. (No Option of what is read: `is_done` tells whether one is left.)
+    // The item at a place of the document is the next one, if one stands there. (No Option is answered: a side's item stays for the turns in which the other
+    // side's is taken. None is kept either: `item` and `term`, asked only where `is_done` is false, would need an answer for None beside it.)
     pub fn read(&mut self, at: usize)
         ensures { Read at self.old self.new }
     {

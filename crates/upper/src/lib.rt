@@ -43,14 +43,16 @@ fn maps_to(c: char) -> Mapped
 }
 
 // The bytes of a character go after the first `len` bytes of a buffer. (No `room::Text`: these bytes are free, and a full room would be an answer that never
-// comes.) ASCII by itself: by `encode_utf8` and a copy a text of ASCII letters took 2.6 times as long. A cast, since `u8::try_from` would ask for a branch
-// that is never taken.
+// comes.) ASCII by itself: by `encode_utf8` and a copy a text of ASCII letters took 2.6 times as long. `c.is_ascii()` is asked first: by the byte's own
+// `is_ascii` after `u8::try_from` such a text took 1.46 times as long.
 fn put(out: &mut [u8], len: usize, c: char) -> usize
     requires { len + 4 ≤ length out.old }
     ensures { Wrote out.old out.new len 4 (encode c) result }
 {
-    if c.is_ascii() {
-        out[len] = c as u8;
+    if c.is_ascii()
+        && let Ok(b) = u8::try_from(c)
+    {
+        out[len] = b;
         return len + 1;
     }
     let mut four: [u8; 4] = [0; 4];

@@ -1,5 +1,6 @@
 // Texts written by small pieces through the C interface (02, point 9): the laws of crate `write_laws`, said of calls of `sefgrunn_write`, from its contract. No
-// program calls these two functions. (They take what that function takes.)
+// program calls these two functions. (They take and answer what that function does, in the C interface's form: the style and the answer as numbers, and the
+// length and the place as numbers lent. With a `Style` and a `Result` the laws would leave out a number that is no style's, and what is stored.)
 
 #![tactic(auto)]
 
