@@ -16,13 +16,13 @@ ghost use Rattle.buffer.specs.Builder.{is_text, so_far, fit, writes, opens_block
 ghost use Rattle.buffer.specs.Answers.{Follows, Of01};
 ghost use Rattle.buffer.specs.InnerParts.{longer, Accepted, Goes};
 
-use document::{MAX_BYTES, OpenBlocks};
+use document::{MAX_BYTES, MAX_OPEN, OpenBlocks};
 use record_writer::{end_kind, start_kind};
 use records::{Block, Kind, Records, Style};
 use refusal::Refusal;
 
 // 13 when the length so far passes the room, then 1 and 2 to 7 of the document so far.
-pub fn so_far(room: &[u8], len: usize) -> Result<OpenBlocks, Refusal>
+pub fn so_far(room: &[u8], len: usize) -> Result<OpenBlocks<MAX_OPEN>, Refusal>
     ensures { answered result ≡ bind (so_far room.now len) open_blocks }
 {
     if room.len() < len {

@@ -20,16 +20,18 @@ pub const MAX_BYTES: usize = 32_768;
 // 'At most .. 32 open blocks'
 pub const MAX_OPEN: usize = 32;
 
-// The blocks that are open, the innermost last: at most 32, in fixed memory (no heap, a rule of the project), of which the first `depth` count.
+// The blocks that are open, the innermost last, in fixed memory (no heap, a rule of the project), of which the first `depth` count. Any number of slots will
+// do; a check takes as many as blocks may be open.
 // (Not the kit's `arrayvec::ArrayVec`: tried, it proves, but its `pop` overwrites what goes, two instructions at each block's end: 1.1 % of the check of a
-// page of options.)
+// page of options, where the check stands at its bar; and the wrong program of must-fail/pushed_at_the_first_place, which counts a slot that it has not
+// written, cannot be written with it.)
 #[derive(Drop)]
-pub struct OpenBlocks {
-    blocks: [Block; MAX_OPEN],
+pub struct OpenBlocks<const N: usize> {
+    blocks: [Block; N],
     depth: usize,
 }
 
-impl Model for OpenBlocks {
+impl<const N: usize> Model for OpenBlocks<N> {
     ghost use Rattle.std.specs.Prelude.{List, ℕ, ◌≤◌, ◌≡◌, map, take, length};
     ghost use Rattle.records.specs.Records.{index};
 
@@ -37,24 +39,25 @@ impl Model for OpenBlocks {
 
     ghost view = { λ s. take s.depth (map index s.blocks) };
 
-    ghost invariant = { λ s. (s.depth ≤ 32) × (length s.blocks ≡ 32) };
+    ghost invariant = { λ s. (s.depth ≤ N) × (length s.blocks ≡ N) };
 }
 
-impl OpenBlocks {
-    pub fn new() -> OpenBlocks
+impl<const N: usize> OpenBlocks<N> {
+    pub fn new() -> OpenBlocks<N>
         ensures { result ≡ [] }
     {
         OpenBlocks {
-            blocks: [Block::Header; MAX_OPEN],
+            blocks: [Block::Header; N],
             depth: 0,
         }
     }
 
-    // How many are open.
+    // How many are open. (As the length of what counts, and `pop` asks it: at a body that uses the field alone the kit's borrow checker ends with the error
+    // that it was not told which modules hold the type `records::Block`.)
     pub fn depth(&self) -> usize
-        ensures { (result ≡ length self.now) × (result ≤ max_open) }
+        ensures { (result ≡ length self.now) × (result ≤ N) }
     {
-        self.depth
+        self.blocks[..self.depth].len()
     }
 
     // Whether the innermost is this one.
@@ -64,12 +67,12 @@ impl OpenBlocks {
         self.blocks[..self.depth].last() == Some(&b)
     }
 
-    // One more; where 32 are open, they stay as they are.
+    // One more, where there is a slot for it; else they stay as they are.
     pub fn push(&mut self, b: Block)
-        ensures one_more { length self.old < max_open → self.new ≡ pushed (index b) self.old }
-        ensures full { max_open ≤ length self.old → self.new ≡ self.old }
+        ensures one_more { length self.old < N → self.new ≡ pushed (index b) self.old }
+        ensures full { N ≤ length self.old → self.new ≡ self.old }
     {
-        if self.depth < MAX_OPEN {
+        if self.depth < N {
             self.blocks[self.depth] = b;
             self.depth += 1;
         }
@@ -79,12 +82,12 @@ impl OpenBlocks {
     pub fn pop(&mut self)
         ensures { self.new ≡ popped self.old }
     {
-        self.depth = self.depth.saturating_sub(1);
+        self.depth = self.depth().saturating_sub(1);
     }
 
-    // Refusal 7: a block's start.
+    // Refusal 7: a block's start. With fewer slots than 32 the answer is free.
     pub fn open(&mut self, b: Block, at: usize) -> Result<(), Refusal>
-        ensures opened { verdict_of result self.new ≡ opens at (index b) self.old }
+        ensures opened { max_open ≤ N → verdict_of result self.new ≡ opens at (index b) self.old }
         ensures kept { OnErr result (self.new ≡ self.old) }
     {
         if MAX_OPEN <= self.depth() {
@@ -108,7 +111,7 @@ impl OpenBlocks {
 }
 
 // Refusals 3 to 7 of a record.
-fn accept(r: Record, blocks: &mut OpenBlocks) -> Result<(), Refusal>
+fn accept(r: Record, blocks: &mut OpenBlocks<MAX_OPEN>) -> Result<(), Refusal>
     ensures { verdict_of result blocks.new ≡ accept r.entry.place r.entry.kind r.entry.body.now blocks.old }
 {
     match r.kind {
@@ -123,10 +126,10 @@ fn accept(r: Record, blocks: &mut OpenBlocks) -> Result<(), Refusal>
 
 // Refusals 2 to 7 of a document, in one pass, and its blocks that are left open. No `for` over `Records`, which tests again what `fits_at` has tested: with
 // that the check of a page of options took 1.45 of the time.
-pub fn open_blocks(document: &[u8]) -> Result<OpenBlocks, Refusal>
+pub fn open_blocks(document: &[u8]) -> Result<OpenBlocks<MAX_OPEN>, Refusal>
     ensures { answered result ≡ open_blocks document.now }
 {
-    let mut blocks = OpenBlocks::new();
+    let mut blocks = OpenBlocks::<MAX_OPEN>::new();
     let mut at: usize = 0;
     while at < document.len() {
         if !records::fits_at(document, at) {

@@ -15,7 +15,7 @@ ghost use Rattle.html_rules.specs.Html.{css as style_sheet, initial, turn, finis
 ghost use Rattle.html_tags.specs.InnerParts.{closed};
 ghost use Rattle.records.specs.declared.Style.TheVariants as style;
 
-use document::{Accepted, OpenBlocks};
+use document::{Accepted, MAX_OPEN, OpenBlocks};
 use html_rules::Html;
 use records::{Block, Kind, Records, Style};
 use refusal::Refusal;
@@ -43,7 +43,7 @@ fn walk(
 {
     let mut t = Text::new(room);
     let mut lay = Html::default();
-    let mut blocks = OpenBlocks::new();
+    let mut blocks = OpenBlocks::<MAX_OPEN>::new();
     'records: for r in Records::of(document.bytes()) {
         if t.is_full() {
             return Err(Refusal::NoRoom);

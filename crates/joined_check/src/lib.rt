@@ -11,7 +11,7 @@ ghost use Rattle.joined_rules.specs.Joined.{has_text, text_in, records_at, heads
 ghost use Rattle.joined_rules.specs.Joined.{shares, accept_share, short_joined, whole_text, reads_joined, check_joined};
 ghost use Rattle.joined_check.specs.Listed.{left, GivesShare};
 
-use document::OpenBlocks;
+use document::{MAX_OPEN, OpenBlocks};
 use records::{Kind, four, two};
 use refusal::Refusal;
 
@@ -113,7 +113,7 @@ fn check_share(text: &[u8], s: &Share) -> Result<(), Refusal>
 // Refusals 3, 4, 18, 5, 6, 7 of a record by its kind and its length, where some text is left. `document::accept` has the same arms for blocks; one function
 // of both would need an arm for a text that neither of them has.
 // (The length is read in the arms: read once before them, moving back takes 1.08 to 1.13 of the time.)
-fn accept(text: &[u8], s: &Share, blocks: &mut OpenBlocks) -> Result<(), Refusal>
+fn accept(text: &[u8], s: &Share, blocks: &mut OpenBlocks<MAX_OPEN>) -> Result<(), Refusal>
     ensures { verdict_of result blocks.new ≡ accept_share s.now.place (head_kind s.now.head.now) (size s.now.head.now) text.now blocks.old }
 {
     match s.kind() {
@@ -129,7 +129,7 @@ fn accept(text: &[u8], s: &Share, blocks: &mut OpenBlocks) -> Result<(), Refusal
 fn read_shares(joined: &[u8]) -> Result<(), Refusal>
     ensures { verdict_of result [] ≡ reads_joined joined.now }
 {
-    let mut blocks = OpenBlocks::new();
+    let mut blocks = OpenBlocks::<MAX_OPEN>::new();
     let mut text = text_in(joined);
     for s in Shares::of(joined) {
         if s.head.len() < 6 {

@@ -1,4 +1,4 @@
-use Rattle.document.proofs.Names.{sym, ◌∙◌}
+use Rattle.document.proofs.Names.{sym, ◌∙◌, arith}
 use Rattle.document.proofs.Opening.{accept_unknown, accept-text, accept-other, accept-body, accept-start, accept-end}
 use Rattle.document.proofs.accept.Goals as goal
 
@@ -6,7 +6,7 @@ pub returns-in-Text : goal.returns-in-Text
 returns-in-Text c = accept-other c.args.r.place _ c.args.blocks.now c.in-Text.is (sym c.if-not-valid.ensures)
 
 pub returns-in-Start : goal.returns-in-Start
-returns-in-Start c = c.open.ensures.opened ∙ accept-start c.args.r.place _ _ c.in-Start.is c.if-is_empty.ensures
+returns-in-Start c = c.open.ensures.opened (omega arith) ∙ accept-start c.args.r.place _ _ c.in-Start.is c.if-is_empty.ensures
 
 pub returns-in-End : goal.returns-in-End
 returns-in-End c = c.close.ensures.closed ∙ accept-end c.args.r.place _ _ c.in-End.is c.if-is_empty-2.ensures

@@ -10,7 +10,7 @@ pub returns-in-Text : goal.returns-in-Text
 returns-in-Text c = rw (← c.kind.ensures) (c.check_share.ensures c.args.blocks.now ∙ share-text c.args.s.now.place _ _ _ c.in-Text.is)
 
 pub returns-in-Start : goal.returns-in-Start
-returns-in-Start c = rw (← c.kind.ensures) (c.open.ensures.opened ∙ share-start c.args.s.now.place _ _ _ c.in-Start.is (omega arith))
+returns-in-Start c = rw (← c.kind.ensures) (c.open.ensures.opened (omega arith) ∙ share-start c.args.s.now.place _ _ _ c.in-Start.is (omega arith))
 
 pub returns-in-End : goal.returns-in-End
 returns-in-End c = rw (← c.kind.ensures) (c.close.ensures.closed ∙ share-end c.args.s.now.place _ _ _ c.in-End.is (omega arith))

@@ -3,9 +3,9 @@ use Rattle.document.proofs.Opening.{opens-deep, opens-more}
 use Rattle.document.proofs.OpenBlocks.open.Goals as goal
 
 pub returns-then-depth-ge-MAX_OPEN-clause-opened : goal.returns-then-depth-ge-MAX_OPEN-clause-opened
-returns-then-depth-ge-MAX_OPEN-clause-opened c = opens-deep _ _ _ (omega (arith, c.depth.ensures.0))
+returns-then-depth-ge-MAX_OPEN-clause-opened g c = λ slots. opens-deep _ _ _ (omega (arith, c.depth.ensures.0))
 
 pub returns-clause-opened : goal.returns-clause-opened
-returns-clause-opened c =
+returns-clause-opened g c = λ slots.
     let low : length c.args.self.now < 32 = omega (arith, c.depth.ensures.0) in
-    rw (c.push.ensures.one_more low) (opens-more _ _ _ low)
+    rw (c.push.ensures.one_more (omega (arith, slots, low))) (opens-more _ _ _ low)
