@@ -78,7 +78,8 @@ impl Draft {
     fn ends(self, document: &[u8]) -> bool
         ensures { result ≡ one_record (drop self.last document.now) }
     {
-        document.len().saturating_sub(self.last) == 6 + records::four(document, self.last)
+        records::fits_at(document, self.last)
+            && records::whole_raw_at(document, self.last).next == document.len()
     }
 
     // Whether it may hold of a room: its length is no refusal, a record ends there, and no more than 32 blocks are open.
@@ -144,7 +145,8 @@ pub fn resume(room: &[u8], len: usize) -> Result<Draft, Refusal>
     Ok(found(&room[..len]))
 }
 
-// The draft itself, or that of one check where it cannot hold.
+// The draft itself, or that of one check where it cannot hold. (The hint: as a call that hands a draft over in memory a whole page took 1.2 to 1.3 of the time.)
+#[inline(always)]
 fn settled(room: &[u8], d: Draft) -> Result<Draft, Refusal>
     ensures numbers { Of01 (drafted_as result) }
     ensures does { Sound room.now d → Resumed room.now d.length result }
