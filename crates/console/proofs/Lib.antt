@@ -1,3 +1,4 @@
+mod Names
 pub mod Writing
 pub mod Standing
 pub mod Order

@@ -1,25 +1,18 @@
 -- The order of the console's refusals, and what its answer and its cleared room say of demand 3. Assumes nothing.
-use Rattle.std.specs.Prelude.{Result as Answer, Err, IsErrAnd}
-use Rattle.std.proofs.lemmas.Result.{err_from_is_err_and}
-use Prim.Native.Nat.{ℕ, ◌≤◌, ◌<◌}
-use mathlib.Core.Path.{◌≡◌, sym, ap, ◌∙◌}
-use mathlib.Core.List.{List}
-use lib.ListN.{length, take}
+use Rattle.console.proofs.Names.{Err, IsErrAnd, err_from_is_err_and, ℕ, ◌≤◌, ◌<◌, ◌≡◌, sym, ap, ◌∙◌, List, length, lt-ltb, le-ltb, Result, gives}
+use Rattle.console.proofs.Names.{refused, ◌>>=◌, tokens, check, refusal_number, refusal_place, Refusal, measure_of, text_by, console, Settings}
+use Rattle.console.proofs.Names.{Stands}
+use Rattle.std.specs.Prelude.{Result as Answer}
+use lib.ListN.{take}
 use lib.Seq.{take-append_seam}
-use borrow.Author.Tests.{lt-ltb, le-ltb}
 use Rattle.base.specs.Choice.{when◌then◌else◌}
-use Rattle.base.specs.Result.{Result, gives, refused, ◌>>=◌}
 use Rattle.white.specs.White.{printing}
-use Rattle.records.specs.Records.{tokens}
-use Rattle.document.specs.Document.{short, check}
-use Rattle.refusal.specs.Numbers.{refusal_number, refusal_place}
-use Rattle.refusal.specs.declared.Refusal.{Refusal}
+use Rattle.document.specs.Document.{short}
 use Rattle.room.specs.Room.{padded}
 use Rattle.renderer.specs.Rendered.{standing, filled}
-use Rattle.console_rules.specs.Console.{tabstop, narrow, measure_of, text_by, console_by, console}
-use Rattle.console_rules.specs.declared.Settings.{Settings}
+use Rattle.console_rules.specs.Console.{tabstop, narrow, console_by}
 use Rattle.console_rules.proofs.Printed.{console-prints}
-use Rattle.console.specs.Answers.{Stands, Demand3}
+use Rattle.console.specs.Answers.{Demand3}
 
 module _ (set : Settings) (room : ℕ) (s : List ℕ) where
   pub console_long : 32_768 < length s → console set room s ≡ refused 1 0

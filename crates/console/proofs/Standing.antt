@@ -1,45 +1,34 @@
 -- The walk over records: what stands in the room, and the rules run from here on, give the whole. Assumes nothing.
-use Rattle.std.specs.Prelude.{Result as Answer, Ok, Err, IsErrAnd}
-use Rattle.std.proofs.lemmas.Result.{err_from_is_err_and}
-use Prim.Native.Nat.{ℕ, ◌+◌, ◌-◌, ◌*◌, ◌≤◌, ◌<◌, ◌^◌}
-use mathlib.Core.Path.{◌≡◌, refl, sym, ap, ◌∙◌}
-use mathlib.Core.Bool.{Bool, true}
-use mathlib.Core.List.{List, []}
-use lib.ListN.{length, drop, length-take}
-use native.Mathlib.Omega.{arith}
-use borrow.Author.Tests.{lt-ltb, le-ltb}
+use Rattle.console.proofs.Names.{Ok, Err, IsErrAnd, err_from_is_err_and, ℕ, ◌+◌, ◌-◌, ◌≤◌, ◌<◌, ◌≡◌, refl, sym, ap, ◌∙◌, Bool, true, List, [], length}
+use Rattle.console.proofs.Names.{arith, lt-ltb, le-ltb, Result, gives, refused, ◌>>=◌, bind_end, bind_same, tokens, check, Read, refusal_number}
+use Rattle.console.proofs.Names.{refusal_place, Refusal, split, body, Lent, Leads, leads-on, leads-refused, State, measure_of, body_chunk, text_by}
+use Rattle.console.proofs.Names.{Settings, Sheet, text_in, page_of, ruled, after, Page, Stands, Written}
+use Rattle.std.specs.Prelude.{Result as Answer}
+use Prim.Native.Nat.{◌*◌, ◌^◌}
+use lib.ListN.{drop, length-take}
 use Rattle.base.specs.Bytes.{part}
-use Rattle.base.specs.Result.{Result, gives, refused, ◌>>=◌}
 use Rattle.base.specs.Stack.{top, popped}
 use Rattle.base.proofs.Choice.{if_true, if_false}
-use Rattle.base.proofs.Results.{bind_assoc, bind_end, bind_same}
+use Rattle.base.proofs.Results.{bind_assoc}
 use Rattle.base.proofs.Stack.{length-popped}
-use Rattle.records.specs.Records.{index, tokens, tokens_from, record_fits}
-use Rattle.document.specs.Document.{check, max_open}
-use Rattle.records.specs.Answers.{Read}
-use Rattle.refusal.specs.Numbers.{refusal_number, refusal_place}
-use Rattle.refusal.specs.declared.Refusal.{Refusal}
+use Rattle.records.specs.Records.{index, tokens_from, record_fits}
+use Rattle.document.specs.Document.{max_open}
 use Rattle.records.specs.declared.Head.{Head}
 use Rattle.records.specs.declared.Block.{Block}
 use Rattle.records.specs.declared.Style.{Style}
 use Rattle.records.specs.declared.Kind.TheVariants as kind
 use Rattle.document.proofs.Walks.{DeepAt, deep-from, deep_less, deep-text, deep-start, deep-end, accepted_at_0}
 use Rattle.document.proofs.Walks.{fits_here, open_known, open_whole}
-use Rattle.splitter.specs.Split.{split}
-use Rattle.renderer.specs.Walk.{page, body}
+use Rattle.renderer.specs.Walk.{page}
 use Rattle.std.specs.Borrow.{GName}
-use Rattle.room.specs.Lent.{Lent, lent_empty}
-use Rattle.renderer.proofs.Leads.{Leads, leads-start, leads-on, leads-out, leads-refused, records, turned, walk_record, walk_end}
-use Rattle.console_rules.specs.Console.{State, initial, blank_lay, gap_ahead, started, ended, measure_of, body_chunk, turn, finish, text_by}
-use Rattle.console_rules.specs.declared.Settings.{Settings}
-use Rattle.console_chunks.specs.InnerShown.{Sheet, text_in, page_of, ruled, after, Fits64}
+use Rattle.room.specs.Lent.{lent_empty}
+use Rattle.renderer.proofs.Leads.{leads-start, leads-out, records, turned, walk_record, walk_end}
+use Rattle.console_rules.specs.Console.{initial, blank_lay, gap_ahead, started, ended, turn, finish}
+use Rattle.console_chunks.specs.InnerShown.{Fits64}
 use Rattle.console_chunks.proofs.Pages.{agree, idle}
 use Rattle.console_blocks.specs.InnerDepth.{Shallow, Startable, Moved}
-use Rattle.console_chunks.specs.declared.Page.{Page}
 use Rattle.console_blocks.proofs.Depths.{top_shallow, shallow_on, pop_shallow}
 use Rattle.console_blocks.proofs.Blocks.{gap_asked}
-use Rattle.console.specs.Answers.{Stands}
-use Rattle.console.specs.InnerWritten.{Written}
 use Rattle.console.proofs.Writing.{err}
 
 part-short : (s : List ℕ) (a e : ℕ) → length (part s a e) ≤ e - a

@@ -1,31 +1,20 @@
 -- The chunks of a body: what stands in the room, and the chunks that are left, give what all of them give. Assumes nothing.
-use Rattle.std.specs.Prelude.{Result as Answer, Ok, Err, IsErrAnd}
-use Rattle.std.proofs.lemmas.Result.{err_from_is_err_and}
-use Prim.Native.Nat.{ℕ, ◌+◌, ◌≤◌, max}
-use mathlib.Core.Path.{◌≡◌, refl, sym, ap, ◌∙◌}
-use mathlib.Core.Bool.{Bool, true, false}
-use mathlib.Core.List.{List, []}
-use lib.ListN.{length}
-use native.Mathlib.Omega.{arith}
-use Rattle.base.specs.Result.{Result, gives, refused, ◌>>=◌}
-use Rattle.base.proofs.Results.{bind_end, bind_same}
-use Rattle.refusal.specs.Numbers.{refusal_number, refusal_place}
-use Rattle.refusal.specs.declared.Refusal.{Refusal}
-use Rattle.splitter.specs.Split.{split}
+use Rattle.console.proofs.Names.{Ok, Err, IsErrAnd, err_from_is_err_and, ℕ, ◌+◌, ◌≤◌, ◌≡◌, refl, sym, ap, ◌∙◌, Bool, true, List, [], length, arith}
+use Rattle.console.proofs.Names.{Result, gives, refused, ◌>>=◌, bind_end, bind_same, refusal_number, refusal_place, Refusal, split, chunk_of}
+use Rattle.console.proofs.Names.{placed_of, cursor, Piece, Took, body, Leads, leads-on, leads-refused, State, measure_of, body_chunk, Settings, Sheet}
+use Rattle.console.proofs.Names.{text_in, page_of, ruled, after, Written, Page}
+use Rattle.std.specs.Prelude.{Result as Answer}
+use Prim.Native.Nat.{max}
+use mathlib.Core.Bool.{false}
 use Rattle.splitter.specs.Split as rules
-use Rattle.splitter.specs.Answers.{chunk_of, placed_of, placed_from, cursor, start as first}
+use Rattle.splitter.specs.Answers.{placed_from, start as first}
 use Rattle.splitter.specs.declared.Cursor.{Cursor}
-use Rattle.splitter.specs.declared.Piece.{Piece}
 use Rattle.splitter.proofs.Steps.{split-start}
-use Rattle.splitter.proofs.Answers.{Took}
-use Rattle.renderer.specs.Walk.{last, body}
-use Rattle.renderer.proofs.Leads.{Leads, leads-on, leads-refused, leads-end, chunks_then, body-chunk, body-last, body_end}
-use Rattle.console_rules.specs.Console.{State, measure_of, body_chunk}
-use Rattle.console_rules.specs.declared.Settings.{Settings}
-use Rattle.console_chunks.specs.InnerShown.{Sheet, text_in, page_of, ruled, after, Near}
+use Rattle.renderer.specs.Walk.{last}
+use Rattle.renderer.proofs.Leads.{leads-end, chunks_then, body-chunk, body-last, body_end}
+use Rattle.console_chunks.specs.InnerShown.{Near}
 use Rattle.console_words.proofs.Advance.{same_sheet}
-use Rattle.console.specs.InnerWritten.{far, Written}
-use Rattle.console_chunks.specs.declared.Page.{Page}
+use Rattle.console.specs.InnerWritten.{far}
 use Rattle.console_words.specs.InnerAdvance.{console_from, Moves}
 
 -- a refusal, where nothing is answered

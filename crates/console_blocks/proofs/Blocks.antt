@@ -1,11 +1,9 @@
 -- The starts and ends of blocks: flags and margins change, and a backtick goes out. Assumes nothing.
-use mathlib.Core.Path.{◌≡◌, refl, sym, ap, ◌∙◌}
+use Rattle.console_blocks.proofs.Names.{◌≡◌, refl, ap, ◌∙◌, List, ℕ, ◌+◌, ◌≤◌, arith, gives, ◌>>=◌, outdent, started, ended, text_in, page_of}
+use mathlib.Core.Path.{sym}
 use mathlib.Core.Bool.{Bool}
-use mathlib.Core.List.{List}
 use mathlib.Core.Logic.{◌⊎◌, ⊎_elim}
-use Prim.Native.Nat.{ℕ, ◌+◌, ◌≤◌}
-use native.Mathlib.Omega.{arith}
-use Rattle.base.specs.Result.{Result, gives, refused, ◌>>=◌}
+use Rattle.base.specs.Result.{Result, refused}
 use Rattle.base.proofs.Choice.{pick}
 use Rattle.records.specs.Records.{index}
 use Rattle.records.specs.declared.Block.{Block}
@@ -14,9 +12,9 @@ use Rattle.renderer.specs.Walk.{page, with_lay}
 use Rattle.skip.specs.Counter.{skip_start}
 use Rattle.skip.specs.Answers as counter
 use Rattle.skip.proofs.Counter.{new_fits, skip-start_most}
-use Rattle.console_rules.specs.Console.{State, with_newline, indent, outdent, started, ended}
+use Rattle.console_rules.specs.Console.{State, with_newline, indent}
 use Rattle.console_rules.specs.declared.Lay.{Lay}
-use Rattle.console_chunks.specs.InnerShown.{sheet, text_in, page_of, Fits64}
+use Rattle.console_chunks.specs.InnerShown.{sheet, Fits64}
 use Rattle.console_chunks.specs.declared.Page.{Page}
 use Rattle.console_chunks.proofs.Pages.{stated}
 

@@ -1,9 +1,9 @@
 -- The margins: the innermost, one more, one less, and how deep they lie. Assumes nothing.
-use mathlib.Core.List.{List, [], ◌∷◌, ◌++◌}
-use Prim.Native.Nat.{ℕ, zero, suc, ◌+◌, ◌≤◌}
-use native.Mathlib.Omega.{arith}
-use lib.ListN.{take, get_or}
-use Rattle.base.specs.Stack.{top, pushed, popped}
+use Rattle.console_blocks.proofs.Names.{List, [], ◌∷◌, ℕ, ◌+◌, ◌≤◌, arith, take, top, pushed}
+use mathlib.Core.List.{◌++◌}
+use Prim.Native.Nat.{zero, suc}
+use lib.ListN.{get_or}
+use Rattle.base.specs.Stack.{popped}
 use Rattle.console_blocks.specs.InnerDepth.{Shallow}
 
 -- no margin lies deeper than the deepest

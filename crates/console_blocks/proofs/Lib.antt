@@ -1,2 +1,3 @@
+mod Names
 pub mod Depths
 pub mod Blocks

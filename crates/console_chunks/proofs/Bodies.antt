@@ -1,15 +1,9 @@
 -- Paragraphs, the other chunks, and the last line end. Assumes nothing.
-use Rattle.std.proofs.Common.{◌≡◌, ℕ, true, false, ◌||◌, List, [], ◌∷◌, sym, refl, ap, ◌∙◌}
-use Rattle.base.specs.Result.{gives}
-use Rattle.base.proofs.Choice.{if_true, if_false}
-use Rattle.room.specs.Lent.{Lent}
-use Rattle.renderer.specs.Walk.{with_lay, write}
-use Rattle.base.proofs.Results.{bind_end, bind_same}
+use Rattle.console_chunks.proofs.Names.{◌≡◌, ℕ, true, false, ◌||◌, List, [], ◌∷◌, sym, gives, if_true, if_false, Lent, with_lay, write, bind_end}
+use Rattle.console_chunks.proofs.Names.{bind_same, with_skip, line_end, raw_chunk, Settings, Lay, Sheet, sheet, ruled}
+use Rattle.std.proofs.Common.{refl, ap, ◌∙◌}
 use Rattle.splitter.specs.Split.{Chunk, raw, paragraph, line_break}
-use Rattle.console_rules.specs.Console.{with_skip, line_end, raw_chunk, chunk, finish}
-use Rattle.console_rules.specs.declared.Settings.{Settings}
-use Rattle.console_rules.specs.declared.Lay.{Lay}
-use Rattle.console_chunks.specs.InnerShown.{Sheet, sheet, ruled}
+use Rattle.console_rules.specs.Console.{chunk, finish}
 use Rattle.console_chunks.proofs.Pages.{ruled_two, ruled_same, agree, idle}
 
 -- a paragraph, and what becomes of the skip counter

@@ -1,22 +1,16 @@
 -- The steps of a chunk, by the tests that the code makes. Assumes nothing.
-use Rattle.std.proofs.Common.{◌≡◌, ℕ, ◌+◌, ◌-◌, ◌<◌, ◌≤◌, Bool, true, false, ◌||◌}
-use Rattle.std.proofs.Common.{eqb, List, [], ◌∷◌, replicate, sym, refl, ap, ◌∙◌, le-ltb, lt-ltb, le-leb}
+use Rattle.console_chunks.proofs.Names.{◌≡◌, ℕ, ◌+◌, ◌-◌, true, false, ◌||◌, List, [], ◌∷◌, replicate, sym, pointwise, Result, gives, refused, ◌>>=◌}
+use Rattle.console_chunks.proofs.Names.{ends_with, if_true, if_false, trim, Lent, wrote, page, with_out, with_lay, write, bind_end, State}
+use Rattle.console_chunks.proofs.Names.{with_column, line_end, reach, place, raw_chunk, Lay, Settings, Sheet, sheet, ruled}
+use Rattle.std.proofs.Common.{◌<◌, ◌≤◌, Bool}
+use Rattle.std.proofs.Common.{eqb, refl, ap, ◌∙◌, le-ltb, lt-ltb, le-leb}
 use mathlib.Core.Bool.{and-false, and-true}
 use borrow.Author.Tests.{lt-leb}
-use lib.Pointwise.{pointwise}
-use Rattle.base.specs.Result.{Result, gives, refused, ◌>>=◌}
 use Rattle.base.specs.Choice.{when◌then◌else◌}
-use Rattle.base.specs.Bytes.{ends_with}
-use Rattle.base.proofs.Choice.{if_true, if_false}
-use Rattle.white.specs.White.{trim}
-use Rattle.room.specs.Lent.{Given, Lent, is_empty, wrote}
-use Rattle.renderer.specs.Walk.{page, with_out, with_lay, write, empty}
-use Rattle.base.proofs.Results.{bind_end}
+use Rattle.room.specs.Lent.{Given, is_empty}
+use Rattle.renderer.specs.Walk.{empty}
 use Rattle.splitter.specs.Split.{is_space}
-use Rattle.console_rules.specs.Console.{State, with_column, folds, line_end, due_line, due_blank, reach, pad, pad_gutter, place, put, fold, raw_chunk}
-use Rattle.console_rules.specs.declared.Lay.{Lay}
-use Rattle.console_rules.specs.declared.Settings.{Settings}
-use Rattle.console_chunks.specs.InnerShown.{Sheet, sheet, ruled}
+use Rattle.console_rules.specs.Console.{folds, due_line, due_blank, pad, pad_gutter, put, fold}
 use Rattle.console_chunks.proofs.Pages.{ruled_two, ruled_three, agree, written}
 
 -- the two columns of a gutter, of which n are written

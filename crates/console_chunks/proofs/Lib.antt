@@ -1,3 +1,4 @@
+mod Names
 pub mod Pages
 pub mod Chunks
 pub mod Bodies

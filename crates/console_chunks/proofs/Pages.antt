@@ -1,15 +1,11 @@
 -- Rules one after the other, and rules on what stands on a page. Assumes nothing.
+use Rattle.console_chunks.proofs.Names.{◌≡◌, ℕ, List, length, sym, Result, gives, refused, ◌>>=◌, bind_same, seen, Lent, wrote, lent_wrote, page}
+use Rattle.console_chunks.proofs.Names.{with_out, with_lay, write, State, Lay, Sheet, sheet, ruled}
 use Rattle.std.specs.Borrow.{GName}
-use Rattle.std.proofs.Common.{◌≡◌, ℕ, List, length, sym, refl, ap, ◌∙◌}
-use Rattle.base.specs.Result.{Result, gives, refused, ◌>>=◌}
-use Rattle.base.proofs.Results.{bind_assoc, bind_same, refused-gives}
-use Rattle.room.specs.Room.{seen, extended}
-use Rattle.room.specs.Lent.{Lent, lent, with_bytes, wrote}
-use Rattle.room.proofs.Lents.{lent_wrote}
-use Rattle.renderer.specs.Walk.{page, with_out, with_lay, write}
-use Rattle.console_rules.specs.Console.{State}
-use Rattle.console_rules.specs.declared.Lay.{Lay}
-use Rattle.console_chunks.specs.InnerShown.{Sheet, sheet, ruled}
+use Rattle.std.proofs.Common.{refl, ap, ◌∙◌}
+use Rattle.base.proofs.Results.{bind_assoc, refused-gives}
+use Rattle.room.specs.Room.{extended}
+use Rattle.room.specs.Lent.{lent, with_bytes}
 
 abbrev pub Rule : Type 0
 Rule = ℕ → State → Result State

@@ -1,3 +1,4 @@
+mod Names
 pub mod PassedOver
 pub mod Misread
 pub mod Printed

@@ -1,36 +1,23 @@
 -- Refusal 10 is given where a chunk to be printed misses more than 50 columns to its margin when its turn comes, at that chunk's place, and nowhere
 -- else; for every measure of the fold test. Assumes nothing.
-use Prim.Native.Nat.{ℕ, zero, suc, ◌+◌, ◌≤◌}
-use mathlib.Core.Path.{◌≡◌, refl, sym, ap, ◌∙◌}
-use mathlib.Core.Bool.{Bool, true, false}
-use mathlib.Core.List.{List, [], ◌∷◌}
+use Rattle.console_rules.proofs.Names.{ℕ, zero, suc, ◌+◌, ◌≤◌, ◌≡◌, refl, sym, ap, ◌∙◌, Bool, true, false, List, [], ◌∷◌, length, arith}
+use Rattle.console_rules.proofs.Names.{when◌then◌else◌, top, Result, gives, refused, ◌>>=◌, if_true, trim, extended, Token, tokens, Block, Kind}
+use Rattle.console_rules.proofs.Names.{short, Chunk, raw, paragraph, line_break, is_space, Placed, split, with_out, write, last, walk, body, State}
+use Rattle.console_rules.proofs.Names.{initial, line_end, due_line, due_blank, pad_gutter, place, missing, reach, pad, put, fold, tick, started}
+use Rattle.console_rules.proofs.Names.{ended, finish, narrow, raw_chunk, chunk, body_chunk, turn, gap_ahead, tabstop, measure_of, console_by, console}
+use Rattle.console_rules.proofs.Names.{Settings}
 use lib.Dec.{ltb}
-use lib.ListN.{length}
-use native.Mathlib.Omega.{arith}
 use borrow.Author.Tests.{le-ltb, ltb-false}
-use Rattle.base.specs.Choice.{when◌then◌else◌}
-use Rattle.base.specs.Stack.{top}
-use Rattle.base.specs.Result.{Result, gives, refused, ◌>>=◌}
-use Rattle.base.proofs.Choice.{if_true, if_false}
+use Rattle.base.proofs.Choice.{if_false}
 use Rattle.base.proofs.Results.{bind_assoc, bind_same, refused-gives}
-use Rattle.white.specs.White.{trim}
-use Rattle.room.specs.Room.{extended}
-use Rattle.records.specs.Records.{Token, tokens}
-use Rattle.records.specs.declared.Block.{Block}
 use Rattle.records.specs.declared.Block.TheVariants as block
-use Rattle.records.specs.declared.Kind.{Kind}
 use Rattle.records.specs.declared.Kind.TheVariants as kind
-use Rattle.document.specs.Document.{opens, closes, bodiless, accept, first, reads, open_blocks, closed, check, short}
+use Rattle.document.specs.Document.{opens, closes, bodiless, accept, first, reads, open_blocks, closed, check}
 use Rattle.document.proofs.Walks.{check-gives}
-use Rattle.splitter.specs.Split.{Chunk, raw, paragraph, line_break, is_space, Placed, split}
-use Rattle.renderer.specs.Walk.{with_out, write, empty, last, walk, body}
+use Rattle.renderer.specs.Walk.{empty}
 use Rattle.skip.specs.Counter.{hides}
-use Rattle.console_rules.specs.Console.{State, initial, line_end, due_line, due_blank, pad_gutter, place, missing, reach, pad, put, fold, tick}
-use Rattle.console_rules.specs.Console.{started, ended, finish, narrow, raw_chunk, chunk, body_chunk, turn, gap_ahead, tabstop, measure_of}
-use Rattle.console_rules.specs.Console.{console_by, console}
 use Rattle.console_rules.specs.Margin.{Ready, printed, dropped, too_far, ready, FarChunk, FarRecord, Far}
 use Rattle.console_rules.specs.Margin as far
-use Rattle.console_rules.specs.declared.Settings.{Settings}
 
 -- No refusal by 10
 

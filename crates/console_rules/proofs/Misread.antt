@@ -1,17 +1,9 @@
 -- Two sentences that 01's 'Misreadings of the Rust' bear on, as laws of the rules. Assumes nothing.
-use Prim.Native.Nat.{ℕ}
-use mathlib.Core.Path.{◌≡◌, refl, ap}
-use mathlib.Core.Bool.{Bool, true, false}
-use mathlib.Core.List.{List, [], ◌∷◌}
-use Rattle.base.specs.Choice.{when◌then◌else◌}
-use Rattle.base.specs.Result.{Result, gives, refused, ◌>>=◌}
+use Rattle.console_rules.proofs.Names.{ℕ, ◌≡◌, refl, ap, Bool, true, false, List, [], ◌∷◌, when◌then◌else◌, Result, gives, refused, ◌>>=◌, All, given}
+use Rattle.console_rules.proofs.Names.{refusal, extended, Block, with_out, with_lay, write, State, with_gap, outdent, tick, started, ended}
 use Rattle.base.specs.Stack.{popped}
-use Rattle.base.proofs.Results.{All, given, refusal}
-use Rattle.room.specs.Room.{extended}
-use Rattle.records.specs.declared.Block.{Block}
 use Rattle.records.specs.declared.Block.TheVariants as block
-use Rattle.renderer.specs.Walk.{with_out, with_lay, write}
-use Rattle.console_rules.specs.Console.{State, with_blank, with_skip, with_gap, outdent, tick, started, ended}
+use Rattle.console_rules.specs.Console.{with_blank, with_skip}
 
 -- the text that a rule gives
 abbrev text : Result State → Result (List ℕ)

@@ -1,14 +1,9 @@
 -- 01: an adjacent gap's 'two records are passed over'. Assumes nothing.
-use Prim.Native.Nat.{ℕ}
-use mathlib.Core.Path.{◌≡◌, ap, ◌∙◌}
-use mathlib.Core.Bool.{Bool, true, false}
-use mathlib.Core.List.{List}
-use Rattle.base.specs.Result.{gives, ◌>>=◌}
-use Rattle.base.proofs.Choice.{if_true}
+use Rattle.console_rules.proofs.Names.{ℕ, ◌≡◌, ap, ◌∙◌, Bool, true, false, List, gives, ◌>>=◌, if_true, with_lay, State, with_gap, outdent, started}
+use Rattle.console_rules.proofs.Names.{ended}
 use Rattle.base.proofs.Stack.{popped-pushed}
 use Rattle.records.specs.declared.Block.TheVariants as block
-use Rattle.renderer.specs.Walk.{with_kept, with_lay}
-use Rattle.console_rules.specs.Console.{State, with_gap, outdent, started, ended}
+use Rattle.renderer.specs.Walk.{with_kept}
 
 -- the start and the end of a Block that is passed over leave text, margins and all that is due as they were
 pub passed_over : (room tab : ℕ) (g : Bool) (s : State) → s.lay.passing ≡ true

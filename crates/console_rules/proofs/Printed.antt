@@ -1,38 +1,30 @@
 -- With `full` on, the printing characters of the console's text are the document's printing order. Assumes nothing.
-use Prim.Native.Nat.{ℕ, zero, suc, ◌+◌, ◌-◌, ◌≤◌, zero-le}
-use mathlib.Core.Path.{◌≡◌, refl, sym, ap, ◌∙◌}
-use mathlib.Core.Bool.{Bool, true, false≢true}
-use mathlib.Core.List.{List, [], ◌∷◌, ◌++◌, append-nil}
+use Rattle.console_rules.proofs.Names.{ℕ, zero, suc, ◌+◌, ◌≤◌, ◌≡◌, refl, sym, ap, ◌∙◌, Bool, true, List, [], ◌∷◌, length, when◌then◌else◌, gives}
+use Rattle.console_rules.proofs.Names.{◌>>=◌, top, All, given, refusal, trim, Token, tokens, short, Block, Kind, Chunk, raw, paragraph, line_break}
+use Rattle.console_rules.proofs.Names.{is_space, Placed, split, extended, with_out, with_lay, write, State, initial, line_end, due_line, due_blank}
+use Rattle.console_rules.proofs.Names.{pad_gutter, place, missing, reach, pad, put, fold, tick, outdent, started, ended, gap_ahead, tabstop}
+use Rattle.console_rules.proofs.Names.{raw_chunk, chunk, body_chunk, turn, finish, narrow, measure_of, console_by, console, Settings}
+use Prim.Native.Nat.{◌-◌, zero-le}
+use mathlib.Core.Bool.{false≢true}
+use mathlib.Core.List.{◌++◌, append-nil}
 use lib.Dec.{leb}
-use lib.ListN.{length, replicate}
+use lib.ListN.{replicate}
 use borrow.Author.Tests.{eqb-true, leb-true}
 use native.Mathlib.Nat.{le_trans}
-use Rattle.base.specs.Choice.{when◌then◌else◌}
-use Rattle.base.specs.Result.{gives, ◌>>=◌}
-use Rattle.base.specs.Stack.{top}
 use Rattle.base.proofs.Choice.{pick, and_both}
-use Rattle.base.proofs.Results.{All, given, refusal, all_bind, is-given, always}
+use Rattle.base.proofs.Results.{all_bind, is-given, always}
 use Rattle.utf8.specs.Utf8.{row_of, table}
-use Rattle.white.specs.White.{whites, white, printing, blank, trim}
+use Rattle.white.specs.White.{whites, white, printing, blank}
 use Rattle.utf8.proofs.Text.{Valid, valid_both}
 use Rattle.white.proofs.White.{printing-append, blank_valid, blank-printing, blank_join, empty-blank, trim_same, trim_shorter}
-use Rattle.records.specs.Records.{Token, tokens, adds, order, printing_order}
-use Rattle.document.specs.Document.{short}
-use Rattle.records.specs.declared.Block.{Block}
+use Rattle.records.specs.Records.{adds, order, printing_order}
 use Rattle.records.specs.declared.Block.TheVariants as block
-use Rattle.records.specs.declared.Kind.{Kind}
 use Rattle.records.specs.declared.Kind.TheVariants as kind
 use Rattle.document.proofs.Walks.{Sane, Sanes, check_sane}
-use Rattle.splitter.specs.Split.{Chunk, raw, paragraph, line_break, is_space, Placed, split}
 use Rattle.splitter.proofs.Say.{said, Sound, split_say}
-use Rattle.room.specs.Room.{extended}
-use Rattle.renderer.specs.Walk.{with_out, with_lay, write}
 use Rattle.skip.specs.Counter.{skip_start, skip_end}
 use Rattle.renderer.proofs.Keeps.{walk-adds, body-says}
-use Rattle.console_rules.specs.Console.{State, with_column, initial, line_end, due_line, due_blank, pad_gutter, place, missing, reach, pad, put, fold, tick}
-use Rattle.console_rules.specs.Console.{outdent, started, ended, gap_ahead, tabstop, raw_chunk, chunk, body_chunk, turn, finish, narrow, measure_of}
-use Rattle.console_rules.specs.Console.{console_by, console}
-use Rattle.console_rules.specs.declared.Settings.{Settings}
+use Rattle.console_rules.specs.Console.{with_column}
 
 -- a text fits the room, is UTF-8 and prints some characters, and nothing is skipped
 pub record Showing (room : ℕ) (x out : List ℕ) (skip : ℕ) : Type 0 where

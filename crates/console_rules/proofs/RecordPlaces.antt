@@ -1,24 +1,12 @@
 -- With the places of chunks in place of the records' nothing moves but refusal 10's place. Assumes nothing.
-use Prim.Native.Nat.{ℕ, ◌+◌, ◌≤◌}
-use mathlib.Core.Path.{refl}
-use mathlib.Core.Bool.{Bool, true, false}
-use mathlib.Core.List.{List, [], ◌∷◌}
-use lib.ListN.{length}
-use native.Mathlib.Omega.{arith}
-use Rattle.base.specs.Choice.{when◌then◌else◌}
-use Rattle.base.specs.Stack.{top}
-use Rattle.base.specs.Result.{Result, gives, refused, ◌>>=◌}
-use Rattle.records.specs.Records.{Token, tokens}
-use Rattle.records.specs.declared.Kind.{Kind}
+use Rattle.console_rules.proofs.Names.{ℕ, ◌+◌, ◌≤◌, refl, Bool, true, false, List, [], ◌∷◌, length, arith, when◌then◌else◌, top, Result, gives}
+use Rattle.console_rules.proofs.Names.{refused, ◌>>=◌, Token, tokens, Kind, Chunk, raw, paragraph, line_break, Placed, split, last, walk, body, State}
+use Rattle.console_rules.proofs.Names.{initial, pad, put, fold, raw_chunk, chunk, body_chunk, turn, tabstop, console_by, Settings}
 use Rattle.records.specs.declared.Kind.TheVariants as kind
-use Rattle.splitter.specs.Split.{Chunk, raw, paragraph, line_break, Placed, split}
 use Rattle.splitter.proofs.Fits.{extent}
 use Rattle.splitter.proofs.Places.{Each, none, also, split-within}
-use Rattle.renderer.specs.Walk.{anywhere, last, walk, body}
-use Rattle.console_rules.specs.Console.{State, initial, pad, put, fold, raw_chunk, chunk, body_chunk, turn, tabstop}
-use Rattle.console_rules.specs.Console.{console_by}
+use Rattle.renderer.specs.Walk.{anywhere}
 use Rattle.console_rules.specs.RecordPlaces.{record_turn, record_console, here, further, InBody, SameBut10, same, both10}
-use Rattle.console_rules.specs.declared.Settings.{Settings}
 
 -- one rule after another
 bind_same_but : {A B : Type 0} (P : ℕ → ℕ → Type 0) (x y : Result A) (f g : A → Result B) → SameBut10 P x y → ((a : A) → SameBut10 P (f a) (g a))

@@ -1,19 +1,11 @@
 -- The next end of a Section4, looked for once: where it was found from, and after each record that is passed. Assumes nothing.
-use mathlib.Core.Path.{◌≡◌, refl, sym, ap, ◌∙◌}
-use mathlib.Core.Bool.{Bool, true, false}
-use mathlib.Core.Logic.{⊎_elim}
-use mathlib.Core.List.{List}
-use Prim.Native.Nat.{ℕ, ◌≤◌, ◌<◌}
-use native.Mathlib.Omega.{arith}
+use Rattle.console_tabstop.proofs.Names.{◌≡◌, refl, sym, ap, ◌∙◌, Bool, true, false, ⊎_elim, List, ℕ, ◌≤◌, ◌<◌, arith, length, if_true, if_false}
+use Rattle.console_tabstop.proofs.Names.{le_or_lt, tokens_from, is_end, Read, Head, tokens-end, Ahead}
 use native.Mathlib.Nat.{le_refl}
-use lib.ListN.{length}
-use Rattle.base.proofs.Choice.{if_true, if_false, le_or_lt}
-use Rattle.records.specs.Records.{token_at, tokens_from, is_end}
-use Rattle.records.specs.Answers.{Read}
-use Rattle.records.specs.declared.Head.{Head}
-use Rattle.records.proofs.Tokens.{tokens_at, tokens-end}
+use Rattle.records.specs.Records.{token_at}
+use Rattle.records.proofs.Tokens.{tokens_at}
 use Rattle.records.proofs.Reading.{read-on}
-use Rattle.console_tabstop.specs.InnerAhead.{place_of, after_end, Ahead, Known}
+use Rattle.console_tabstop.specs.InnerAhead.{place_of, after_end, Known}
 use Rattle.console_tabstop.proofs.Scans.{listed, gap_here, gap_next, gap_none, empty-none}
 
 place_here : (s : List ℕ) (at : ℕ) → at ≤ length s → place_of (length s) (tokens_from s at) ≡ at

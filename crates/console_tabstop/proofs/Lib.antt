@@ -1,3 +1,4 @@
+mod Names
 pub mod Scans
 pub mod Settled
 pub mod Ahead

@@ -1,26 +1,15 @@
 -- The records ahead, and the count of the tabstop. Assumes nothing.
-use mathlib.Core.Path.{◌≡◌, refl, sym, ap, ◌∙◌}
-use mathlib.Core.Bool.{true, false, ◌&&◌, false≢true}
-use mathlib.Core.List.{List, [], ◌∷◌}
-use Prim.Native.Nat.{ℕ, ◌+◌, ◌≤◌, ◌<◌}
-use native.Mathlib.Omega.{arith}
-use lib.Dec.{leb, ltb, eqb}
-use lib.ListN.{length}
-use borrow.Author.Tests.{leb-true, eq-eqb, lt-ltb, le-ltb, le-leb, lt-leb}
-use Rattle.base.specs.Bytes.{part}
-use Rattle.base.specs.Choice.{when◌then◌else◌}
-use Rattle.base.proofs.Choice.{pick, if_true, if_false, and_right}
+use Rattle.console_tabstop.proofs.Names.{◌≡◌, refl, sym, ap, ◌∙◌, true, false, ◌&&◌, false≢true, List, [], ◌∷◌, ℕ, ◌+◌, ◌≤◌, ◌<◌, arith, leb, ltb}
+use Rattle.console_tabstop.proofs.Names.{eqb, length, leb-true, lt-leb, part, when◌then◌else◌, pick, if_true, if_false, and_right, Token, index}
+use Rattle.console_tabstop.proofs.Names.{tokens_from, is_start, is_end, Read, Head, Block, Kind, tokens-end, count_short, Terms, term_start, term_end}
+use Rattle.console_tabstop.proofs.Names.{term, terms, settles, settled_from, empty_block}
+use borrow.Author.Tests.{eq-eqb, lt-ltb, le-ltb, le-leb}
 use Rattle.utf8.specs.Utf8.{characters}
-use Rattle.records.specs.Records.{Token, index, tokens_from, is_text, is_start, is_end}
-use Rattle.records.specs.Answers.{Read, token_of}
-use Rattle.records.specs.declared.Head.{Head}
-use Rattle.records.specs.declared.Block.{Block}
+use Rattle.records.specs.Records.{is_text}
+use Rattle.records.specs.Answers.{token_of}
 use Rattle.records.specs.declared.Block.TheVariants as block
-use Rattle.records.specs.declared.Kind.{Kind}
 use Rattle.records.specs.declared.Kind.TheVariants as kind
-use Rattle.records.proofs.Tokens.{tokens-end}
-use Rattle.splitter.proofs.Answers.{count_short}
-use Rattle.console_rules.specs.Console.{Terms, term_start, term_end, term, terms, settles, settled_from, empty_block, gap_ahead}
+use Rattle.console_rules.specs.Console.{gap_ahead}
 
 -- A record that was read comes first
 

@@ -1,15 +1,8 @@
 -- The search for the tabstop, record by record. Assumes nothing.
-use Prim.Native.Nat.{ℕ, ◌+◌, ◌-◌, ◌≤◌, ◌<◌}
-use mathlib.Core.Path.{◌≡◌, sym, ap, ◌∙◌, subst}
-use mathlib.Core.Bool.{true, false}
-use mathlib.Core.List.{List}
-use native.Mathlib.Omega.{arith}
-use lib.ListN.{length, drop, length-take}
-use Rattle.base.specs.Bytes.{part}
-use Rattle.records.specs.Records.{tokens_from}
-use Rattle.records.specs.Answers.{Read}
-use Rattle.records.specs.declared.Head.{Head}
-use Rattle.console_rules.specs.Console.{Terms, term, terms, settles, settled_from}
+use Rattle.console_tabstop.proofs.Names.{ℕ, ◌+◌, ◌-◌, ◌≤◌, ◌<◌, ◌≡◌, sym, ap, ◌∙◌, true, false, List, arith, length, part, tokens_from, Read, Head}
+use Rattle.console_tabstop.proofs.Names.{Terms, term, terms, settles, settled_from}
+use mathlib.Core.Path.{subst}
+use lib.ListN.{drop, length-take}
 use Rattle.console_tabstop.proofs.Scans.{terms-next, terms-none, term_bounds, settled_here, settled-later, settled-none}
 use Rattle.console_tabstop.proofs.Settled.{terms_24, settling_24}
 

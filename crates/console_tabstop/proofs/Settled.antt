@@ -1,22 +1,13 @@
 -- A term of 24 characters settles the tabstop: none that counts is wider. Then what the search answers for any bytes. Assumes nothing.
-use Prim.Native.Nat.{ℕ, ◌≤◌}
-use mathlib.Core.Path.{◌≡◌, refl, sym, ap, ◌∙◌}
-use mathlib.Core.Bool.{true, ◌&&◌, false≢true}
-use mathlib.Core.Logic.{⊎_elim}
-use mathlib.Core.List.{List, [], ◌∷◌}
-use native.Mathlib.Omega.{arith}
-use lib.Dec.{leb, ltb, eqb}
-use lib.ListN.{length}
-use borrow.Author.Tests.{leb-true, ltb-true, eqb-true}
-use Rattle.base.specs.Choice.{when◌then◌else◌}
+use Rattle.console_tabstop.proofs.Names.{ℕ, ◌≤◌, ◌≡◌, refl, sym, ap, ◌∙◌, true, ◌&&◌, false≢true, ⊎_elim, List, [], ◌∷◌, arith, leb, ltb, eqb, length}
+use Rattle.console_tabstop.proofs.Names.{leb-true, when◌then◌else◌, pick, if_true, and_right, le_or_lt, Token, index, tokens, Block, Kind, Terms}
+use Rattle.console_tabstop.proofs.Names.{term_start, term_end, term, terms, tabstop, settles, settled_at}
+use borrow.Author.Tests.{ltb-true, eqb-true}
 use Rattle.base.specs.Result.{gives, refused, ◌>>=◌}
-use Rattle.base.proofs.Choice.{pick, if_true, and_left, and_right, le_or_lt}
-use Rattle.records.specs.Records.{Token, index, tokens}
-use Rattle.records.specs.declared.Block.{Block}
-use Rattle.records.specs.declared.Kind.{Kind}
+use Rattle.base.proofs.Choice.{and_left}
 use Rattle.records.specs.declared.Kind.TheVariants as kind
 use Rattle.document.specs.Document.{check}
-use Rattle.console_rules.specs.Console.{Terms, term_start, term_end, term, terms, tabstop, settles, settled_at, tabstop_in, settled_in}
+use Rattle.console_rules.specs.Console.{tabstop_in, settled_in}
 use Rattle.console_tabstop.proofs.Scans.{wider, not_wider}
 
 -- where the widest term has 24 characters, it has so after each further record

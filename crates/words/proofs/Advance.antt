@@ -1,22 +1,9 @@
 -- One run of words after another, for any renderer that writes words as they stand. Assumes nothing.
-use Prim.Native.Nat.{ℕ, zero, suc, ◌+◌, ◌-◌, ◌≤◌, ◌<◌}
-use mathlib.Core.Path.{◌≡◌, refl, sym, ap, ◌∙◌}
-use mathlib.Core.Bool.{Bool}
-use mathlib.Core.Logic.{⊎_elim}
-use mathlib.Core.List.{List, ◌++◌, append-nil, append_assoc}
-use lib.ListN.{length, take, drop, get_or, length-drop}
-use lib.Seq.{get_or-drop}
-use native.Mathlib.Omega.{arith}
-use Rattle.base.specs.Bytes.{part}
-use Rattle.base.specs.Result.{Result, gives, refused, ◌>>=◌}
-use Rattle.base.proofs.Choice.{le_or_lt}
-use Rattle.utf8.specs.Utf8.{characters}
-use Rattle.room.specs.Room.{extended}
-use Rattle.room.specs.Lent.{Lent, with_bytes}
-use Rattle.splitter.specs.Split.{raw, Placed, is_line_end_or_space}
+use Rattle.words.proofs.Names.{ℕ, zero, suc, ◌+◌, ◌-◌, ◌≤◌, ◌<◌, ◌≡◌, refl, sym, ap, ◌∙◌, Bool, ⊎_elim, List, ◌++◌, append-nil, length, take, drop}
+use Rattle.words.proofs.Names.{get_or, length-drop, get_or-drop, arith, part, Result, gives, refused, ◌>>=◌, le_or_lt, characters, extended, Lent}
+use Rattle.words.proofs.Names.{with_bytes, raw, Placed, is_line_end_or_space, Page, page, NoLineEnd, NoWordCut, Follows}
+use mathlib.Core.List.{append_assoc}
 use Rattle.splitter.specs.declared.Code.TheVariants as code
-use Rattle.renderer.specs.Walk.{Page, page}
-use Rattle.words.specs.InnerCopies.{NoLineEnd, NoWordCut, Follows}
 use Rattle.words.specs.InnerAdvance.{page_of, walk_from, Advance}
 use Rattle.words.proofs.Copying.{part_join, plain_there, run_shown}
 use Rattle.words.proofs.Chunks.{First, first_chunk}

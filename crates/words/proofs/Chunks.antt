@@ -1,25 +1,16 @@
 -- The first chunk of a run of words: it ends within the run. Assumes nothing.
-use Prim.Native.Nat.{ℕ, zero, suc, ◌+◌, ◌-◌, ◌≤◌, ◌<◌}
-use mathlib.Core.Path.{◌≡◌, refl, sym, ap, ◌∙◌}
-use mathlib.Core.Bool.{Bool, false, false≢true}
-use mathlib.Core.Logic.{⊎_elim}
-use mathlib.Core.List.{List, [], ◌∷◌}
-use lib.ListN.{length, take, drop, get_or, length-drop}
-use lib.Seq.{get_or-drop}
-use native.Mathlib.Omega.{arith}
-use Rattle.base.specs.Bytes.{part}
-use Rattle.base.specs.Choice.{when◌then◌else◌}
-use Rattle.base.proofs.Choice.{pick, le_or_lt, eq_or_not}
-use Rattle.utf8.specs.Utf8.{characters}
-use Rattle.splitter.specs.Split.{before, is_line_end_or_space, raw, word}
+use Rattle.words.proofs.Names.{ℕ, zero, suc, ◌+◌, ◌-◌, ◌≤◌, ◌<◌, ◌≡◌, refl, sym, ap, ◌∙◌, Bool, false, ⊎_elim, List, [], ◌∷◌, length, take, drop}
+use Rattle.words.proofs.Names.{get_or, length-drop, get_or-drop, arith, part, when◌then◌else◌, le_or_lt, characters, is_line_end_or_space, raw}
+use Rattle.words.proofs.Names.{placed_from, cursor, neither_ends, NoLineEnd, NoWordCut}
+use mathlib.Core.Bool.{false≢true}
+use Rattle.base.proofs.Choice.{pick, eq_or_not}
+use Rattle.splitter.specs.Split.{before, word}
 use Rattle.splitter.specs.InnerParts.{word_from}
-use Rattle.splitter.specs.Answers.{placed_from, cursor}
 use Rattle.splitter.specs.declared.Code.TheVariants as code
 use Rattle.splitter.specs.declared.Piece.TheVariants.{Raw, Space}
-use Rattle.splitter.proofs.Before.{before-short, before-go, before-part, space_ends, neither_ends}
+use Rattle.splitter.proofs.Before.{before-short, before-go, before-part, space_ends}
 use Rattle.splitter.proofs.Steps.{placed-take}
 use Rattle.splitter.proofs.Answers.{plain_word, plain_space, answers_some}
-use Rattle.words.specs.InnerCopies.{NoLineEnd, NoWordCut}
 use Rattle.words.proofs.Copying.{take-one}
 
 -- none of the bytes before the first that passes a test passes it

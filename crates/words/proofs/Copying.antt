@@ -1,31 +1,24 @@
 -- Bytes of a line that are copied, block by block and byte by byte, and the words among them that are whole. Assumes nothing.
-use Prim.Native.Nat.{ℕ, ◌+◌, ◌-◌, ◌≤◌, ◌<◌}
-use mathlib.Core.Path.{◌≡◌, refl, sym, ap, subst, ◌∙◌}
-use mathlib.Core.List.{List, [], ◌∷◌, ◌++◌, append-nil}
-use mathlib.Core.Bool.{Bool, false, not}
-use mathlib.Core.Logic.{⊎_elim}
-use lib.ListN.{length, take, drop, get_or, set, length-set, length-take, length-drop, length-append, drop_of_length-le}
-use lib.Seq.{take-take, take-append-add, take-add, take-suc-set, length-take-le, drop-cons, drop-drop, get_or-drop, get_or-take, take_all}
+use Rattle.words.proofs.Names.{ℕ, ◌+◌, ◌-◌, ◌≤◌, ◌<◌, ◌≡◌, refl, sym, ap, ◌∙◌, List, [], ◌∷◌, ◌++◌, append-nil, Bool, false, not, ⊎_elim, length}
+use Rattle.words.proofs.Names.{take, drop, get_or, length-take, length-drop, get_or-drop, arith, part, Result, gives, refused, ◌>>=◌, le_or_lt}
+use Rattle.words.proofs.Names.{characters, continues, extended, Lent, with_bytes, extended_in, is_line_end_or_space, neither_ends, NoLineEnd}
+use Rattle.words.proofs.Names.{NoWordCut, Copying, Follows}
+use mathlib.Core.Path.{subst}
+use lib.ListN.{set, length-set, length-append, drop_of_length-le}
+use lib.Seq.{take-take, take-append-add, take-add, take-suc-set, length-take-le, drop-cons, drop-drop, get_or-take, take_all}
 use native.Mathlib.Numerals.{add-one}
-use native.Mathlib.Omega.{arith}
 use Rattle.std.specs.Borrow.{GName}
 use Rattle.std.proofs.lemmas.List.{take-append-drop}
-use Rattle.base.specs.Bytes.{part}
-use Rattle.base.specs.Result.{Result, gives, refused, ◌>>=◌}
-use Rattle.base.proofs.Choice.{le_or_lt}
 use Rattle.base.proofs.Results.{refused-gives}
-use Rattle.utf8.specs.Utf8.{characters, continues}
 use Rattle.std.specs.Int.{from_bool}
 use Rattle.utf8.proofs.Laws.{adds}
-use Rattle.room.specs.Room.{extended, seen}
-use Rattle.room.specs.Lent.{Given, Lent, lent, with_bytes}
-use Rattle.room.proofs.Laws.{wrote, seen-out, extended_in}
+use Rattle.room.specs.Room.{seen}
+use Rattle.room.specs.Lent.{Given, lent}
+use Rattle.room.proofs.Laws.{wrote, seen-out}
 use Rattle.room.proofs.Lents.{lent_wrote, seen_given}
-use Rattle.splitter.specs.Split.{is_line_end_or_space}
-use Rattle.splitter.proofs.Before.{neither_ends}
 use Rattle.splitter.proofs.Fits.{count_short}
 use Rattle.splitter.proofs.Words.{adds_is}
-use Rattle.words.specs.InnerCopies.{NoLineEnd, NoWordCut, Copying, Stopped, Whole, Words, Copies, Follows}
+use Rattle.words.specs.InnerCopies.{Stopped, Whole, Words, Copies}
 
 -- Parts
 

@@ -1,16 +1,8 @@
 -- A word that was copied, for every renderer: the chunks after it give what all gave. Assumes nothing.
-use Prim.Native.Nat.{ℕ, ◌+◌, ◌≤◌}
-use mathlib.Core.Path.{◌≡◌, refl}
-use mathlib.Core.Bool.{Bool}
-use mathlib.Core.List.{List, ◌∷◌, ◌++◌}
-use lib.ListN.{length}
-use Rattle.base.specs.Choice.{when◌then◌else◌}
-use Rattle.base.specs.Result.{Result, gives, ◌>>=◌}
-use Rattle.splitter.specs.Split.{raw, Placed}
-use Rattle.splitter.specs.Answers.{placed_from, cursor}
+use Rattle.words.proofs.Names.{ℕ, ◌+◌, ◌≤◌, ◌≡◌, refl, Bool, List, ◌∷◌, ◌++◌, length, when◌then◌else◌, Result, gives, ◌>>=◌, raw, Placed, placed_from}
+use Rattle.words.proofs.Names.{cursor, extended_in, Page, page}
 use Rattle.splitter.specs.declared.Code.TheVariants as code
-use Rattle.room.proofs.Laws.{extended_in}
-use Rattle.renderer.specs.Walk.{Page, page, write, body}
+use Rattle.renderer.specs.Walk.{write, body}
 
 module _ {L : Type 0} where
   -- a text that is written where it fits

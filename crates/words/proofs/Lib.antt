@@ -1,3 +1,4 @@
+mod Names
 pub mod Copying
 pub mod Chunks
 pub mod Follow

@@ -1,8 +1,5 @@
-use mathlib.Core.Path.{◌≡◌, refl, sym, ◌∙◌}
-use native.Mathlib.Omega.{arith}
-use Rattle.splitter.specs.Answers.{cursor}
+use Rattle.console.proofs.Names.{◌≡◌, refl, sym, ◌∙◌, arith, cursor, Took}
 use Rattle.splitter.proofs.Steps.{first-none, placed-done}
-use Rattle.splitter.proofs.Answers.{Took}
 use Rattle.splitter_iter.specs.InnerStruct.{splitter}
 use Rattle.splitter_iter.proofs.Left.{took_next, none_next}
 use Rattle.console.proofs.Writing.{Writing, write-first, write-end, write_words, write-last, write-on, written-refused}

@@ -1,6 +1,4 @@
-use Prim.Native.Nat.{◌+◌, ◌-◌}
-use mathlib.Core.Path.{◌≡◌}
-use lib.ListN.{length}
+use Rattle.console.proofs.Names.{◌+◌, ◌-◌, ◌≡◌, length}
 use Rattle.console.proofs.Writing.{Writing}
 use Rattle.console.proofs.put_body.Given as goal
 

@@ -1,16 +1,10 @@
-use mathlib.Core.Path.{◌≡◌, sym, ap, ◌∙◌}
-use mathlib.Core.List.{List}
-use Prim.Native.Nat.{ℕ, ◌+◌}
+use Rattle.console.proofs.Names.{◌≡◌, sym, ap, ◌∙◌, List, ℕ, ◌+◌, arith, length, chunk_of, placed_of, Piece, measure_of, body_chunk, Settings, Sheet}
+use Rattle.console.proofs.Names.{ruled}
 use denote.Bor.{Bor}
-use native.Mathlib.Omega.{arith}
-use lib.ListN.{length}
 use Rattle.splitter.specs.Split.{raw}
-use Rattle.splitter.specs.Answers.{chunk_of, place_of, placed_of, PieceWithin}
-use Rattle.splitter.specs.declared.Piece.{Piece}
+use Rattle.splitter.specs.Answers.{place_of, PieceWithin}
 use Rattle.splitter.specs.declared.Piece.TheVariants.{Raw}
-use Rattle.console_rules.specs.Console.{measure_of, raw_chunk, body_chunk}
-use Rattle.console_rules.specs.declared.Settings.{Settings}
-use Rattle.console_chunks.specs.InnerShown.{Sheet, ruled}
+use Rattle.console_rules.specs.Console.{raw_chunk}
 use Rattle.console_chunks.proofs.Bodies.{chunk-raw, chunk_break}
 use Rattle.console.proofs.put_piece.Goals.{in-Raw, in-Space}
 use Rattle.console.proofs.put_piece.Goals as goal

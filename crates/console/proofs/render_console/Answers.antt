@@ -1,8 +1,6 @@
-use mathlib.Core.Path.{ap, ◌∙◌}
-use lib.ListN.{length}
+use Rattle.console.proofs.Names.{ap, ◌∙◌, length, console}
 use Rattle.base.specs.Result.{measured}
 use Rattle.renderer.proofs.Clearing.{standing-measured}
-use Rattle.console_rules.specs.Console.{console}
 use Rattle.console.proofs.Order.{cleared_room, demand3}
 use Rattle.console.proofs.render_console.Goals as goal
 

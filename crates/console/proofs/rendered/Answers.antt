@@ -1,12 +1,7 @@
-use mathlib.Core.Path.{sym, ap, ◌∙◌}
-use mathlib.Core.List.{[]}
-use Prim.Native.Nat.{ℕ}
-use lib.ListN.{length}
+use Rattle.console.proofs.Names.{sym, ap, ◌∙◌, [], ℕ, length, measure_of, text_by, tokens}
 use Rattle.refusal.specs.declared.Refusal.TheVariants as refusal
 use Rattle.document.proofs.Walks.{of_gives, of_refused}
-use Rattle.console_rules.specs.Console.{measure_of, text_by}
 use Rattle.console.proofs.Order.{console_long, console-wide, console-refused, console-text, stands-no, stands-exit, stands_by}
-use Rattle.records.specs.Records.{tokens}
 use Rattle.console.proofs.rendered.Goals as goal
 
 pub returns-then-document-gt-MAX_BYTES : goal.returns-then-document-gt-MAX_BYTES

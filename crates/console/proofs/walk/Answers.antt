@@ -1,19 +1,9 @@
-use Prim.Native.Nat.{◌-◌, ◌<◌}
-use mathlib.Core.Path.{◌≡◌, sym, ap, ◌∙◌}
-use mathlib.Core.List.{[]}
+use Rattle.console.proofs.Names.{◌-◌, ◌<◌, ◌≡◌, sym, ap, ◌∙◌, [], List, ℕ, Lent, Sheet, length, arith, Read, Known}
 use borrow.Author.Rules.{rules}
-use mathlib.Core.List.{List}
-use Prim.Native.Nat.{ℕ}
 use Rattle.room.specs.Room.{seen}
-use Rattle.room.specs.Lent.{Lent}
-use Rattle.console_chunks.specs.InnerShown.{Sheet}
-use lib.ListN.{length}
 use Rattle.records.specs.declared.Kind.TheVariants as kind
-use native.Mathlib.Omega.{arith}
 use borrow.Author.Tests.{ltb-true, ltb-false}
 use Rattle.refusal.specs.declared.Refusal.TheVariants as refusal
-use Rattle.records.specs.Answers.{Read}
-use Rattle.console_tabstop.specs.InnerAhead.{Known}
 use Rattle.console_tabstop.proofs.Ahead.{known_next}
 use Rattle.console.proofs.Standing.{stand_first, stand_over, stand_read, stand_known, stand_startable, stand_less, stand_column, stand_started}
 use Rattle.console.proofs.Standing.{stand_ended, stand_hidden, stand_written, stand_refused, margin_low, column_low, body_few, start_few}

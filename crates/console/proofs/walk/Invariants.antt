@@ -1,7 +1,5 @@
-use Prim.Native.Nat.{◌-◌}
-use lib.ListN.{length}
+use Rattle.console.proofs.Names.{◌-◌, length, Known}
 use Rattle.console.proofs.Standing.{Standing}
-use Rattle.console_tabstop.specs.InnerAhead.{Known}
 use Rattle.console.proofs.walk.Given as goal
 
 -- Invariant: from the record at `at` on, what page and margins hold gives the whole text (Standing), and the next end of a Section4 that was

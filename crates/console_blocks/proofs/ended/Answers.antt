@@ -1,11 +1,6 @@
-use mathlib.Core.Path.{refl}
-use native.Mathlib.Omega.{arith}
-use Rattle.console_chunks.specs.InnerShown.{page_of}
-use Rattle.base.specs.Choice.{when◌then◌else◌}
-use Rattle.base.specs.Result.{gives, ◌>>=◌}
+use Rattle.console_blocks.proofs.Names.{refl, arith, page_of, when◌then◌else◌, gives, ◌>>=◌, ended, outdent, tick}
 use Rattle.records.specs.declared.Block.TheVariants as block
 use Rattle.skip.proofs.Counter.{skip-end_most}
-use Rattle.console_rules.specs.Console.{ended, outdent, tick}
 use Rattle.console_chunks.proofs.Pages.{ruled_two}
 use Rattle.console_blocks.proofs.Blocks.{changed, ended-other}
 use Rattle.console_blocks.proofs.ended.Goals as goal

@@ -1,8 +1,5 @@
-use mathlib.Core.Path.{ap}
-use mathlib.Core.List.{[], ◌∷◌}
-use Prim.Native.Nat.{ℕ, ◌+◌}
-use Rattle.console_chunks.specs.InnerShown.{text_in}
-use Rattle.console_rules.specs.Console.{with_column, tick}
+use Rattle.console_blocks.proofs.Names.{ap, [], ◌∷◌, ℕ, ◌+◌, text_in, tick}
+use Rattle.console_rules.specs.Console.{with_column}
 use Rattle.console_chunks.proofs.Pages.{room_put, put_there}
 use Rattle.console_blocks.proofs.put_tick.Goals as goal
 

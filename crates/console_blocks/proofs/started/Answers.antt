@@ -1,9 +1,4 @@
-use mathlib.Core.Path.{◌≡◌, refl}
-use Prim.Native.Nat.{◌+◌}
-use native.Mathlib.Omega.{arith}
-use Rattle.base.specs.Choice.{when◌then◌else◌}
-use Rattle.console_chunks.specs.InnerShown.{text_in}
-use Rattle.console_rules.specs.Console.{started}
+use Rattle.console_blocks.proofs.Names.{◌≡◌, refl, ◌+◌, arith, when◌then◌else◌, text_in, started}
 use Rattle.console_chunks.proofs.Pages.{idle}
 use Rattle.console_blocks.proofs.Blocks.{changed, started_line, started-none, skip_fits, skip_most}
 use Rattle.console_blocks.proofs.started.Goals as goal

@@ -1,5 +1,5 @@
+use Rattle.console_chunks.proofs.Names.{pointwise}
 use mathlib.Core.Path.{◌∙◌, ap}
-use lib.Pointwise.{pointwise}
 use lib.Dec.{eqb}
 use Rattle.console_chunks.proofs.Chunks.{space_is}
 use Rattle.console_chunks.proofs.is_space.Goals as goal

@@ -1,8 +1,4 @@
-use mathlib.Core.Path.{◌≡◌, sym, ap, ◌∙◌}
-use mathlib.Core.Bool.{true, false}
-use borrow.Author.Rules.{rules}
-use Rattle.records.specs.Records.{is_start, is_end}
-use Rattle.console_rules.specs.Console.{empty_block}
+use Rattle.console_tabstop.proofs.Names.{◌≡◌, sym, ap, ◌∙◌, true, false, rules, is_start, is_end, empty_block}
 use Rattle.console_tabstop.proofs.Scans.{first-none, first-one, first-two}
 use Rattle.console_tabstop.proofs.empty_block.Goals as goal
 

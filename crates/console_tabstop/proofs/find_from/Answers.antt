@@ -1,7 +1,4 @@
-use mathlib.Core.Path.{sym, ◌∙◌}
-use native.Mathlib.Omega.{arith}
-use Rattle.records.specs.Answers.{head_of}
-use Rattle.console_tabstop.specs.InnerCounted.{terms_of}
+use Rattle.console_tabstop.proofs.Names.{sym, ◌∙◌, arith, head_of, terms_of}
 use Rattle.console_tabstop.proofs.Searching.{on-done, on-settled, on-next}
 use Rattle.console_tabstop.proofs.find_from.Goals as goal
 

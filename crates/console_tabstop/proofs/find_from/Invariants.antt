@@ -1,8 +1,4 @@
-use Prim.Native.Nat.{◌-◌}
-use lib.ListN.{length}
-use Rattle.records.specs.Records.{tokens_from}
-use Rattle.console_rules.specs.Console.{terms, settled_from}
-use Rattle.console_tabstop.specs.InnerCounted.{terms_of}
+use Rattle.console_tabstop.proofs.Names.{◌-◌, length, tokens_from, terms, settled_from, terms_of}
 use Rattle.console_tabstop.proofs.Searching.{On}
 use Rattle.console_tabstop.proofs.find_from.Given as goal
 

@@ -1,9 +1,4 @@
-use mathlib.Core.Path.{sym, ap, ◌∙◌}
-use Prim.Native.Nat.{◌+◌}
-use native.Mathlib.Omega.{arith}
-use Rattle.records.specs.Answers.{head_of, Read}
-use Rattle.console_rules.specs.Console.{Terms, tabstop, settled_at}
-use Rattle.console_tabstop.specs.InnerCounted.{terms_of}
+use Rattle.console_tabstop.proofs.Names.{sym, ap, ◌∙◌, ◌+◌, arith, head_of, Read, Terms, tabstop, settled_at, terms_of}
 use Rattle.console_tabstop.proofs.Searching.{on-done, on-settled, on-next}
 use Rattle.console_tabstop.proofs.find_tabstop.Goals.{After-whole_raw_at-r}
 use Rattle.console_tabstop.proofs.find_tabstop.Goals as goal

@@ -1,9 +1,4 @@
-use mathlib.Core.Bool.{false}
-use Prim.Native.Nat.{◌-◌}
-use lib.ListN.{length}
-use Rattle.records.specs.Records.{tokens}
-use Rattle.console_rules.specs.Console.{Terms, terms, settled_from}
-use Rattle.console_tabstop.specs.InnerCounted.{terms_of}
+use Rattle.console_tabstop.proofs.Names.{false, ◌-◌, length, tokens, Terms, terms, settled_from, terms_of}
 use Rattle.console_tabstop.proofs.Searching.{On}
 use Rattle.console_tabstop.proofs.find_tabstop.Given as goal
 

@@ -1,5 +1,4 @@
-use mathlib.Core.Path.{◌∙◌}
-use borrow.Author.Tests.{lt-leb}
+use Rattle.console_tabstop.proofs.Names.{◌∙◌, lt-leb}
 use Rattle.records.proofs.Codes.{text-low, text-high}
 use Rattle.console_tabstop.proofs.is_text.Goals as goal
 

@@ -1,5 +1,5 @@
+use Rattle.console_tabstop.proofs.Names.{[]}
 use Rattle.std.proofs.lemmas.Result.{err_from_is_err_and}
-use mathlib.Core.List.{[]}
 use Rattle.document.proofs.Walks.{verdict_gives, verdict_refused}
 use Rattle.console_tabstop.proofs.Settled.{search_refused, search_found}
 use Rattle.console_tabstop.proofs.search_tabstop.Goals as goal

@@ -1,8 +1,5 @@
-use mathlib.Core.Path.{ap}
-use Rattle.records.specs.Records.{is_end}
-use Rattle.records.specs.Answers.{head_of}
+use Rattle.console_tabstop.proofs.Names.{ap, is_end, head_of, end-by-code, no-end-code}
 use Rattle.records.specs.declared.Block.TheVariants as block
-use Rattle.records.proofs.Codes.{end-by-code, no-end-code}
 use Rattle.console_tabstop.proofs.Ahead.{ahead_none, ahead-here, ahead-later}
 use Rattle.console_tabstop.proofs.section_end.Goals as goal
 

@@ -1,6 +1,4 @@
-use Prim.Native.Nat.{ℕ, ◌-◌}
-use lib.ListN.{length}
-use Rattle.console_tabstop.specs.InnerAhead.{Ahead}
+use Rattle.console_tabstop.proofs.Names.{ℕ, ◌-◌, length, Ahead}
 use Rattle.console_tabstop.proofs.section_end.Given as goal
 
 -- Invariant: what lies ahead of the records from i on lies ahead of those from `at` on.

@@ -1,5 +1,4 @@
-use mathlib.Core.Path.{◌∙◌}
-use native.Mathlib.Omega.{arith}
+use Rattle.words.proofs.Names.{◌∙◌, arith}
 use Rattle.std.proofs.Common.{take_all}
 use Rattle.std.proofs.lemmas.List.{take-append-le}
 use Rattle.words.proofs.copy_block.Goals as goal

@@ -1,8 +1,4 @@
-use Prim.Native.Nat.{◌≤◌}
-use mathlib.Core.Path.{◌∙◌}
-use native.Mathlib.Omega.{arith}
-use borrow.Author.Rules.{rules}
-use lib.ListN.{length}
+use Rattle.words.proofs.Names.{◌≤◌, ◌∙◌, arith, rules, length}
 use Rattle.words.proofs.Copying.{narrow, copying_block}
 use Rattle.words.proofs.copy_blocks.Goals as goal
 

@@ -1,6 +1,4 @@
-use Prim.Native.Nat.{◌-◌}
-use lib.ListN.{length}
-use Rattle.words.specs.InnerCopies.{Copying}
+use Rattle.words.proofs.Names.{◌-◌, length, Copying}
 use Rattle.words.proofs.copy_blocks.Given as goal
 
 -- Invariant: the first bytes are copied, and `width` is the number of their characters (Copying).

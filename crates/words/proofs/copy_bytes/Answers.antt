@@ -1,8 +1,4 @@
-use Prim.Native.Nat.{◌≤◌}
-use mathlib.Core.Path.{refl}
-use native.Mathlib.Omega.{arith}
-use borrow.Author.Rules.{rules}
-use lib.ListN.{length}
+use Rattle.words.proofs.Names.{◌≤◌, refl, arith, rules, length}
 use Rattle.words.proofs.Copying.{narrow, copying_next}
 use Rattle.words.proofs.copy_bytes.Goals as goal
 

@@ -1,4 +1,4 @@
-use Rattle.words.specs.InnerCopies.{Copying}
+use Rattle.words.proofs.Names.{Copying}
 use Rattle.words.proofs.copy_bytes.Given as goal
 
 -- Invariant: the bytes before `len` are copied, and `width` is the number of their characters (Copying).

@@ -1,9 +1,4 @@
-use Prim.Native.Nat.{◌+◌, ◌-◌, ◌≤◌}
-use mathlib.Core.List.{◌++◌}
-use native.Mathlib.Omega.{arith}
-use borrow.Author.Rules.{rules}
-use lib.ListN.{length, take, drop, length-take}
-use Rattle.words.specs.InnerCopies.{Copying}
+use Rattle.words.proofs.Names.{◌+◌, ◌-◌, ◌≤◌, ◌++◌, arith, rules, length, take, drop, length-take, Copying}
 use Rattle.words.proofs.Copying.{narrow, line_of, copying_join, stopped_join, copies_whole}
 use Rattle.words.proofs.copy_run.Goals.{After-copy_bytes-bytes}
 use Rattle.words.proofs.copy_run.Goals as goal

@@ -1,9 +1,5 @@
-use mathlib.Core.Path.{sym, ◌∙◌}
-use Prim.Native.Nat.{ℕ}
-use mathlib.Core.Bool.{Bool, not}
-use borrow.Author.Rules.{rules}
+use Rattle.words.proofs.Names.{sym, ◌∙◌, ℕ, Bool, not, rules, continues}
 use Rattle.base.proofs.Counting.{few_counted}
-use Rattle.utf8.specs.Utf8.{continues}
 use Rattle.utf8.proofs.Laws.{characters_counted}
 use Rattle.words.proofs.count.Goals as goal
 

@@ -1,7 +1,5 @@
-use mathlib.Core.Path.{sym, ◌∙◌}
-use native.Mathlib.Omega.{arith}
+use Rattle.words.proofs.Names.{sym, ◌∙◌, arith, rules}
 use lib.Dec.{eqb}
-use borrow.Author.Rules.{rules}
 use borrow.Author.Tests.{eqb-false}
 use Rattle.base.proofs.Counting.{none_passes}
 use Rattle.words.proofs.has_line_end.Goals as goal

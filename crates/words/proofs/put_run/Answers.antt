@@ -1,6 +1,5 @@
-use borrow.Author.Rules.{rules}
+use Rattle.words.proofs.Names.{rules, sym}
 use Rattle.room.proofs.Lents.{with_none}
-use mathlib.Core.Path.{sym}
 use Rattle.words.proofs.Copying.{given_in, follows_none, puts_run, follows_run}
 use Rattle.words.proofs.put_run.Goals as goal
 

@@ -1,8 +1,4 @@
-use Prim.Native.Nat.{◌+◌, ◌≤◌, ◌<◌}
-use mathlib.Core.Path.{refl, sym, ◌∙◌}
-use native.Mathlib.Omega.{arith}
-use borrow.Author.Rules.{rules}
-use lib.ListN.{length, take, length-take}
+use Rattle.words.proofs.Names.{◌+◌, ◌≤◌, ◌<◌, refl, sym, ◌∙◌, arith, rules, length, take, length-take}
 use Rattle.words.proofs.Copying.{both, whole_space, whole-none}
 use Rattle.words.proofs.whole_words.Goals.{After-count}
 use Rattle.words.proofs.whole_words.Goals as goal

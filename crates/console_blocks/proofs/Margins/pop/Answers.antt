@@ -1,7 +1,4 @@
-use mathlib.Core.Path.{◌∙◌, ap}
-use Prim.Native.Nat.{ℕ}
-use lib.ListN.{take}
-use native.Mathlib.Omega.{arith}
+use Rattle.console_blocks.proofs.Names.{◌∙◌, ap, ℕ, take, arith}
 use Rattle.base.proofs.Stack.{pop_take}
 use Rattle.console_blocks.proofs.Margins.pop.Goals as goal
 

@@ -1,8 +1,6 @@
-use mathlib.Core.Path.{ap, ap₂, ◌∙◌}
-use Prim.Native.Nat.{ℕ, ◌+◌}
-use native.Mathlib.Omega.{arith}
-use lib.ListN.{length, length-take}
-use Rattle.base.specs.Stack.{pushed}
+use Rattle.console_blocks.proofs.Names.{ap, ◌∙◌, ℕ, ◌+◌, arith, length, pushed}
+use mathlib.Core.Path.{ap₂}
+use lib.ListN.{length-take}
 use Rattle.base.proofs.Stack.{push-take}
 use Rattle.console_blocks.proofs.Depths.{push_shallow}
 use Rattle.console_blocks.proofs.Margins.push.Goals as goal

@@ -1,7 +1,5 @@
-use mathlib.Core.Path.{ap, ◌∙◌}
-use Prim.Native.Nat.{ℕ, ◌-◌}
-use lib.ListN.{length, take}
-use Rattle.base.specs.Stack.{top}
+use Rattle.console_blocks.proofs.Names.{ap, ◌∙◌, ℕ, length, take, top}
+use Prim.Native.Nat.{◌-◌}
 use Rattle.std.specs.Option.{unwrap_or}
 use Rattle.std.specs.Prelude.{Option}
 use Rattle.std.proofs.lemmas.Option.{unwrap_or-slice_get}

@@ -1,5 +1,5 @@
-use Rattle.std.proofs.Common.{[], ◌∷◌, sym, refl, ◌∙◌}
-use Rattle.console_chunks.specs.InnerShown.{text_in}
+use Rattle.console_chunks.proofs.Names.{[], ◌∷◌, sym, text_in}
+use Rattle.std.proofs.Common.{refl, ◌∙◌}
 use Rattle.console_chunks.proofs.Pages.{room_put, put_there, agree, idle}
 use Rattle.console_chunks.proofs.Chunks.{blank_idle, blank_there, blank_due}
 use Rattle.console_chunks.proofs.Page.due_blank.Goals.{else-self-via-then-self+else-not-ends_with, else-self-via-else-self}

@@ -1,5 +1,5 @@
-use Rattle.std.proofs.Common.{sym, ◌∙◌}
-use Rattle.console_chunks.specs.InnerShown.{text_in}
+use Rattle.console_chunks.proofs.Names.{sym, text_in}
+use Rattle.std.proofs.Common.{◌∙◌}
 use Rattle.console_chunks.proofs.Pages.{agree, idle}
 use Rattle.console_chunks.proofs.Chunks.{line_idle, line_there, line_due}
 use Rattle.console_chunks.proofs.Page.due_line.Goals.{else-line_is_due-via-then-line_is_due+else-not-ends_with, else-line_is_due-via-else-line_is_due}

@@ -1,6 +1,6 @@
+use Rattle.console_chunks.proofs.Names.{ends_with}
 use mathlib.Core.Path.{refl, ap}
 use Rattle.std.proofs.Common.{◌∙◌}
-use Rattle.base.specs.Bytes.{ends_with}
 use Rattle.room.proofs.Lents.{seen_given}
 use Rattle.console_chunks.proofs.Page.ends_with.Goals as goal
 

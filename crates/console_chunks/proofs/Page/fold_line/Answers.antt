@@ -1,9 +1,5 @@
-use Rattle.std.proofs.Common.{◌≡◌, List, ℕ, length, refl, ap, ◌∙◌, rules}
-use Rattle.base.specs.Result.{gives}
-use Rattle.white.specs.White.{trim}
-use Rattle.room.specs.Room.{seen}
-use Rattle.room.proofs.Lents.{lent_wrote}
-use Rattle.console_chunks.specs.InnerShown.{text_in}
+use Rattle.console_chunks.proofs.Names.{◌≡◌, List, ℕ, length, rules, gives, trim, seen, lent_wrote, text_in}
+use Rattle.std.proofs.Common.{refl, ap, ◌∙◌}
 use Rattle.console_chunks.proofs.Chunks.{fold_done}
 use Rattle.console_chunks.proofs.Page.fold_line.Goals as goal
 

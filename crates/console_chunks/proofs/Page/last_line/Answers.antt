@@ -1,5 +1,5 @@
-use Rattle.std.proofs.Common.{[], ◌∷◌, sym, refl, ◌∙◌}
-use Rattle.console_chunks.specs.InnerShown.{text_in}
+use Rattle.console_chunks.proofs.Names.{[], ◌∷◌, sym, text_in}
+use Rattle.std.proofs.Common.{refl, ◌∙◌}
 use Rattle.console_chunks.proofs.Pages.{room_put, put_there}
 use Rattle.console_chunks.proofs.Bodies.{last_due, last_none}
 use Rattle.console_chunks.proofs.Page.last_line.Goals as goal

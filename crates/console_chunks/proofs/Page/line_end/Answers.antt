@@ -1,6 +1,5 @@
-use Rattle.std.proofs.Common.{[], ◌∷◌, refl}
-use Rattle.console_chunks.specs.InnerShown.{text_in}
-use Rattle.console_rules.specs.Console.{with_column, line_end}
+use Rattle.console_chunks.proofs.Names.{[], ◌∷◌, text_in, with_column, line_end}
+use Rattle.std.proofs.Common.{refl}
 use Rattle.console_chunks.proofs.Pages.{room_put, put_there}
 use Rattle.console_chunks.proofs.Page.line_end.Goals as goal
 

@@ -1,6 +1,5 @@
-use Rattle.std.proofs.Common.{◌+◌, ◌-◌, replicate, sym, ap, ◌∙◌, arith}
-use Rattle.console_chunks.specs.InnerShown.{text_in}
-use Rattle.console_rules.specs.Console.{with_column}
+use Rattle.console_chunks.proofs.Names.{◌+◌, ◌-◌, replicate, sym, arith, text_in, with_column}
+use Rattle.std.proofs.Common.{ap, ◌∙◌}
 use Rattle.console_chunks.proofs.Pages.{room_put, put_there, agree, idle}
 use Rattle.console_chunks.proofs.Chunks.{gap_no, gap_near, gap_wide, gap_due}
 use Rattle.console_chunks.proofs.Page.pad_gutter.Goals.{else-self-via-then-self+then-self-ge-MAX_TABSTOP+else-padded-lt2}

@@ -1,6 +1,6 @@
-use Rattle.std.proofs.Common.{◌≡◌, ℕ, ◌+◌, ltb, List, sym, ap, ◌∙◌, arith}
-use Rattle.console_rules.specs.Console.{measure_of, raw_chunk}
-use Rattle.console_chunks.specs.InnerShown.{Sheet, text_in, page_of, ruled}
+use Rattle.console_chunks.proofs.Names.{◌≡◌, ℕ, ◌+◌, List, sym, arith, measure_of, raw_chunk, Sheet, text_in, ruled}
+use Rattle.std.proofs.Common.{ltb, ap, ◌∙◌}
+use Rattle.console_chunks.specs.InnerShown.{page_of}
 use Rattle.console_chunks.proofs.Chunks.{rest, raw-first, raw-next, rest_put, rest-dropped, rest_folded}
 use Rattle.console_chunks.proofs.Page.place_chunk.Goals.{After-due_blank}
 use Rattle.console_chunks.proofs.Page.place_chunk.Goals as goal

@@ -1,6 +1,6 @@
-use Rattle.std.proofs.Common.{ℕ, ◌+◌, ap}
-use Rattle.console_chunks.specs.InnerShown.{text_in}
-use Rattle.console_rules.specs.Console.{with_column, settled, place}
+use Rattle.console_chunks.proofs.Names.{ℕ, ◌+◌, text_in, with_column, place}
+use Rattle.std.proofs.Common.{ap}
+use Rattle.console_rules.specs.Console.{settled}
 use Rattle.console_chunks.proofs.Pages.{room_put, put_there}
 use Rattle.console_chunks.proofs.Page.place_here.Goals as goal
 

@@ -1,5 +1,4 @@
-use Rattle.std.proofs.Common.{arith}
-use Rattle.console_chunks.specs.InnerShown.{text_in}
+use Rattle.console_chunks.proofs.Names.{arith, text_in}
 use Rattle.console_chunks.proofs.Pages.{over}
 use Rattle.console_chunks.proofs.Chunks.{deep, put-done}
 use Rattle.console_chunks.proofs.Page.put_chunk.Goals as goal

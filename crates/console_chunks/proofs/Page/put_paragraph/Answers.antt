@@ -1,6 +1,5 @@
-use Rattle.std.proofs.Common.{rules, refl}
-use Rattle.console_chunks.specs.InnerShown.{text_in}
-use Rattle.console_rules.specs.Console.{with_skip, measure_of}
+use Rattle.console_chunks.proofs.Names.{rules, text_in, with_skip, measure_of}
+use Rattle.std.proofs.Common.{refl}
 use Rattle.console_chunks.proofs.Pages.{changed}
 use Rattle.console_chunks.proofs.Bodies.{paragraph_full, paragraph-short}
 use Rattle.console_chunks.proofs.Page.put_paragraph.Goals as goal

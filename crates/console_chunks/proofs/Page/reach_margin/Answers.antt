@@ -1,6 +1,5 @@
-use Rattle.std.proofs.Common.{◌-◌, max, replicate, refl, ap, ◌∙◌}
-use Rattle.console_chunks.specs.InnerShown.{text_in}
-use Rattle.console_rules.specs.Console.{with_column, reach}
+use Rattle.console_chunks.proofs.Names.{◌-◌, replicate, text_in, with_column, reach}
+use Rattle.std.proofs.Common.{max, refl, ap, ◌∙◌}
 use Rattle.console_chunks.proofs.Pages.{room_put, put_there, agree}
 use Rattle.console_chunks.proofs.Page.reach_margin.Goals as goal
 

@@ -1,4 +1,4 @@
-use Rattle.console_tabstop.specs.InnerCounted.{terms_of}
+use Rattle.console_tabstop.proofs.Names.{terms_of}
 use Rattle.console_tabstop.proofs.Scans.{end-term, wider, not_wider, too_wide}
 use Rattle.console_tabstop.proofs.Terms.end.Goals.{else-self-via-then-self+else-self-le-MAX_TAB, else-self-via-else-self}
 use Rattle.console_tabstop.proofs.Terms.end.Goals as goal

@@ -1,14 +1,7 @@
-use mathlib.Core.Path.{◌≡◌, sym, ap, ◌∙◌}
-use borrow.Author.Rules.{rules}
-use mathlib.Core.Bool.{false≢true}
-use native.Mathlib.Omega.{arith}
+use Rattle.console_tabstop.proofs.Names.{◌≡◌, sym, ap, ◌∙◌, rules, false≢true, arith, Kind, end-by-code, no-end-code, count_short, term, terms_of}
 use Rattle.records.specs.Records.{kind_of}
 use Rattle.records.specs.declared.Block.TheVariants as block
-use Rattle.records.specs.declared.Kind.{Kind}
-use Rattle.records.proofs.Codes.{start-by-code, end-by-code, no-start-code, no-end-code}
-use Rattle.splitter.proofs.Answers.{count_short}
-use Rattle.console_rules.specs.Console.{term}
-use Rattle.console_tabstop.specs.InnerCounted.{terms_of}
+use Rattle.records.proofs.Codes.{start-by-code, no-start-code}
 use Rattle.console_tabstop.proofs.Scans.{text-counted, term-passed}
 use Rattle.console_tabstop.proofs.Terms.on.Goals as goal
 

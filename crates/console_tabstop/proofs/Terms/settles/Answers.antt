@@ -1,10 +1,6 @@
-use mathlib.Core.Path.{sym, ap, ◌∙◌}
+use Rattle.console_tabstop.proofs.Names.{sym, ap, ◌∙◌, Bool, ◌&&◌, eqb, is_end, end-by-code, no-end-code}
 use borrow.Author.Tests.{ne_eqb}
-use mathlib.Core.Bool.{Bool, ◌&&◌}
-use lib.Dec.{eqb}
-use Rattle.records.specs.Records.{is_end}
 use Rattle.records.specs.declared.Block.TheVariants as block
-use Rattle.records.proofs.Codes.{end-by-code, no-end-code}
 use Rattle.console_tabstop.proofs.Terms.settles.Goals as goal
 
 pub returns-then-code-eq-TERM_END : goal.returns-then-code-eq-TERM_END

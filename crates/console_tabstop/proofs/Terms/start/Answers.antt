@@ -1,4 +1,4 @@
-use Rattle.console_tabstop.specs.InnerCounted.{terms_of}
+use Rattle.console_tabstop.proofs.Names.{terms_of}
 use Rattle.console_tabstop.proofs.Scans.{start-term}
 use Rattle.console_tabstop.proofs.Terms.start.Goals as goal
 
