@@ -39,14 +39,14 @@ unfolding printing_count
 counted s e = if_true _ _ e
 
 -- the text whose length is answered
-text_of : (r : Result (List ℕ)) (n : ℕ) → gives n ≡ measured r → (x : List ℕ) × (r ≡ gives x) × (n ≡ length x)
-text_of (gives x) n e = (x, refl, gives_same e)
-text_of (refused k p) n e = absurd (refused-gives (sym e))
+text_measured : (r : Result (List ℕ)) (n : ℕ) → gives n ≡ measured r → (x : List ℕ) × (r ≡ gives x) × (n ≡ length x)
+text_measured (gives x) n e = (x, refl, gives_same e)
+text_measured (refused k p) n e = absurd (refused-gives (sym e))
 
 module _ (d room after : List ℕ) (a : Answer ℕ Refusal) (n : ℕ) (t : a ≡ Ok n) (e : answered a ≡ measured (console shelf (length room) d))
     (k : Demand3 shelf d room after (answered a)) where
   found : (x : List ℕ) × (console shelf (length room) d ≡ gives x) × (n ≡ length x)
-  found = text_of (console shelf (length room) d) n (sym (ap answered t) ∙ e)
+  found = text_measured (console shelf (length room) d) n (sym (ap answered t) ∙ e)
 
   stands : (take n after ≡ found.0) × (utf8 found.0 ≡ true)
   stands =
