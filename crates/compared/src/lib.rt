@@ -16,10 +16,8 @@ pub fn byte_or(bytes: &[u8], at: usize, other: u8) -> u8
 
 // Whether a room holds a text, and at each place past its end what `other` gives there.
 pub fn holds_by<F: Fn(usize) -> u8>(room: &[u8], text: &[u8], other: F) -> bool
-    ghost byte: { ℕ → ℕ }
-    requires calls { F.IsAlwaysCallable other }
-    requires gives { (i b : ℕ) → F.post other i b → b ≡ byte i }
-    ensures { result ≡ holds_by byte room.now text.now }
+    requires { F.IsAlwaysCallable other }
+    ensures { (byte : ℕ → ℕ) → ((i b : ℕ) → F.post other i b → b ≡ byte i) → result ≡ holds_by byte room.now text.now }
 {
     text.len() <= room.len()
         && room

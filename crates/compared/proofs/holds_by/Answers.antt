@@ -9,14 +9,14 @@ use Rattle.compared.proofs.holds_by.Goals.{then-text-room, else-text-room}
 use Rattle.compared.proofs.holds_by.Goals as goal
 
 pub returns : goal.returns
-returns g c =
+returns g c = λ byte gives.
     let text = c.args.text.now in
     let room = c.args.room.now in
     elim c.if-text-room.branch [
       | then-text-room w ↦
-          let whole = all_from_yields_List (λ (p : ℕ × ℕ). eqb p.1 (get_or text p.0 (g.byte p.0))) _ _ w.all.result w.all.ensures.ran
-          (YieldsList-from_enumerate (YieldsList-from_slice room cc) cc) (λ x b q k. (search (rules, tests), search (rules, tests, c.requires.1.1))) in
-          rw (le-leb (length text) (length room) w.if-text-room.true) (w.result-is ∙ whole ∙ all-filled g.byte text room 0 (length room) (omega arith))
+          let whole = all_from_yields_List (λ (p : ℕ × ℕ). eqb p.1 (get_or text p.0 (byte p.0))) _ _ w.all.result w.all.ensures.ran
+          (YieldsList-from_enumerate (YieldsList-from_slice room cc) cc) (λ x b q k. (search (rules, tests), search (rules, tests, gives))) in
+          rw (le-leb (length text) (length room) w.if-text-room.true) (w.result-is ∙ whole ∙ all-filled byte text room 0 (length room) (omega arith))
       | else-text-room w ↦
           let longer = lt-leb (length text) (length room) w.if-text-room.false in
           rw longer (w.result-is ∙ longer)
