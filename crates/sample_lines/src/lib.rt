@@ -40,7 +40,7 @@ impl Tally {
 }
 
 // The number that some bytes begin with, and what follows it; 0 where there is no digit: as an Option it would be given a 0 at each of its uses.
-fn split_number<'a>(bytes: &'a [u8]) -> (usize, &'a [u8])
+pub fn split_number<'a>(bytes: &'a [u8]) -> (usize, &'a [u8])
     ensures { ((result.0, result.1.now) ≡ number_in bytes.now) × (result.0 ≤ 10_000_255) }
 {
     let mut value: usize = 0;
