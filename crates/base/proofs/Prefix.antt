@@ -30,10 +30,11 @@ starts_fits p s at r h e f = let k = starts-length p (drop at s) (sym e ∙ f) i
 pub starts-short : (p s : List ℕ) → length s < length p → starts_with p s ≡ false
 starts-short p s h = not-passed (starts_with p s) (λ e. let l = starts-length p s e in omega arith)
 
--- the bytes of a prefix are those beside them
-eqb_turned : (a b : ℕ) → eqb a b ≡ eqb b a
+-- a test of two bytes, either one first
+pub eqb_turned : (a b : ℕ) → eqb a b ≡ eqb b a
 eqb_turned a b = same_test (eqb a b) (eqb b a) (λ e. eq-eqb b a (sym (eqb-true a b e))) (λ e. eq-eqb a b (sym (eqb-true b a e)))
 
+-- the bytes of a prefix are those beside them
 pub starts-zipped : (p s : List ℕ) → length p ≤ length s → list_all (λ (q : ℕ × ℕ). eqb q.0 q.1) (zip p s) ≡ starts_with p s
 unfolding starts_with
 starts-zipped [] s h = refl

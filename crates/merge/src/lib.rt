@@ -72,16 +72,15 @@ fn merge_lists(
     t.finish()
 }
 
-// Refusals 1 to 8 of both sides, first side first, then 22 and 23 likewise; 22 has an arm for each side, since a wrong order is tried there. (The checks
-// alone, and no `document::Accepted`: `side_of` and `Items` promise for bytes that the check refuses too, so that nothing here would take the type.)
+// Refusals 1 to 8 of both sides, first side first, then 22 of either side, and 23 after that. (The checks alone, and no `document::Accepted`: `side_of`
+// and `Items` promise for bytes that the check refuses too, so that nothing here would take the type.)
 fn refused_sides(first: &[u8], second: &[u8]) -> Result<(), Refusal>
     ensures { Sound first.now second.now result }
 {
     document::check(first)?;
     document::check(second)?;
     match (merge_sides::side_of(first), merge_sides::side_of(second)) {
-        (Side::NotAList, _) => Err(Refusal::NotAList),
-        (_, Side::NotAList) => Err(Refusal::NotAList), // 22 of the second side before 23 of the first
+        (Side::NotAList, _) | (_, Side::NotAList) => Err(Refusal::NotAList),
         (Side::NotAscending, _) | (_, Side::NotAscending) => Err(Refusal::NotAscending),
         (Side::Ascending, Side::Ascending) => Ok(()),
     }

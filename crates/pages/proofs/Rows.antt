@@ -1,12 +1,12 @@
 -- The rows of a text, byte by byte and by blocks. Assumes nothing.
-use Rattle.std.specs.Prelude.{Some, None}
-use Rattle.std.specs.List.{slice_get}
+use Rattle.std.specs.Prelude.{Option, Some, None}
+use Rattle.std.specs.List.{slice_get, filter, enumerate_from}
 use Rattle.std.proofs.lemmas.Option.{slice_get_within, get_or_from_slice_get, slice_get-get_or}
 use Rattle.pages.proofs.Names.{ℕ, zero, suc, ◌+◌, ◌-◌, ◌≤◌, ◌<◌, ◌≡◌, refl, sym, ap, ap₂, ◌∙◌, true, false, List, [], ◌∷◌, ◌++◌, append_assoc, length}
-use Rattle.pages.proofs.Names.{take, drop, get_or, take-append-drop, drop_of_length-le, length-take-le, arith, ne_eqb}
-use Rattle.pages.proofs.Names.{when◌then◌else◌, leads, rows, joined, feed, feeds, bytes_of, Bool, eqb, length-append, sub-zero, eq-eqb}
-use lib.Seq.{drop-cons, take-nil, drop-nil, take_all, take_at}
-use native.Mathlib.Numerals.{add-one, sub-one}
+use Rattle.pages.proofs.Names.{take, drop, get_or, take-append-drop, length-take-le, arith, ne_eqb}
+use Rattle.pages.proofs.Names.{when◌then◌else◌, leads, rows, eq_or_not, ⊎_elim, joined, feed, feeds, bytes_of, Bool, eqb, length-append, sub-zero, eq-eqb}
+use lib.Seq.{take-nil, drop-nil, take_all, take_at}
+use native.Mathlib.Numerals.{sub-one}
 use Rattle.std.specs.Prelude.{cond}
 use Rattle.std.specs.List.{count_by}
 use Rattle.std.proofs.lemmas.List.Recursion.{is_count_by}
@@ -137,10 +137,6 @@ bytes-step : (k b : ℕ) (s : List ℕ) → 1 ≤ k → bytes_of k (b ∷ s) ≡
 bytes-step zero b s h = let z : ⊥ = omega arith in absurd z
 bytes-step (suc k) b s h = omega (arith, bytes_next k b s)
 
--- at a place
-bytes_at : (s : List ℕ) (i k : ℕ) → i < length s → 1 ≤ k → bytes_of k (drop i s) ≡ 1 + bytes_of (k - feed (get_or s i 0)) (drop (i + 1) s)
-bytes_at s i k h g = rw (add-one, drop-cons s i 0 h) (bytes-step k (get_or s i 0) (drop (suc i) s) g)
-
 -- bytes that hold fewer line feeds than rows are asked for
 bytes-block : (a b : List ℕ) (k : ℕ) → feeds a < k → bytes_of k (a ++ b) ≡ length a + bytes_of (k - feeds a) b
 unfolding feeds
@@ -208,24 +204,49 @@ pub joined_front : (s : List ℕ) (k : ℕ) → joined (take k (rows s)) ≡ tak
 unfolding bytes_of
 joined_front s k = sym (take_at (joined (take k (rows s))) (joined (drop k (rows s))) (bytes_of k s) refl) ∙ ap (take (bytes_of k s)) (rows_split s k)
 
--- The steps of a pass that looks for the place after some rows, `whole`
+-- The line feeds of a text with their places, counted from k
 
-module _ (s : List ℕ) (i k whole : ℕ) (e : whole ≡ i + bytes_of k (drop i s)) where
-  pub pass_stops : k ≡ 0 → i ≡ whole
-  pass_stops f = omega (arith, ap (λ (n : ℕ). bytes_of n (drop i s)) f, bytes-none (drop i s))
+abbrev pub feeds_from : ℕ → List ℕ → List (ℕ × ℕ)
+feeds_from k s = filter (λ (p : ℕ × ℕ). eqb p.1 0x0A) (enumerate_from k s)
 
-  pub pass_feed : i < length s → (k ≡ 0 → ⊥) → get_or s i 0 ≡ 0x0A → whole ≡ i + 1 + bytes_of (k - 1) (drop (i + 1) s)
-  pass_feed h g f =
-      omega (arith, bytes_at s i k h (omega arith), ap (λ (n : ℕ). bytes_of (k - n) (drop (i + 1) s)) (feed-yes (get_or s i 0) f))
+-- the place after a line feed; where there is none, the one where the text ends
+abbrev pub place_after : ℕ → Option (ℕ × ℕ) → ℕ
+place_after ends (Some p) = p.0 + 1
+place_after ends None = ends
 
-  pub pass_other : i < length s → (k ≡ 0 → ⊥) → (get_or s i 0 ≡ 0x0A → ⊥) → whole ≡ i + 1 + bytes_of k (drop (i + 1) s)
-  pass_other h g f =
-      let t = drop (i + 1) s in
-      let z : k - 0 ≡ k = omega arith in
-      omega (arith, bytes_at s i k h (omega arith), ap (λ (n : ℕ). bytes_of (k - n) t) (feed-no (get_or s i 0) f), ap (λ (n : ℕ). bytes_of n t) z)
+-- n + 1 rows of a text that starts at k end after its n-th line feed, counted from 0, or with the text
+abbrev RowsEnd : ℕ → List ℕ → ℕ → Type 0
+RowsEnd k s n = place_after (k + length s) (slice_get (feeds_from k s) n) ≡ k + bytes_of (suc n) s
 
-  pub pass_ends : length s ≤ i → i ≡ whole
-  pass_ends h = omega (arith, ap (bytes_of k) (drop_of_length-le s h), bytes_past k)
+end-feed : (k b : ℕ) (s : List ℕ) → b ≡ 0x0A → ((m : ℕ) → RowsEnd (k + 1) s m) → (n : ℕ) → RowsEnd k (b ∷ s) n
+end-feed k b s e later zero =
+    rw (eq-eqb b 0x0A e) (omega (arith, bytes_next zero b s, ap (λ (n : ℕ). bytes_of (1 - n) s) (feed-yes b e), bytes-none s))
+end-feed k b s e later (suc n) =
+    let z : suc (suc n) - 1 ≡ suc n = omega arith in
+    let next = ap (λ (m : ℕ). bytes_of (suc (suc n) - m) s) (feed-yes b e) ∙ ap (λ (m : ℕ). bytes_of m s) z in
+    let l : k + suc (length s) ≡ k + 1 + length s = omega arith in
+    rw (eq-eqb b 0x0A e, l) (omega (arith, later n, bytes_next (suc n) b s, next))
+
+end_other : (k b : ℕ) (s : List ℕ) → (b ≡ 0x0A → ⊥) → ((m : ℕ) → RowsEnd (k + 1) s m) → (n : ℕ) → RowsEnd k (b ∷ s) n
+end_other k b s e later n =
+    let z : suc n - 0 ≡ suc n = omega arith in
+    let next = ap (λ (m : ℕ). bytes_of (suc n - m) s) (feed-no b e) ∙ ap (λ (m : ℕ). bytes_of m s) z in
+    let l : k + suc (length s) ≡ k + 1 + length s = omega arith in
+    rw (ne_eqb b 0x0A e, l) (omega (arith, later n, bytes_next n b s, next))
+
+rows_end : (s : List ℕ) (k n : ℕ) → RowsEnd k s n
+rows_end [] k n = omega (arith, bytes_past (suc n))
+rows_end (b ∷ s) k n =
+    let later = rows_end s (k + 1) in
+    ⊎_elim (λ (e : b ≡ 0x0A). end-feed k b s e later n) (λ (e : b ≡ 0x0A → ⊥). end_other k b s e later n) (eq_or_not b 0x0A)
+
+pub end_of_rows : (s : List ℕ) (k : ℕ) (r : Option (ℕ × ℕ)) → (k ≡ 0 → ⊥) → r ≡ slice_get (feeds_from 0 s) (k - 1)
+    → place_after (length s) r ≡ bytes_of k s
+end_of_rows s k r h e =
+    let l : suc (k - 1) ≡ k = omega arith in
+    let z : length s ≡ 0 + length s = omega arith in
+    let given = slice_get (feeds_from 0 s) (k - 1) in
+    omega (arith, ap (place_after (length s)) e, ap (λ (n : ℕ). place_after n given) z, rows_end s 0 (k - 1), ap (λ (n : ℕ). bytes_of n s) l)
 
 -- the last byte of a text, as the library gives it
 pub last_byte : (s : List ℕ) (x : ℕ) → slice_get s (length s - 1) ≡ Some x → (0 < length s) × (get_or s (length s - 1) 0 ≡ x)

@@ -47,20 +47,18 @@ fn row_count(s: &[u8]) -> usize
     n + 1
 }
 
-// How many bytes the first k rows of a text have, byte by byte. (No `nth` of the line feeds' places: the rest without one counts as a row too.)
+// How many bytes the first k rows of a text have, byte by byte: up to the k-th line feed, and all of them where there are not so many.
 fn step_rows(s: &[u8], k: usize) -> usize
     ensures { result ≡ bytes_of k s.now }
 {
-    let mut due = k;
-    for (i, b) in s.iter().enumerate() {
-        if due == 0 {
-            return i;
-        }
-        if *b == b'\n' {
-            due -= 1;
-        }
+    if k == 0 {
+        return 0;
     }
-    s.len()
+    let mut feeds = s.iter().enumerate().filter(|(_, b)| **b == b'\n');
+    match feeds.nth(k - 1) {
+        Some((i, _)) => i + 1,
+        None => s.len(),
+    }
 }
 
 // How many bytes the first k rows of a text have: a block of 128 that does not hold the last of them is passed over. (No `for` over blocks: what stands

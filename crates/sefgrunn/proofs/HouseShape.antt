@@ -1,21 +1,22 @@
 -- What is said of a document's shape, by the cases of the answer; and that the rules settle it. Assumes nothing.
 use Rattle.sefgrunn.proofs.Names.{ℕ, ◌≡◌, refl, sym, ap, subst, ◌∙◌, List, Result, gives, refused, refusal_number, refusal_place, Refusal}
 use Rattle.sefgrunn.proofs.Names.{answered, Answer, Ok, Err, Option, Some, None}
+use Rattle.std.specs.Prelude.{Bool, eqb, MatchResult, IsOkAnd}
+use Rattle.std.specs.Option.{unwrap_or, option_eq}
+use Rattle.std.specs.Result.{result_eq}
+use mir.Val.{bool_byte}
+use Rattle.sefgrunn.specs.Numbers.{number_of, length_or_place}
 use Rattle.shape.specs.Answers.{TheAnswer}
 use Rattle.sefgrunn.specs.HouseShape.{ShapeTold, yes, no, refusal}
 
-module _ (s : List ℕ) (r : Answer (Option ℕ) Refusal) (a : TheAnswer s (answered r)) where
-  of_case : {x : Answer (Option ℕ) Refusal} → r ≡ x → TheAnswer s (answered x)
-  of_case e = subst (λ (y : Answer (Option ℕ) Refusal). TheAnswer s (answered y)) e a
-
-  pub told_yes : {n p : ℕ} → r ≡ Ok None → n ≡ 0 → p ≡ 0 → ShapeTold s n 1 p
-  told_yes e f g = rw (f, g) (yes (of_case e))
-
-  pub told_no : {p : ℕ} → r ≡ Ok (Some p) → ShapeTold s 0 0 p
-  told_no e = no (of_case e)
-
-  pub told_refused : {x : Refusal} {n p : ℕ} → r ≡ Err x → n ≡ refusal_number x → p ≡ refusal_place x → ShapeTold s n 0 p
-  told_refused e f g = rw (f, g) (refusal (of_case e))
+-- The numbers of an answer; the place is 0 where there is none. `E` says whether two refusals are one, and `Q` what is known of the place.
+pub told : {s : List ℕ} {Q : Option ℕ → ℕ → Type 0} (E : Refusal → Refusal → Bool) (r : Answer (Option ℕ) Refusal) (q : Answer ℕ Refusal)
+    → TheAnswer s (answered r) → MatchResult r (λ x. IsOkAnd q (Q x)) (λ e. q ≡ Err e) → ((x : Option ℕ) (n : ℕ) → Q x n → n ≡ unwrap_or x 0)
+    → ShapeTold s (number_of (answered q)) (bool_byte (result_eq (option_eq eqb) E r (Ok None))) (length_or_place (answered q))
+told E (Ok None) (Ok n) a m k = rw (k None n m) (yes a)
+told E (Ok (Some p)) (Ok n) a m k = rw (k (Some p) n m) (no a)
+told E (Ok x) (Err e) a m k = absurd m
+told E (Err e) q a m k = rw m (refusal a)
 
 -- what is returned and stored, as one
 

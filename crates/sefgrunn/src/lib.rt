@@ -171,26 +171,12 @@ pub fn sefgrunn_tabstop(document: &[u8], tabstop: &mut usize, at: &mut usize) ->
 }
 
 // Whether a document has house shape, 1 or 0; and the place of the first record after which no further records could lead to it.
-// (Neither `number_with_place` nor `numbers_of`: two numbers are stored, by three cases. By `map_or` and `map` its proof would speak of two closures.)
 pub fn sefgrunn_house_shape(document: &[u8], shaped: &mut u32, place: &mut usize) -> u32
     ensures { ShapeTold document.now result shaped.new place.new }
 {
-    match shape::house_shape(document) {
-        Ok(None) => {
-            *shaped = 1;
-            *place = 0;
-            0
-        }
-        Ok(Some(p)) => {
-            *shaped = 0;
-            *place = p;
-            0
-        }
-        Err(a) => {
-            *shaped = 0;
-            refused(a, place)
-        }
-    }
+    let answer = shape::house_shape(document);
+    *shaped = u32::from(answer == Ok(None));
+    numbers_of(answer.map(|p| p.unwrap_or(0)), place)
 }
 
 // A document into the joined form, or 1 to 8, or 13.

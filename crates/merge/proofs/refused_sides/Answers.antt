@@ -19,15 +19,15 @@ returns-in-NotAList-default c =
     sides_told _ _ (verdict_gives [] c.check.ensures c.in_ok-check.was) (verdict_gives [] c.check-2.ensures c.in_ok-check-2.was)
     c.side_of.ensures c.side_of-2.ensures _ _ c.in-NotAList-default.is-0 refl
 
-pub returns-in_default-NotAList : goal.returns-in_default-NotAList
-returns-in_default-NotAList c =
+pub returns-in-NotAList-default-2 : goal.returns-in-NotAList-default-2
+returns-in-NotAList-default-2 c =
     sides_told _ _ (verdict_gives [] c.check.ensures c.in_ok-check.was) (verdict_gives [] c.check-2.ensures c.in_ok-check-2.was)
-    c.side_of.ensures c.side_of-2.ensures _ _ c.in_default-NotAList.is-0 c.in_default-NotAList.is-1
+    c.side_of.ensures c.side_of-2.ensures _ _ c.in-NotAList-default.is-0 c.in-NotAList-default.is-1
 
-pub returns-in_default-NotAList-2 : goal.returns-in_default-NotAList-2
-returns-in_default-NotAList-2 c =
+pub returns-in-NotAList-default-3 : goal.returns-in-NotAList-default-3
+returns-in-NotAList-default-3 c =
     sides_told _ _ (verdict_gives [] c.check.ensures c.in_ok-check.was) (verdict_gives [] c.check-2.ensures c.in_ok-check-2.was)
-    c.side_of.ensures c.side_of-2.ensures _ _ c.in_default-NotAList.is-0 c.in_default-NotAList.is-1
+    c.side_of.ensures c.side_of-2.ensures _ _ c.in-NotAList-default.is-0 c.in-NotAList-default.is-1
 
 pub returns-in-NotAscending-default : goal.returns-in-NotAscending-default
 returns-in-NotAscending-default c =

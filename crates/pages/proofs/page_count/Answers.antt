@@ -1,4 +1,4 @@
-use Rattle.pages.proofs.Names.{arith, sym, ap, ◌∙◌}
+use Rattle.pages.proofs.Names.{sym, ap, ◌∙◌}
 use Rattle.base.specs.Result.{gives}
 use Rattle.pages.proofs.Paging.{not-allowed, height_in, count_refused, count_rounded}
 use Rattle.pages.proofs.page_count.Goals as goal

@@ -1,5 +1,5 @@
 use Rattle.splitter.proofs.Names.{◌≡◌, sym, ap, ◌∙◌, ◌-◌, ℕ, Bool, List, [], ◌∷◌, eqb, le_refl, length, take, drop, part_over, starts_with}
-use Rattle.splitter.proofs.Stripped.{starts_as}
+use Rattle.splitter.proofs.Stripped.{starts_as, begins_as}
 use Rattle.splitter.proofs.Answers.{line_follows, line_step, space_step, word-step}
 use Rattle.splitter.proofs.plain.Goals as goal
 use lib.Pointwise.{pointwise}
@@ -33,11 +33,12 @@ returns-then-starts_with c =
     let b = c.args.body.now in
     c.found.ensures
     ∙ space_step b c.args.at c.requires (test b c.args.at _ _ c.as_slice.ensures c.in_default.ensures.cases)
-    (sym (ap (starts_with (0x20 ∷ [])) (input_is b c.args.at)) ∙ sym c.starts_with.ensures ∙ c.if-starts_with.true)
+    (sym (ap (starts_with (0x20 ∷ [])) (input_is b c.args.at)) ∙ begins_as (0x20 ∷ []) _ c.starts_with.ensures.value c.if-starts_with.true)
 
 pub returns : goal.returns
 returns c =
     let b = c.args.body.now in
     c.found-2.ensures
     ∙ word-step b c.args.at c.requires (test b c.args.at _ _ c.as_slice.ensures c.in_default.ensures.cases) c.word_end-w.result
-    (sym (ap (starts_with (0x20 ∷ [])) (input_is b c.args.at)) ∙ sym c.starts_with.ensures ∙ c.if-starts_with.false) c.word_end-w.ensures
+    (sym (ap (starts_with (0x20 ∷ [])) (input_is b c.args.at)) ∙ begins_as (0x20 ∷ []) _ c.starts_with.ensures.value c.if-starts_with.false)
+    c.word_end-w.ensures
