@@ -136,96 +136,99 @@ fn found(document: &[u8]) -> Draft
     d
 }
 
-// The draft of the document in the first bytes of a room: one check.
-pub fn resume(room: &[u8], len: usize) -> Result<Draft, Refusal>
-    ensures numbers { Of01 (drafted_as result) }
-    ensures does { Resumed room.now len result }
-{
-    buffer::so_far(room, len)?;
-    Ok(found(&room[..len]))
-}
-
-// The draft itself, or that of one check where it cannot hold. (The hint: as a call that hands a draft over in memory a whole page took 1.2 to 1.3 of the time.)
-#[inline(always)]
-fn settled(room: &[u8], d: Draft) -> Result<Draft, Refusal>
-    ensures numbers { Of01 (drafted_as result) }
-    ensures does { Sound room.now d → Resumed room.now d.length result }
-{
-    if d.plausible(room) {
-        return Ok(d);
+// A page, call by call.
+impl Draft {
+    // The draft of the document in the first bytes of a room: one check.
+    pub fn resume(room: &[u8], len: usize) -> Result<Draft, Refusal>
+        ensures numbers { Of01 (drafted_as result) }
+        ensures does { Resumed room.now len result }
+    {
+        buffer::so_far(room, len)?;
+        Ok(found(&room[..len]))
     }
-    resume(room, d.length)
-}
 
-// Text in a style.
-pub fn write_str(room: &mut [u8], d: Draft, style: Style, text: &[u8]) -> Result<Draft, Refusal>
-    ensures { Calls (Sound room.old d) (writes room.old d.length style text.now) room.old room.new result }
-{
-    let e = settled(room, d)?;
-    if !utf8::valid(text) {
-        return Err(Refusal::NotUtf8(0));
+    // The draft itself, or that of one check where it cannot hold. (The hint: as a call that hands a draft over in memory a whole page took 1.2 to 1.3 of the time.)
+    #[inline(always)]
+    fn settled(self, room: &[u8]) -> Result<Draft, Refusal>
+        ensures numbers { Of01 (drafted_as result) }
+        ensures does { Sound room.now self → Resumed room.now self.length result }
+    {
+        if self.plausible(room) {
+            return Ok(self);
+        }
+        Draft::resume(room, self.length)
     }
-    let last = e.text_at(style);
-    let kind = style.number();
-    let length = buffer::put_text(room, e.length, last, kind, text)?;
-    Ok(Draft {
-        length,
-        last,
-        style: kind,
-        ..e
-    })
-}
 
-// A block's start. (Start and end are two functions, since other refusals come first.)
-pub fn open_block(room: &mut [u8], d: Draft, b: Block) -> Result<Draft, Refusal>
-    ensures { Calls (Sound room.old d) (opens_block room.old d.length b) room.old room.new result }
-{
-    let e = settled(room, d)?;
-    if MAX_OPEN <= e.blocks.depth {
-        return Err(Refusal::TooDeep(e.length));
+    // Text in a style.
+    pub fn write_str(self, room: &mut [u8], style: Style, text: &[u8]) -> Result<Draft, Refusal>
+        ensures { Calls (Sound room.old self) (writes room.old self.length style text.now) room.old room.new result }
+    {
+        let e = self.settled(room)?;
+        if !utf8::valid(text) {
+            return Err(Refusal::NotUtf8(0));
+        }
+        let last = e.text_at(style);
+        let kind = style.number();
+        let length = buffer::put_text(room, e.length, last, kind, text)?;
+        Ok(Draft {
+            length,
+            last,
+            style: kind,
+            ..e
+        })
     }
-    let next = buffer::put_block(room, e.length, start_kind(b))?;
-    Ok(e.after_record(Kind::Start(b), next))
-}
 
-// A block's end.
-pub fn close_block(room: &mut [u8], d: Draft, b: Block) -> Result<Draft, Refusal>
-    ensures { Calls (Sound room.old d) (closes_block room.old d.length b) room.old room.new result }
-{
-    let e = settled(room, d)?;
-    if !e.blocks.is_innermost(b) {
-        return Err(Refusal::WrongEnd(e.length));
+    // A block's start. (Start and end are two functions, since other refusals come first.)
+    pub fn open_block(self, room: &mut [u8], b: Block) -> Result<Draft, Refusal>
+        ensures { Calls (Sound room.old self) (opens_block room.old self.length b) room.old room.new result }
+    {
+        let e = self.settled(room)?;
+        if MAX_OPEN <= e.blocks.depth {
+            return Err(Refusal::TooDeep(e.length));
+        }
+        let next = buffer::put_block(room, e.length, start_kind(b))?;
+        Ok(e.after_record(Kind::Start(b), next))
     }
-    let next = buffer::put_block(room, e.length, end_kind(b))?;
-    Ok(e.after_record(Kind::End(b), next))
-}
 
-// A document's records in InlineBlock, or what `Doc::em_doc` makes of them. The last record is that block's end.
-fn joined(room: &mut [u8], d: Draft, added: &[u8], form: Form) -> Result<Draft, Refusal>
-    ensures { Calls (Sound room.old d) (adds_as room.old d.length added.now (made_of form added.now)) room.old room.new result }
-{
-    let e = settled(room, d)?;
-    let length = buffer_doc::add(room, e.length, e.blocks.depth, added, form)?;
-    Ok(Draft {
-        length,
-        last: length.saturating_sub(6),
-        style: 0,
-        ..e
-    })
-}
+    // A block's end.
+    pub fn close_block(self, room: &mut [u8], b: Block) -> Result<Draft, Refusal>
+        ensures { Calls (Sound room.old self) (closes_block room.old self.length b) room.old room.new result }
+    {
+        let e = self.settled(room)?;
+        if !e.blocks.is_innermost(b) {
+            return Err(Refusal::WrongEnd(e.length));
+        }
+        let next = buffer::put_block(room, e.length, end_kind(b))?;
+        Ok(e.after_record(Kind::End(b), next))
+    }
 
-// A document, as `Doc::doc` adds it. (This one and the next are two functions, as bpaf and the C interface have them.)
-pub fn doc(room: &mut [u8], d: Draft, added: &[u8]) -> Result<Draft, Refusal>
-    ensures { Calls (Sound room.old d) (adds_doc room.old d.length added.now) room.old room.new result }
-{
-    joined(room, d, added, Form::Doc)
-}
+    // A document's records in InlineBlock, or what `Doc::em_doc` makes of them. The last record is that block's end.
+    fn joined(self, room: &mut [u8], added: &[u8], form: Form) -> Result<Draft, Refusal>
+        ensures { Calls (Sound room.old self) (adds_as room.old self.length added.now (made_of form added.now)) room.old room.new result }
+    {
+        let e = self.settled(room)?;
+        let length = buffer_doc::add(room, e.length, e.blocks.depth, added, form)?;
+        Ok(Draft {
+            length,
+            last: length.saturating_sub(6),
+            style: 0,
+            ..e
+        })
+    }
 
-// A document, as `Doc::em_doc` adds it.
-pub fn em_doc(room: &mut [u8], d: Draft, added: &[u8]) -> Result<Draft, Refusal>
-    ensures { Calls (Sound room.old d) (adds_em_doc room.old d.length added.now) room.old room.new result }
-{
-    joined(room, d, added, Form::EmDoc)
+    // A document, as `Doc::doc` adds it. (This one and the next are two functions, as bpaf and the C interface have them.)
+    pub fn doc(self, room: &mut [u8], added: &[u8]) -> Result<Draft, Refusal>
+        ensures { Calls (Sound room.old self) (adds_doc room.old self.length added.now) room.old room.new result }
+    {
+        self.joined(room, added, Form::Doc)
+    }
+
+    // A document, as `Doc::em_doc` adds it.
+    pub fn em_doc(self, room: &mut [u8], added: &[u8]) -> Result<Draft, Refusal>
+        ensures { Calls (Sound room.old self) (adds_em_doc room.old self.length added.now) room.old room.new result }
+    {
+        self.joined(room, added, Form::EmDoc)
+    }
 }
 
 // A draft in the eight words of the C interface; the last two are not used. (`as`: the C interface has `uint64_t`, which is no other number as

@@ -500,7 +500,7 @@ pub fn sefgrunn_draft_resume(
     ensures place { place.new ≡ place_of (resumes room.now length) }
     ensures draft { WordsAfter (resumes room.now length) room.now draft.old draft.new }
 {
-    let answer = draft::resume(room, length);
+    let answer = Draft::resume(room, length);
     drafted(answer, draft, place)
 }
 
@@ -518,7 +518,7 @@ pub fn sefgrunn_draft_write(
     let Ok(s) = Style::try_from(style as usize) else {
         return refused(Refusal::UnknownKind(0), place);
     };
-    let answer = draft::write_str(room, Draft::from(*draft), s, text);
+    let answer = Draft::from(*draft).write_str(room, s, text);
     drafted(answer, draft, place)
 }
 
@@ -535,7 +535,7 @@ pub fn sefgrunn_draft_open(
     let Ok(b) = Block::try_from(block as usize) else {
         return refused(Refusal::UnknownKind(0), place);
     };
-    let answer = draft::open_block(room, Draft::from(*draft), b);
+    let answer = Draft::from(*draft).open_block(room, b);
     drafted(answer, draft, place)
 }
 
@@ -552,7 +552,7 @@ pub fn sefgrunn_draft_close(
     let Ok(b) = Block::try_from(block as usize) else {
         return refused(Refusal::UnknownKind(0), place);
     };
-    let answer = draft::close_block(room, Draft::from(*draft), b);
+    let answer = Draft::from(*draft).close_block(room, b);
     drafted(answer, draft, place)
 }
 
@@ -566,7 +566,7 @@ pub fn sefgrunn_draft_doc(
     ensures numbers { result ≤ 13 }
     ensures does { Sound room.old (draft_in draft.old) → Drafts (adds_doc room.old (draft_in draft.old).length added.now) room.old room.new draft.old draft.new result place.new }
 {
-    let answer = draft::doc(room, Draft::from(*draft), added);
+    let answer = Draft::from(*draft).doc(room, added);
     drafted(answer, draft, place)
 }
 
@@ -580,6 +580,6 @@ pub fn sefgrunn_draft_em_doc(
     ensures numbers { result ≤ 13 }
     ensures does { Sound room.old (draft_in draft.old) → Drafts (adds_em_doc room.old (draft_in draft.old).length added.now) room.old room.new draft.old draft.new result place.new }
 {
-    let answer = draft::em_doc(room, Draft::from(*draft), added);
+    let answer = Draft::from(*draft).em_doc(room, added);
     drafted(answer, draft, place)
 }

@@ -3,7 +3,7 @@ use Rattle.refusal.proofs.Exits.{answered-refused}
 use Rattle.draft.proofs.Names.{sym, length-take-le, so_far_accepted, so_far-document}
 use Rattle.buffer.proofs.Numbers.{low_so_far, low-number}
 use Rattle.draft.proofs.Calls.{resumed_next}
-use Rattle.draft.proofs.resume.Goals as goal
+use Rattle.draft.proofs.Draft.resume.Goals as goal
 
 pub slice_bounds-found-end : goal.slice_bounds-found-end
 slice_bounds-found-end c = sym (length-take-le c.args.len (c.args.room.now) (so_far_accepted c.so_far.ensures c.in_ok-so_far.was).inside)

@@ -1,13 +1,13 @@
 use Rattle.draft.proofs.Names.{adds_as, made_of}
 use Rattle.draft.proofs.Calls.{calls-exit, call-refused, built_refused, settled-calls}
 use Rattle.draft.proofs.Documents.{doc-said, doc_given}
-use Rattle.draft.proofs.joined.Goals as goal
+use Rattle.draft.proofs.Draft.joined.Goals as goal
 
 pub returns-in_err-e : goal.returns-in_err-e
 unfolding adds_as
 returns-in_err-e c =
     let s = c.settled.ensures in
-    calls-exit c.from_residual.result _ c.from_residual.ensures.1 (call-refused (c.args.room.now) c.args.d.length _ c.in_err-e.was s.numbers s.does)
+    calls-exit c.from_residual.result _ c.from_residual.ensures.1 (call-refused (c.args.room.now) c.args.self.length _ c.in_err-e.was s.numbers s.does)
 
 pub returns-in_err-length : goal.returns-in_err-length
 returns-in_err-length c =

@@ -1,13 +1,13 @@
 use Rattle.draft.proofs.Names.{sym, arith, writes}
 use Rattle.refusal.specs.declared.Refusal.TheVariants as refusal
 use Rattle.draft.proofs.Calls.{calls_refused, calls-exit, call-refused, built_refused, settled-calls, text-not, text-said, text-given}
-use Rattle.draft.proofs.write_str.Goals as goal
+use Rattle.draft.proofs.Draft.write_str.Goals as goal
 
 pub returns-in_err-e : goal.returns-in_err-e
 unfolding writes
 returns-in_err-e c =
     let s = c.settled.ensures in
-    calls-exit c.from_residual.result _ c.from_residual.ensures.1 (call-refused (c.args.room.now) c.args.d.length _ c.in_err-e.was s.numbers s.does)
+    calls-exit c.from_residual.result _ c.from_residual.ensures.1 (call-refused (c.args.room.now) c.args.self.length _ c.in_err-e.was s.numbers s.does)
 
 pub returns-then-not-valid : goal.returns-then-not-valid
 returns-then-not-valid c =

@@ -2,13 +2,13 @@ use Rattle.draft.proofs.Names.{arith, sym, ◌∙◌, closes_block}
 use Rattle.refusal.specs.declared.Refusal.TheVariants as refusal
 use Rattle.draft.proofs.Holding.{closes-not}
 use Rattle.draft.proofs.Calls.{calls_refused, calls-exit, call-refused, built_refused, settled-calls, innermost-is, end-said, end-given}
-use Rattle.draft.proofs.close_block.Goals as goal
+use Rattle.draft.proofs.Draft.close_block.Goals as goal
 
 pub returns-in_err-e : goal.returns-in_err-e
 unfolding closes_block
 returns-in_err-e c =
     let s = c.settled.ensures in
-    calls-exit c.from_residual.result _ c.from_residual.ensures.1 (call-refused (c.args.room.now) c.args.d.length _ c.in_err-e.was s.numbers s.does)
+    calls-exit c.from_residual.result _ c.from_residual.ensures.1 (call-refused (c.args.room.now) c.args.self.length _ c.in_err-e.was s.numbers s.does)
 
 pub returns-then-not-is_innermost : goal.returns-then-not-is_innermost
 returns-then-not-is_innermost c =

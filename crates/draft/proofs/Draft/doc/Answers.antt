@@ -1,5 +1,5 @@
 use Rattle.draft.proofs.Names.{adds_doc}
-use Rattle.draft.proofs.doc.Goals as goal
+use Rattle.draft.proofs.Draft.doc.Goals as goal
 
 pub returns : goal.returns
 unfolding adds_doc

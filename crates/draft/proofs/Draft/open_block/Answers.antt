@@ -2,13 +2,13 @@ use Rattle.draft.proofs.Names.{arith, opens_block}
 use Rattle.refusal.specs.declared.Refusal.TheVariants as refusal
 use Rattle.draft.proofs.Holding.{opens-refused}
 use Rattle.draft.proofs.Calls.{calls_refused, calls-exit, call-refused, built_refused, settled-calls, start-said, start-given}
-use Rattle.draft.proofs.open_block.Goals as goal
+use Rattle.draft.proofs.Draft.open_block.Goals as goal
 
 pub returns-in_err-e : goal.returns-in_err-e
 unfolding opens_block
 returns-in_err-e c =
     let s = c.settled.ensures in
-    calls-exit c.from_residual.result _ c.from_residual.ensures.1 (call-refused (c.args.room.now) c.args.d.length _ c.in_err-e.was s.numbers s.does)
+    calls-exit c.from_residual.result _ c.from_residual.ensures.1 (call-refused (c.args.room.now) c.args.self.length _ c.in_err-e.was s.numbers s.does)
 
 pub returns-then-e-ge-MAX_OPEN : goal.returns-then-e-ge-MAX_OPEN
 returns-then-e-ge-MAX_OPEN c =
