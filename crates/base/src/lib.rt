@@ -40,8 +40,8 @@ pub fn copy_from_slice(room: &mut [u8], at: usize, bytes: &[u8])
     }
 }
 
-// Whether the bytes from `at` on start with some others. Most are a few bytes, for which the library's `starts_with` costs more than these tests: with it
-// HTML took a tenth more time.
+// Whether the bytes from `at` on start with some others. Most are a few bytes, for which the library's `starts_with` costs more than these tests where the
+// place is known only there: with it the console takes 1.03 to 1.06 of the time.
 pub fn starts_with(s: &[u8], at: usize, prefix: &[u8]) -> bool
     ensures { result ≡ starts_with prefix.now (drop at s.now) }
 {

@@ -14,8 +14,9 @@ use records::Block;
 use std::marker::Model;
 
 // The margins that the open blocks pushed, the innermost last. Any number of slots will do; the console takes as many as blocks may be open.
-// (Not the kit's `arrayvec::ArrayVec`: as at `document::OpenBlocks`, tried; the wrong program of must-fail/margins_that_were_popped, which reads what no
-// longer counts, could not be written with it. An own stack for both would be the array and the number alone: what is pushed and asked of the top differs.)
+// (Not the kit's `arrayvec::ArrayVec`: tried; the wrong program of must-fail/margins_that_were_popped, which reads what no longer counts, could not be
+// written with it, and each wrong program is to stay. An own stack for both would be the array and the number alone: what is pushed and asked of the top
+// differs.)
 #[derive(Drop)]
 pub struct Margins<const N: usize> {
     // fixed memory, of which the first `count` are in use: no heap, a rule of the project; numbers, as the rules' margins are

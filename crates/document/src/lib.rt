@@ -2,7 +2,7 @@
 
 #![tactic(auto)]
 
-ghost use Rattle.std.specs.Prelude.{◌≡◌, [], ◌<◌, ◌≤◌, ◌&&◌, leb, eqb, length, OnErr};
+ghost use Rattle.std.specs.Prelude.{◌≡◌, [], ◌<◌, ◌≤◌, ◌&&◌, leb, eqb, length, OnOk, OnErr};
 ghost use Rattle.base.specs.Result.{gives};
 ghost use Rattle.base.specs.Stack.{top, pushed, popped};
 ghost use Rattle.refusal.specs.Answers.{answered};
@@ -23,8 +23,7 @@ pub const MAX_OPEN: usize = 32;
 // The blocks that are open, the innermost last, in fixed memory (no heap, a rule of the project), of which the first `depth` count. Any number of slots will
 // do; a check takes as many as blocks may be open.
 // (Not the kit's `arrayvec::ArrayVec`: tried, it proves, but its `pop` overwrites what goes, two instructions at each block's end: 1.1 % of the check of a
-// page of options, where the check stands at its bar; and the wrong program of must-fail/pushed_at_the_first_place, which counts a slot that it has not
-// written, cannot be written with it.)
+// page of options, where the check stands at its bar.)
 #[derive(Drop)]
 pub struct OpenBlocks<const N: usize> {
     blocks: [Block; N],
@@ -85,12 +84,13 @@ impl<const N: usize> OpenBlocks<N> {
         self.depth = self.depth().saturating_sub(1);
     }
 
-    // Refusal 7: a block's start. With fewer slots than 32 the answer is free.
+    // Refusal 7: a block's start. With fewer slots than 32 it is refused where none is left.
     pub fn open(&mut self, b: Block, at: usize) -> Result<(), Refusal>
         ensures opened { max_open ≤ N → verdict_of result self.new ≡ opens at (index b) self.old }
+        ensures one_more { OnOk result (self.new ≡ pushed (index b) self.old) }
         ensures kept { OnErr result (self.new ≡ self.old) }
     {
-        if MAX_OPEN <= self.depth() {
+        if MAX_OPEN.min(N) <= self.depth() {
             return Err(Refusal::TooDeep(at));
         }
         self.push(b);

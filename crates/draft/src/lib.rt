@@ -147,7 +147,8 @@ impl Draft {
         Ok(found(&room[..len]))
     }
 
-    // The draft itself, or that of one check where it cannot hold. (The hint: as a call that hands a draft over in memory a whole page took 1.2 to 1.3 of the time.)
+    // The draft itself, or that of one check where it cannot hold. (The hint: as a call that hands a draft over in memory, a whole page takes 1.2 to 1.3 of the
+    // time.)
     #[inline(always)]
     fn settled(self, room: &[u8]) -> Result<Draft, Refusal>
         ensures numbers { Of01 (drafted_as result) }
