@@ -25,7 +25,7 @@ pub use Rattle.draft.specs.declared.Packed.{Packed}
 pub use Rattle.records.proofs.Reading.{fits_room, read-token}
 pub use Rattle.records.proofs.Tables.{index_small, kind_closes, kind_opens, kind_style}
 pub use Rattle.records.specs.Records.{Token, index, kind_of, little, number}
-unfoldable pub use Rattle.records.specs.Records.{record_fits, size, token_at}
+unfoldable pub use Rattle.records.specs.Records.{size, token_at}
 pub use Rattle.records.specs.Stored.{stored}
 unfoldable pub use Rattle.records.specs.Stored.{around, end, start, text}
 pub use Rattle.records.specs.declared.Block.{Block}

@@ -3,10 +3,7 @@ use Rattle.draft.proofs.Names.{ℕ, zero, suc, ◌+◌, ◌≤◌, ◌≡◌, re
 use Rattle.draft.proofs.Names.{eqb, length, take, drop, length-append, length-drop, take-append-drop, drop_of_length-le, take_all, drop-drop, arith}
 use Rattle.draft.proofs.Names.{eq-eqb, ne_eqb, eqb-true, eqb-false, gives, if_false, pick, bind_gives, token_at, size, number, stored, text, Style}
 use Rattle.draft.proofs.Names.{Kind, fits_room, first, reads, open_blocks, first_gives, is_text, one_text, written, longer, Goes, style_in, one_record}
-use Rattle.draft.proofs.Names.{Last, none, stands, Of, text_at, Draft, record_fits, ◌-◌, leb, ◌&&◌, le-leb, and_both}
-use mathlib.Core.Bool.{false, false≢true}
-use borrow.Author.Tests.{leb-true}
-use Rattle.base.proofs.Choice.{and_left, and_right, same_test, not-passed}
+use Rattle.draft.proofs.Names.{Last, none, stands, Of, text_at, Draft}
 use Rattle.records.specs.declared.Style.TheVariants as style
 use Rattle.records.specs.declared.Kind.TheVariants as kind
 use Rattle.buffer.proofs.Records.{size-before}
@@ -15,32 +12,6 @@ use Rattle.buffer.proofs.Written.{written_next, written_last, one-text, not-one-
 pub one_long : (l : List ℕ) → one_record l ≡ true → length l ≡ 6 + size l
 unfolding one_record
 one_long l e = eqb-true (length l) (6 + size l) e
-
--- a record that lies whole in a document is its last where the next one would begin at its end
-module _ (s : List ℕ) (at : ℕ) where
-  pub fits-parts : record_fits (drop at s) ≡ true → (6 ≤ length (drop at s)) × (size (drop at s) ≤ length (drop at s) - 6)
-  unfolding record_fits
-  fits-parts e =
-      let l = drop at s in
-      (leb-true 6 (length l) (and_left (leb 6 (length l)) _ e), leb-true (size l) (length l - 6) (and_right (leb 6 (length l)) _ e))
-
-  pub ends_next : (next : ℕ) → record_fits (drop at s) ≡ true → next ≡ at + (6 + size (drop at s)) → eqb next (length s) ≡ one_record (drop at s)
-  unfolding one_record
-  ends_next next e q =
-      let f = fits-parts e in
-      let n = length-drop at s in
-      same_test (eqb next (length s)) (one_record (drop at s))
-      (λ h. eq-eqb (length (drop at s)) (6 + size (drop at s)) (omega (arith, f, n, q, eqb-true next (length s) h)))
-      (λ h. eq-eqb next (length s) (omega (arith, f, n, q, one_long (drop at s) h)))
-
-  -- one that does not is none
-  pub ends_not : record_fits (drop at s) ≡ false → false ≡ one_record (drop at s)
-  unfolding record_fits
-  ends_not e =
-      let l = drop at s in
-      sym (not-passed (one_record l) (λ h.
-      let q = one_long l h in
-      false≢true (sym e ∙ and_both (le-leb 6 (length l) (omega (arith, q))) (le-leb (size l) (length l - 6) (omega (arith, q))))))
 
 -- a text's style by its number, which is not 0
 

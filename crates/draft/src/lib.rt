@@ -74,14 +74,6 @@ pub struct Draft {
 }
 
 impl Draft {
-    // Whether a document's last record begins at `last` and ends with the document.
-    fn ends(self, document: &[u8]) -> bool
-        ensures { result ≡ one_record (drop self.last document.now) }
-    {
-        records::fits_at(document, self.last)
-            && records::whole_raw_at(document, self.last).next == document.len()
-    }
-
     // Whether it may hold of a room: its length is no refusal, a record ends there, and no more than 32 blocks are open.
     #[tactic(auto, unfolding(crate::specs::Draft::plausible))]
     fn plausible(self, room: &[u8]) -> bool
@@ -91,7 +83,7 @@ impl Draft {
         length <= room.len()
             && length <= MAX_BYTES
             && self.blocks.depth <= MAX_OPEN
-            && (length == 0 || self.ends(&room[..length]))
+            && (length == 0 || records::ends_at(&room[..length], self.last))
     }
 
     // After one more record, which starts at its end and has a kind.

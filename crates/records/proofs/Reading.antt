@@ -4,7 +4,9 @@ use Rattle.records.proofs.Names.{take, drop, get_or, length-drop, drop_of_length
 use Rattle.records.proofs.Names.{le-ltb, le-leb, lt-leb, leb-true, when◌then◌else◌, and_left, and_right, if_true, if_false, Token, little, styles}
 use Rattle.records.proofs.Names.{blocks, kind_of, size, token_at, tokens_from, record_fits, token_of, Read, Kind, Block, Style, Head}
 use mathlib.Core.Logic.{⊎_elim}
-use Rattle.base.proofs.Choice.{le_or_lt}
+use Rattle.base.proofs.Choice.{le_or_lt, same_test}
+use lib.Dec.{eqb}
+use borrow.Author.Tests.{eqb-true, eq-eqb, ne_eqb}
 use lib.Seq.{get_or-drop, take_all, take-nil, length-take-le}
 use Rattle.base.specs.Bytes.{part}
 use Rattle.records.specs.declared.Kind.TheVariants as kind
@@ -207,6 +209,20 @@ module _ (s : List ℕ) (at : ℕ) where
     pub few_left : left < 6 → leb 6 left ≡ record_fits (drop at s)
     unfolding record_fits
     few_left h = rw (lt-leb 6 left h, length-drop at s, ← d, lt-leb 6 left h)
+
+    pub ends_few : left < 6 → leb 6 left ≡ eqb (length (drop at s)) (6 + size (drop at s))
+    ends_few h =
+        let n = length-drop at s in
+        lt-leb 6 left h ∙ sym (ne_eqb (length (drop at s)) (6 + size (drop at s)) (λ e. absurd (omega (arith, n, d, e))))
+
+    pub ends_by : (n : ℕ) → 6 ≤ left → n ≡ little (take 4 (drop at s)) → eqb n (left - 6) ≡ eqb (length (drop at s)) (6 + size (drop at s))
+    unfolding size
+    ends_by n h e =
+        let l = length-drop at s in
+        let k = little (take 4 (drop at s)) in
+        same_test (eqb n (left - 6)) (eqb (length (drop at s)) (6 + k))
+        (λ f. eq-eqb (length (drop at s)) (6 + k) (omega (arith, l, d, e, eqb-true n (left - 6) f)))
+        (λ f. eq-eqb n (left - 6) (omega (arith, l, d, e, eqb-true (length (drop at s)) (6 + k) f)))
 
     pub fits_by : (n : ℕ) → 6 ≤ left → n ≡ little (take 4 (drop at s)) → leb n (left - 6) ≡ record_fits (drop at s)
     unfolding record_fits size

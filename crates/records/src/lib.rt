@@ -2,8 +2,8 @@
 
 #![tactic(auto)]
 
-ghost use Rattle.std.specs.Prelude.{◌≡◌, true, ◌+◌, ◌<◌, ◌≤◌, ◌^◌, length, take, drop, get_or};
-ghost use Rattle.records.specs.Records.{little, number, index, is_of, kind_of, record_fits};
+ghost use Rattle.std.specs.Prelude.{◌≡◌, true, ◌+◌, ◌<◌, ◌≤◌, ◌^◌, eqb, length, take, drop, get_or};
+ghost use Rattle.records.specs.Records.{little, number, index, is_of, kind_of, record_fits, size};
 ghost use Rattle.records.specs.Numbered.{StyleNumbered, BlockNumbered};
 ghost use Rattle.std.specs.Iterator.{YieldsFirstBy, item_count};
 ghost use Rattle.records.specs.Records.{tokens, tokens_from};
@@ -314,6 +314,14 @@ pub fn fits_at(document: &[u8], at: usize) -> bool
 {
     let left = document.len().saturating_sub(at);
     6 <= left && whole_four(document, at) <= left - 6
+}
+
+// Whether the record at `at` ends with the document.
+pub fn ends_at(document: &[u8], at: usize) -> bool
+    ensures { result ≡ eqb (length (drop at document.now)) (6 + size (drop at document.now)) }
+{
+    let left = document.len().saturating_sub(at);
+    6 <= left && whole_four(document, at) == left - 6
 }
 
 // A record of a document: where it stands, where its body starts, its kind and its body.
