@@ -61,7 +61,9 @@ pub fn change_style(t: &mut Text, st: &mut Style, new: Style)
     *st = new;
 }
 
-// A block's start or end that is not Meta's: the style is closed, and the tag follows.
+// A block's start or end that is not Meta's: the style is closed, and the tag follows. (The hint: as a call, which takes the text's address, the walk keeps the
+// text's length in memory, and HTML takes 1.09 to 1.17 of the time.)
+#[inline(always)]
 fn put_block(t: &mut Text, st: &mut Style, b: Block, tag: &[u8])
     ensures text { text_of t.new ≡ wrote (λ size. block_text size st.old b tag.now) (text_of t.old) }
     ensures style { st.new ≡ style.Text }
