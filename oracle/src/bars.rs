@@ -37,6 +37,8 @@ const BARS: &[Bar] = &[
     Bar { call: CHECK, pages: "nonascii", count: 1, most: None },
     // a whole page by a draft: at most 1.2
     bar("whole page by a draft", 1.2),
+    // the same, where the Rust is given bytes and tests each text, as the port does: no more than its time
+    bar("draft (rust: from_utf8)", 1.0),
 ];
 
 /// On each of the worst pages: at most 3 times the Rust's time, and at most 12 ns for each byte of the stored document.
