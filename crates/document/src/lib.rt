@@ -2,7 +2,7 @@
 
 #![tactic(auto)]
 
-ghost use Rattle.std.specs.Prelude.{◌≡◌, [], ◌<◌, ◌≤◌, ◌&&◌, leb, eqb, length, OnOk, OnErr};
+ghost use Rattle.std.specs.Prelude.{◌≡◌, [], ◌<◌, ◌≤◌, ◌&&◌, leb, eqb, length, OnOk, OnErr, drop};
 ghost use Rattle.base.specs.Result.{gives};
 ghost use Rattle.base.specs.Stack.{top, pushed, popped};
 ghost use Rattle.refusal.specs.Answers.{answered};
@@ -110,13 +110,15 @@ impl<const N: usize> OpenBlocks<N> {
     }
 }
 
-// Refusals 3 to 7 of a record.
-fn accept(r: Record, blocks: &mut OpenBlocks<MAX_OPEN>) -> Result<(), Refusal>
+// Refusals 3 to 7 of a record, which ends the bytes that were read so far. A text is tested with what stands before it: its own kind and length, six bytes,
+// are ASCII where it is short, and so it is tested in one piece.
+fn accept(read: &[u8], r: Record, blocks: &mut OpenBlocks<MAX_OPEN>) -> Result<(), Refusal>
+    requires { r.body.now ≡ drop r.start read.now }
     ensures { verdict_of result blocks.new ≡ accept r.entry.place r.entry.kind r.entry.body.now blocks.old }
 {
     match r.kind {
         Kind::Unknown => Err(Refusal::UnknownKind(r.place)),
-        Kind::Text(_) if !utf8::valid(r.body) => Err(Refusal::NotUtf8(r.place)),
+        Kind::Text(_) if !utf8::valid_rest(read, r.start) => Err(Refusal::NotUtf8(r.place)),
         Kind::Text(_) => Ok(()),
         Kind::Start(b) if r.body.is_empty() => blocks.open(b, r.place),
         Kind::End(b) if r.body.is_empty() => blocks.close(b, r.place),
@@ -136,13 +138,14 @@ pub fn open_blocks(document: &[u8]) -> Result<OpenBlocks<MAX_OPEN>, Refusal>
             return Err(Refusal::CutShort(at));
         }
         let h = records::whole_at(document, at);
+        let read = &document[..h.next];
         let r = Record {
             place: at,
             start: h.start,
             kind: h.kind,
             body: &document[h.start..h.next],
         };
-        accept(r, &mut blocks)?;
+        accept(read, r, &mut blocks)?;
         at = h.next;
     }
     Ok(blocks)

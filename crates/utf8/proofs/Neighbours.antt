@@ -1,7 +1,7 @@
 -- Text is well-formed exactly where each byte may stand after the three before it and the last three leave no character open: `utf8-sound`.
 -- Then the same from a place on, as the code tests it by blocks.
 -- Assumes nothing.
-use Rattle.utf8.proofs.Names.{◌≡◌, refl, ap, sym, ◌∙◌, ⊎_elim, Bool, beq, true, false, not, ◌&&◌, ◌||◌, or-true, false≢true, List, [], ◌∷◌, ℕ, zero, suc}
+use Rattle.utf8.proofs.Names.{not-suc-le-zero, ◌≡◌, refl, ap, sym, ◌∙◌, ⊎_elim, Bool, beq, true, false, not, ◌&&◌, ◌||◌, or-true, false≢true, List, [], ◌∷◌, ℕ, zero, suc}
 use Rattle.utf8.proofs.Names.{◌+◌, ◌-◌, ◌/◌, ◌<◌, ◌≤◌, add-zero, add-one, arith, leb, eqb, eqb-true, eqb-false}
 use Rattle.utf8.proofs.Names.{length, get_or, take, drop, drop-cons, drop-length, le-leb, lt-leb}
 use Rattle.utf8.proofs.Names.{lt-ltb, le-ltb, leb-true, leb-false, pick, le_or_lt, and_left, and_right, and_both}
@@ -271,6 +271,22 @@ module _ (s : List ℕ) where
     each = λ k g. ⊎_elim (λ (o : i ≤ k). let q : i + (k - i) ≡ k = omega arith in rw q at (ascii_part s i w m h e t (k - i) (omega arith)))
         (λ (o : k < i). a.each k o) (le_or_lt i k);
   }
+
+  -- the last n bytes, where the last eight of s are ASCII and those of the n before them are too
+  pub ascii_last : (n i m : ℕ) → 8 ≤ length s → n ≤ length s → n ≤ i + 8 → Ascii (drop (length s - n) s) i → m ≡ 8
+      → is_ascii (take m (drop (length s - 8) s)) ≡ true → Ascii (drop (length s - n) s) n
+  ascii_last n i m h l w a e t = record {
+    room = omega (arith, length-drop (length s - n) s);
+    each = λ k g. ⊎_elim
+        (λ (o : length s - 8 ≤ length s - n + k).
+        let q : length s - 8 + (length s - n + k - (length s - 8)) ≡ length s - n + k = omega arith in
+        let x = ascii_part s (length s - 8) 8 m (omega arith) e t (length s - n + k - (length s - 8)) (omega arith) in
+        rw (get_or-drop (length s - n) s k 0) (rw q at x))
+        (λ (o : length s - n + k < length s - 8). a.each k (omega arith)) (le_or_lt (length s - 8) (length s - n + k));
+  }
+
+  pub ascii_none : Ascii s 0
+  ascii_none = record { room = omega arith; each = λ k g. absurd (not-suc-le-zero g) }
 
   pub ascii_rest : (i : ℕ) → Ascii s i → utf8 s ≡ utf8 (drop i s)
   ascii_rest i a =

@@ -241,6 +241,30 @@ pub fn valid(s: &[u8]) -> bool
     valid_from(s, i)
 }
 
+// Whether the last n bytes of s are found to be ASCII by blocks of eight, the last of which may begin before them, so that no loop over single bytes is
+// needed. False tells nothing: not eight bytes stand there, or a byte before the n is not ASCII, or the n are 64 or more.
+fn quickly_ascii(s: &[u8], n: usize) -> bool
+    requires { n ≤ length s.now }
+    ensures { result ≡ true → Ascii (drop (length s.now - n) s.now) n }
+{
+    let end = s.len();
+    if end < 8 {
+        return false;
+    }
+    if n <= 8 {
+        return s[end - 8..].is_ascii();
+    }
+    n < 64 && n - past_ascii(&s[end - n..], 0, 8) <= 8 && s[end - 8..].is_ascii()
+}
+
+// Whether the bytes of s from a place on are well-formed: as `valid` of those, for a caller who has bytes before them, as a record's kind and length are.
+pub fn valid_rest(s: &[u8], from: usize) -> bool
+    ensures { result ≡ utf8 (drop from s.now) }
+{
+    let rest = base::get_from(s, from);
+    quickly_ascii(s, rest.len()) || valid_from(rest, 0)
+}
+
 // Whether a byte starts a character: it is none of 0x80 to 0xBF.
 pub fn starts_character(b: u8) -> bool
     ensures { result ≡ not (continues b) }

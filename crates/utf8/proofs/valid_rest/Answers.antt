@@ -1,0 +1,12 @@
+use Rattle.utf8.proofs.Names.{◌∙◌, refl, length, drop}
+use Rattle.utf8.proofs.Laws.{last_is}
+use Rattle.utf8.proofs.Neighbours.{ascii_all}
+use Rattle.utf8.proofs.valid_rest.Goals as goal
+
+pub returns-then-quickly_ascii : goal.returns-then-quickly_ascii
+returns-then-quickly_ascii c =
+    let s = c.args.s.now in
+    let from = c.args.from in
+    let a = c.quickly_ascii.ensures c.if-quickly_ascii.true in
+    let all = rw (last_is from s) at (rw c.get_from-rest.ensures at a) in
+    c.if-quickly_ascii.true ∙ ascii_all (drop from s) (length (drop from s)) all refl
