@@ -19,7 +19,7 @@ pub enum Escape {
 
 // A byte of a chunk, or what stands for it.
 #[tactic(auto, unfolding(utf8::specs::Utf8::bytes, utf8::specs::Utf8::encode, html_rules::specs::Html::entity, html_rules::specs::Markdown::bracket, crate::proofs::Names::choose))]
-fn put_escape(t: &mut Text, byte: u8, how: Escape)
+pub fn put_escape(t: &mut Text, byte: u8, how: Escape)
     ensures { text_of t.new ≡ with_bytes (entity_of how byte) (text_of t.old) }
 {
     match (how, byte) {

@@ -1,6 +1,6 @@
 -- The bytes of a line, escaped: what is shown and the rest of the line, a run or a byte further on. Assumes nothing.
 use Rattle.html_lines.proofs.Names.{ℕ, ◌+◌, ◌-◌, ◌≤◌, ◌<◌, ◌≡◌, refl, sym, ap, ◌∙◌, Bool, true, false, ◌&&◌, ◌||◌, false≢true, List, [], ◌∷◌, ◌++◌}
-use Rattle.html_lines.proofs.Names.{append_assoc, length, drop, get_or, length-append, arith, part}
+use Rattle.html_lines.proofs.Names.{append_assoc, append-nil, length, drop, get_or, length-append, arith, part}
 use Rattle.html_lines.proofs.Names.{Cursor, before-stop, before-go, before-none}
 use Rattle.html_lines.proofs.Names.{before-part, before-after, entity, escaped, escaped_by, line_from, plain_line}
 use mathlib.Core.Logic.{◌⊎◌, ⊎_elim}
@@ -111,13 +111,12 @@ module _ (strict : Bool) (body : List ℕ) (at : ℕ) (old : Lent) where
 
     -- a byte is written
     pub left_byte : (new : Lent) → i < length body → is_line_end (get_or body i 0) ≡ false
-        → new ≡ with_bytes (escaped strict (part body i (i + 1))) v → Left strict body at old new (i + 1)
+        → new ≡ with_bytes (entity strict (get_or body i 0)) v → Left strict body at old new (i + 1)
+    unfolding escaped_by
     left_byte new h e w =
-        let x = get_or body i 0 ∷ [] in
-        let k : i + 1 - i ≡ 1 = omega arith in
-        let one : part body i (i + 1) ≡ x = rw (k, drop-cons body i 0 h) refl in
-        left-part new x (i + 1) (before-go is_line_end body i h e) refl
-        (w ∙ ap (λ (y : List ℕ). with_bytes (escaped strict y) v) one)
+        let b = get_or body i 0 in
+        left-part new (b ∷ []) (i + 1) (before-go is_line_end body i h e) refl
+        (w ∙ ap (λ (y : List ℕ). with_bytes y v) (sym (append-nil (entity strict b))))
 
   -- no byte is left
   module _ (t : Text) {i : ℕ} (l : Left strict body at old (text_of t) i) where

@@ -14,6 +14,16 @@ use room::Text;
 use splitter::Code;
 use splitter_iter::Splitter;
 
+// A run of bytes that stand for themselves, if there is one: between two marks side by side there is none. Without the test HTML takes 1.02 to 1.07 of the
+// time.
+fn put_run(t: &mut Text, run: &[u8])
+    ensures { text_of t.new ≡ with_bytes run.now (text_of t.old) }
+{
+    if !run.is_empty() {
+        t.put_all(run);
+    }
+}
+
 // The bytes of a body from a place up to the next line end, escaped; where in the body the line ends. The place goes on by a run and a byte at a time,
 // which no `for` counts.
 fn put_up_to_end(t: &mut Text, body: &[u8], at: usize, strict: bool) -> usize
@@ -23,11 +33,11 @@ fn put_up_to_end(t: &mut Text, body: &[u8], at: usize, strict: bool) -> usize
     let mut i = at;
     loop {
         let to = runs::run_end(body, i, b'\n', b'<', b'>', b'&');
-        t.put_all(base::get(body, i, to));
+        put_run(t, base::get(body, i, to));
         if body.len() <= to || body[to] == b'\n' {
             return to;
         }
-        html_escape::put_escaped(t, base::get(body, to, to + 1), Escape::Html { strict });
+        html_escape::put_escape(t, body[to], Escape::Html { strict });
         i = to + 1;
     }
 }
