@@ -1,11 +1,10 @@
 -- The bytes of a line, escaped: what is shown and the rest of the line, a run or a byte further on. Assumes nothing.
-use Rattle.html_lines.proofs.Names.{ℕ, ◌+◌, ◌-◌, ◌≤◌, ◌<◌, ◌≡◌, refl, sym, ap, ◌∙◌, Bool, true, false, ◌&&◌, ◌||◌, false≢true, List, [], ◌∷◌, ◌++◌}
+use Rattle.html_lines.proofs.Names.{ℕ, ◌+◌, ◌≤◌, ◌<◌, ◌≡◌, refl, sym, ap, ◌∙◌, Bool, true, false, ◌&&◌, ◌||◌, false≢true, List, [], ◌∷◌, ◌++◌}
 use Rattle.html_lines.proofs.Names.{append_assoc, append-nil, length, drop, get_or, length-append, arith, part}
 use Rattle.html_lines.proofs.Names.{Cursor, before-stop, before-go, before-none}
 use Rattle.html_lines.proofs.Names.{before-part, before-after, entity, escaped, escaped_by, line_from, plain_line}
 use mathlib.Core.Logic.{◌⊎◌, ⊎_elim}
 use lib.Dec.{eqb}
-use lib.Seq.{drop-cons}
 use Rattle.base.specs.Choice.{when◌then◌else◌}
 use Rattle.utf8.specs.Utf8.{bytes}
 use Rattle.splitter.specs.Split.{before, is_line_end, line}
