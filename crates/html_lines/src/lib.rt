@@ -14,7 +14,7 @@ use room::Text;
 use splitter::Code;
 use splitter_iter::Splitter;
 
-// A run of bytes that stand for themselves, if there is one: between two marks side by side there is none. Without the test HTML takes 1.02 to 1.07 of the
+// A run of bytes that stand for themselves, if there is one: between two marks side by side there is none. Without the test HTML takes 1.03 to 1.07 of the
 // time.
 fn put_run(t: &mut Text, run: &[u8])
     ensures { text_of t.new ≡ with_bytes run.now (text_of t.old) }

@@ -1,8 +1,8 @@
 -- Text is well-formed exactly where each byte may stand after the three before it and the last three leave no character open: `utf8-sound`.
 -- Then the same from a place on, as the code tests it by blocks.
 -- Assumes nothing.
-use Rattle.utf8.proofs.Names.{not-suc-le-zero, ◌≡◌, refl, ap, sym, ◌∙◌, ⊎_elim, Bool, beq, true, false, not, ◌&&◌, ◌||◌, or-true, false≢true, List, [], ◌∷◌, ℕ, zero, suc}
-use Rattle.utf8.proofs.Names.{◌+◌, ◌-◌, ◌/◌, ◌<◌, ◌≤◌, add-zero, add-one, arith, leb, eqb, eqb-true, eqb-false}
+use Rattle.utf8.proofs.Names.{◌≡◌, refl, ap, sym, ◌∙◌, ⊎_elim, Bool, beq, true, false, not, ◌&&◌, ◌||◌, or-true, false≢true, List, [], ◌∷◌, ℕ, zero, suc}
+use Rattle.utf8.proofs.Names.{◌+◌, ◌-◌, ◌/◌, ◌<◌, ◌≤◌, not-suc-le-zero, add-zero, add-one, arith, leb, eqb, eqb-true, eqb-false}
 use Rattle.utf8.proofs.Names.{length, get_or, take, drop, drop-cons, drop-length, le-leb, lt-leb}
 use Rattle.utf8.proofs.Names.{lt-ltb, le-ltb, leb-true, leb-false, pick, le_or_lt, and_left, and_right, and_both}
 use Rattle.utf8.proofs.Names.{if_true, if_false, same_test, not-passed, Range, ◌to◌, within, row_of, never, well_formed, utf8, low, high, Ascii}

@@ -257,7 +257,8 @@ fn quickly_ascii(s: &[u8], n: usize) -> bool
     n < 64 && n - past_ascii(&s[end - n..], 0, 8) <= 8 && s[end - 8..].is_ascii()
 }
 
-// Whether the bytes of s from a place on are well-formed: as `valid` of those, for a caller who has bytes before them, as a record's kind and length are.
+// Whether the bytes of s from a place on are well-formed, as `valid` says it of those bytes alone. The bytes before them serve the test of short texts: by
+// `valid` the check of a page of options takes 1.1 to 1.3 of the time.
 pub fn valid_rest(s: &[u8], from: usize) -> bool
     ensures { result ≡ utf8 (drop from s.now) }
 {
