@@ -8,7 +8,7 @@ use lib.ListN.{set, length-set, length-append, drop_of_length-le}
 use lib.Seq.{take-take, take-append-add, take-add, take-suc-set, length-take-le, drop-cons, drop-drop, get_or-take, take_all}
 use native.Mathlib.Numerals.{add-one}
 use Rattle.std.specs.Borrow.{GName}
-use Rattle.std.proofs.lemmas.List.{take-append-drop}
+use Rattle.std.proofs.lemmas.List.{take-append-le, take-append-drop}
 use Rattle.base.proofs.Results.{refused-gives}
 use Rattle.std.specs.Int.{from_bool}
 use Rattle.utf8.proofs.Laws.{adds}
@@ -187,6 +187,19 @@ pub stopped_join : (x : List ℕ) (i n : ℕ) → Stopped (take (length x - i) (
 stopped_join x i n s h =
     let e : take (length x - i) (drop i x) ≡ drop i x = take_all (length x - i) (drop i x) (omega (arith, length-drop i x)) in
     sym (get_or-drop i x n 0) ∙ ap (λ (y : List ℕ). get_or y n 0) (sym e) ∙ s (omega (arith, ap length e, length-drop i x))
+
+-- what was copied into the first bytes was copied into all
+pub copying_within : (x old new : List ℕ) (n len width : ℕ) → n ≤ length old → length x ≤ n → Copying x (take n old) new len width
+    → Copying x old (new ++ drop n old) len width
+copying_within x old new n len width h l c =
+    let k : length new ≡ n = omega (arith, c.size, length-take-le n old h) in
+    record {
+      size = omega (arith, length-append new (drop n old), k, length-drop n old);
+      near = c.near;
+      plain = c.plain;
+      counts = c.counts;
+      copied = take-append-le len new (drop n old) (omega (arith, c.near, k)) ∙ c.copied;
+    }
 
 -- what was copied of the first bytes of a text was copied of the text
 pub line_of : (x old new : List ℕ) (n len width : ℕ) → n ≤ length x → Copying (take n x) old new len width
