@@ -23,7 +23,7 @@ pub const MAX_OPEN: usize = 32;
 // The blocks that are open, the innermost last, in fixed memory (no heap, a rule of the project), of which the first `depth` count. Any number of slots will
 // do; a check takes as many as blocks may be open.
 // (Not the kit's `arrayvec::ArrayVec`: tried, it proves, but its `pop` overwrites what goes, two instructions at each block's end: 1.1 % of the check of a
-// page of options, where the check stands at its bar.)
+// page of options.)
 #[derive(Drop)]
 pub struct OpenBlocks<const N: usize> {
     blocks: [Block; N],

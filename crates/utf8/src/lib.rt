@@ -67,7 +67,7 @@ pub fn is_ascii(s: &[u8]) -> bool
 }
 
 // `Ascii s.now _` stands in the contracts of this, `wide` and `valid_from`: with a struct of the text and the place, and this as its method, a check runs 0.1 to
-// 0.2 % more instructions on pages of options, where it stands at its bar of 0.8, and 1.0 % more on text that is not ASCII.
+// 0.2 % more instructions on pages of options, and 1.0 % more on text that is not ASCII.
 // Goes on from a by blocks of w bytes while they are ASCII, and returns where it stands. A loop by hand, since over `as_chunks` with w as a const parameter
 // the check of text that is not ASCII runs 2.9 % more instructions.
 fn past_ascii(s: &[u8], a: usize, w: usize) -> usize
@@ -212,7 +212,8 @@ fn wide(s: &[u8], from: usize) -> bool
 }
 
 // Whether s, of which all before `from` is ASCII, is well-formed. `valid` calls it twice, so that the compiler puts `valid` into its callers and not this
-// into `valid`: most texts are short and ASCII, and where `valid` is this one call the check of a page of options runs 17.5 % more instructions.
+// into `valid`: most texts are short and ASCII. (Where `valid` was this one call, the check of a page of options, which went by `valid` then, ran 17.5 % more
+// instructions.)
 fn valid_from(s: &[u8], from: usize) -> bool
     requires { Ascii s.now from }
     ensures { result ≡ utf8 s.now }
