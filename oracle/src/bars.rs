@@ -42,8 +42,8 @@ const BARS: &[Bar] = &[
     bar("draft (rust: from_utf8)", 1.0),
 ];
 
-/// On each of the worst pages: at most 3 times the Rust's time, and at most 12 ns for each byte of the stored document. Where that is met on one machine
-/// and not on a slower one, at most twice the Rust's time stands in.
+/// On each of the worst pages: at most 3 times the Rust's time, and at most 12 ns for each byte of the stored document. Over 12 ns is a fault only where it
+/// is over twice the Rust's time too: they were met on one machine, and on a slower one the Rust itself takes up to 23.
 const MOST_RATIO: f64 = 3.0;
 const MOST_EACH: f64 = 12.0;
 const MOST_BESIDE: f64 = 2.0;
@@ -59,7 +59,7 @@ const fn instead(call: &'static str, page: &'static str, most: f64) -> Instead {
     Instead { call, page, most }
 }
 
-/// Why, and what was tried: docs/DECISIONS.md, 'Bars that cannot be had'. The figures are some 5 to 10 parts in 100 above what was measured.
+/// Why, and what was tried: docs/DECISIONS.md, 'Bars that cannot be had'. The figures are 4 to 12 parts in 100 above the most that was measured.
 const INSTEAD: &[Instead] = &[
     instead("console, room as needed", "nonascii.doc", 0.66),
     instead("markdown", "nonascii.doc", 0.57),
@@ -247,7 +247,7 @@ mod tests {
         for it in INSTEAD {
             let bar = BARS.iter().find(|bar| bar.call == it.call).and_then(|bar| bar.most);
             let worst = worst::PAGES.iter().any(|page| page.name == it.page);
-            let asked = if worst { Some(MOST_RATIO) } else { bar };
+            let asked = if it.page.ends_with(".doc") { bar } else { worst.then_some(MOST_RATIO) };
             assert!(asked.is_some_and(|asked| asked < it.most), "{} {}", it.call, it.page);
         }
     }

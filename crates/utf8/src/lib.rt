@@ -59,7 +59,7 @@ fn size(s: &[u8]) -> Option<usize>
 }
 
 // Whether each of some bytes is ASCII, for blocks of 64 as `printing` has them: by std's `is_ascii`, which goes by 8, the console runs 0.5 % more
-// instructions and took 3 to 4 % more time. (`past_ascii` and `plain` take std's: with it the check of a page of options runs 9 to 10 % fewer.)
+// instructions and took 3 to 4 % more time. (`past_ascii`, `plain` and `quickly_ascii` take std's: with it the check of a page of options runs 9 to 10 % fewer.)
 pub fn is_ascii(s: &[u8]) -> bool
     ensures { result ≡ is_ascii s.now }
 {
@@ -243,7 +243,7 @@ pub fn valid(s: &[u8]) -> bool
 }
 
 // Whether the last n bytes of s are found to be ASCII by blocks of eight, the last of which may begin before them, so that no loop over single bytes is
-// needed. False tells nothing: not eight bytes stand there, or a byte before the n is not ASCII, or the n are 64 or more.
+// needed. False tells nothing: s may have fewer than eight bytes, a byte before the n may not be ASCII, or the n may be 64 or more.
 fn quickly_ascii(s: &[u8], n: usize) -> bool
     requires { n ≤ length s.now }
     ensures { result ≡ true → Ascii (drop (length s.now - n) s.now) n }
@@ -258,8 +258,8 @@ fn quickly_ascii(s: &[u8], n: usize) -> bool
     n < 64 && n - past_ascii(&s[end - n..], 0, 8) <= 8 && s[end - 8..].is_ascii()
 }
 
-// Whether the bytes of s from a place on are well-formed, as `valid` says it of those bytes alone. The bytes before them serve the test of short texts: by
-// `valid` the check of a page of options takes 1.1 to 1.3 of the time.
+// Whether the bytes of s from a place on are well-formed, as `valid` answers for those bytes alone. The bytes before them serve the test of short texts: by
+// `valid` the check of a page of options takes 1.1 to 1.5 of the time.
 pub fn valid_rest(s: &[u8], from: usize) -> bool
     ensures { result ≡ utf8 (drop from s.now) }
 {

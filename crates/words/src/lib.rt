@@ -124,7 +124,7 @@ fn copy_line(free: &mut [u8], line: &[u8]) -> Run
 }
 
 // Copies the words and spaces at the start of a text, outside ticks, into what is free of a room: as many as end by a line end, within `most`
-// bytes and within the room. Bytes past those may be written too. Both parts are cut to one length, which the compiler then tests once for each block: the
+// bytes and within the room. Bytes past those may be written too. Both slices are cut to one length, which the compiler then tests once for each block: the
 // console takes 0.97 to 1.02 of the time by that and by the order in `copy_blocks`, Markdown 0.95 to 1.01.
 pub fn copy_run(free: &mut [u8], text: &[u8], most: usize) -> Run
     ensures { Copies text.now most free.old free.new result.len result.width }

@@ -12,6 +12,7 @@ pub returns : goal.returns
 returns c =
     let e = c.min-n.ensures in
     let n = c.min-n.result in
-    let l = copying_within _ c.args.free.now _ n _ _ (omega (arith, c.min.ensures, e)) (omega (arith, length-take n c.args.text.now)) c.copy_line-run.ensures.copying in
+    let l = copying_within _ c.args.free.now _ n _ _ (omega (arith, c.min.ensures, e)) (omega (arith, length-take n c.args.text.now))
+    c.copy_line-run.ensures.copying in
     copies_whole c.args.text.now c.args.most c.args.free.now _ n _ _ (omega (arith, c.min.ensures, e)) (omega (arith, e))
     (omega (arith, c.min.ensures, e)) (λ k a b d. omega (arith, c.min.ensures, e)) _ _ l c.copy_line-run.ensures.stopped c.whole_words.ensures
