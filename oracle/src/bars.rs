@@ -59,21 +59,23 @@ const fn instead(call: &'static str, page: &'static str, most: f64) -> Instead {
     Instead { call, page, most }
 }
 
-/// Why, and what was tried: docs/DECISIONS.md, 'Bars that cannot be had'. The figures are 4 to 12 parts in 100 above the most that was measured.
+/// Why, and what was tried: docs/DECISIONS.md, 'Bars that cannot be had'. The figures are 6 to 10 parts in 100 above the most that was measured.
 const INSTEAD: &[Instead] = &[
     instead("console, room as needed", "nonascii.doc", 0.66),
     instead("markdown", "nonascii.doc", 0.57),
-    instead("console, room 65,536", "nonascii.doc", 0.72),
+    instead("console, room 65,536", "nonascii.doc", 0.75),
     instead("console, room 65,536", "options-2k.doc", 0.65),
+    instead("markdown, room 65,536", "nonascii.doc", 0.65),
+    instead(DRAFT, "options-2k.doc", 1.3),
     instead(DRAFT, "options-8k.doc", 1.7),
     instead(DRAFT, "options-30k.doc", 1.85),
     instead(DRAFT, "nonascii.doc", 2.15),
-    instead("roff", "pairs of DefinitionList", 6.7),
-    instead("roff", "pairs of InlineBlock", 6.7),
-    instead("roff", "pairs of Mono", 6.7),
-    instead("roff", "InlineBlocks 32 deep", 6.9),
-    instead("roff", "Section4 32 deep, empty texts", 4.3),
-    instead("roff", "a heading of empty texts", 5.1),
+    instead("roff", "pairs of DefinitionList", 6.9),
+    instead("roff", "pairs of InlineBlock", 6.9),
+    instead("roff", "pairs of Mono", 6.9),
+    instead("roff", "InlineBlocks 32 deep", 7.0),
+    instead("roff", "Section4 32 deep, empty texts", 4.2),
+    instead("roff", "a heading of empty texts", 5.0),
     instead("roff", "a heading of blocks", 10.2),
     instead("html", "ampersands", 3.4),
 ];
