@@ -73,7 +73,7 @@ const INSTEAD: &[Instead] = &[
     instead("roff", "pairs of DefinitionList", 6.9),
     instead("roff", "pairs of InlineBlock", 6.9),
     instead("roff", "pairs of Mono", 6.9),
-    instead("roff", "InlineBlocks 32 deep", 7.0),
+    instead("roff", "InlineBlocks 32 deep", 7.3),
     instead("roff", "Section4 32 deep, empty texts", 4.2),
     instead("roff", "a heading of empty texts", 5.0),
     instead("roff", "a heading of blocks", 10.2),
