@@ -6,7 +6,7 @@
 
 use std::hint::black_box;
 
-use crate::bars::{self, Row};
+use crate::bars::{self, Faults, Row};
 use crate::buffer::{Color, Token};
 use crate::cases::Call;
 use crate::port::{number, number_by_draft, Stored};
@@ -328,7 +328,7 @@ pub fn accepts(document: &[u8]) -> bool {
 }
 
 /// Rendering and building of the pages given; prints the worst ratios, and says what is over its bar.
-pub fn five_pages(pages: &[(String, Vec<u8>)]) -> Vec<String> {
+pub fn five_pages(pages: &[(String, Vec<u8>)]) -> Faults {
     keep_memory();
     let (mut rendering, mut building) = (Table::default(), Table::default());
     for sitting in 1..=SITTINGS {
@@ -624,7 +624,7 @@ fn renderers(full: bool) -> [(&'static str, Renderer); 7] {
 }
 
 /// Each renderer on each of the worst pages; prints the worst figures, and says what is over its bar.
-pub fn worst_pages() -> Vec<String> {
+pub fn worst_pages() -> Faults {
     keep_memory();
     let mut table = Table::default();
     for sitting in 1..=WORST_SITTINGS {

@@ -3,6 +3,7 @@
 use std::io::{self, Read, Write};
 use std::process::ExitCode;
 
+use oracle::bars::Faults;
 use oracle::bench;
 use oracle::cases::{answer, list, pattern, Answer, Call, Case};
 use oracle::figures;
@@ -24,8 +25,8 @@ usage: oracle answer console|html|html_strict|markdown|roff
        oracle compare --seed S --cases N [--only SUBJECT,..]
        oracle selfcheck --seed S --cases N [--only SUBJECT,..]
        oracle reach --seed S --cases N
-       oracle bench [--bar 0|1] DOCUMENT..
-       oracle growth [--bar 0|1] DOCUMENT
+       oracle bench [--bar 0|1] [--allowed 0|1] DOCUMENT..
+       oracle growth [--bar 0|1] [--allowed 0|1] DOCUMENT
        oracle drafts --seed S --cases N
        oracle notes < notes > document
        oracle bundle DOCUMENT.. > bundle
@@ -125,8 +126,8 @@ fn main() -> ExitCode {
             }
             "selfcheck" => Arguments::read(arguments, &["seed", "cases", "only"])
                 .and_then(|a| run_selfcheck(&a)),
-            "bench" => Arguments::read(arguments, &["bar"]).and_then(|a| run_bench(&a)),
-            "growth" => Arguments::read(arguments, &["bar"]).and_then(|a| run_growth(&a)),
+            "bench" => Arguments::read(arguments, &["bar", "allowed"]).and_then(|a| run_bench(&a)),
+            "growth" => Arguments::read(arguments, &["bar", "allowed"]).and_then(|a| run_growth(&a)),
             "drafts" => Arguments::read(arguments, &["seed", "cases"]).and_then(|a| run_drafts(&a)),
             "bundle" => Ok(run_bundle(arguments)),
             "figures" => Arguments::read(arguments, &[]).and_then(|a| run_figures(&a)),
@@ -212,22 +213,33 @@ fn status(fine: bool) -> ExitCode {
     }
 }
 
-/// Where bars are asked for, prints what is over them; whether that is nothing, or they are not asked for.
-fn barred(bar: bool, faults: &[String]) -> bool {
-    if bar {
+/// Where so much is asked for, prints what is over it; whether that is nothing, or it is not asked for.
+fn within(asked: bool, faults: &[String], what: &str) -> bool {
+    if asked {
         println!();
         for fault in faults {
             println!("{fault}");
         }
-        println!("{} over their bars", faults.len());
+        println!("{} over {what}", faults.len());
     }
-    !bar || faults.is_empty()
+    !asked || faults.is_empty()
+}
+
+/// Whether no row is over its bar, where `--bar 1` asks for that, and none over what is allowed, where `--allowed 1` does.
+fn barred((bar, allowed): (bool, bool), faults: &Faults) -> bool {
+    let bars = within(bar, &faults.bars, "their bars");
+    within(allowed, &faults.allowed, "what is allowed") && bars
+}
+
+/// What `--bar` and `--allowed` ask for.
+fn asked(arguments: &Arguments) -> Parsed<(bool, bool)> {
+    Ok((arguments.flag("bar", false)?, arguments.flag("allowed", false)?))
 }
 
 /// Times of the port and of the Rust on stored documents: rendering, then building. With `--bar 1` it fails
-/// where one is over its bar.
+/// where one is over its bar, with `--allowed 1` where one is over what is allowed.
 fn run_bench(arguments: &Arguments) -> Parsed<ExitCode> {
-    let bar = arguments.flag("bar", false)?;
+    let asked = asked(arguments)?;
     let mut pages = Vec::new();
     let read = |path: &String| {
         timed(path, |name, document| {
@@ -236,15 +248,15 @@ fn run_bench(arguments: &Arguments) -> Parsed<ExitCode> {
     };
     let refused = arguments.operands.iter().map(read).filter(|read| !read).count();
     let faults = bench::five_pages(&pages);
-    Ok(status(barred(bar, &faults) && refused == 0))
+    Ok(status(barred(asked, &faults) && refused == 0))
 }
 
 /// Times on pages of 1 to 32 KB that are made from one stored document, then on the worst pages. With `--bar 1`
-/// it fails where one of these is over its bar.
+/// it fails where one of these is over its bar, with `--allowed 1` where one is over what is allowed.
 fn run_growth(arguments: &Arguments) -> Parsed<ExitCode> {
-    let bar = arguments.flag("bar", false)?;
+    let asked = asked(arguments)?;
     let fine = timed(arguments.operand()?, bench::growth);
-    Ok(status(barred(bar, &bench::worst_pages()) && fine))
+    Ok(status(barred(asked, &bench::worst_pages()) && fine))
 }
 
 /// Random sequences of builder calls, by a draft and without one.
