@@ -76,8 +76,8 @@ const ALLOWED: &[Allowed] = &[
     allowed("roff", "pairs of InlineBlock", 6.9),
     allowed("roff", "pairs of Mono", 6.9),
     allowed("roff", "InlineBlocks 32 deep", 7.3),
-    allowed("roff", "Section4 32 deep, empty texts", 4.2),
-    allowed("roff", "a heading of empty texts", 5.0),
+    allowed("roff", "Section4 32 deep, empty texts", 4.4),
+    allowed("roff", "a heading of empty texts", 5.2),
     allowed("roff", "a heading of blocks", 10.2),
     allowed("html", "ampersands", 3.4),
 ];
