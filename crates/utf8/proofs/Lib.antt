@@ -4,4 +4,5 @@ pub mod Neighbours
 pub mod Text
 pub mod Scalars
 pub mod Characters
+pub mod Lanes
 pub mod Samples

@@ -2,12 +2,16 @@
 
 #![tactic(auto)]
 
-ghost use Rattle.std.specs.Prelude.{◌≡◌, ◌≢◌, ℕ, Bool, true, false, not, [], ◌∷◌, ◌<◌, ◌≤◌, ◌+◌, ◌-◌, ◌*◌, ◌^◌, ◌&&◌};
-ghost use Rattle.std.specs.Prelude.{length, drop, replicate, suc, get_or, MatchOption, MatchBool};
+ghost use Rattle.std.specs.Prelude.{◌≡◌, ◌≢◌, ℕ, Bool, true, false, not, [], ◌∷◌, ◌<◌, ◌≤◌, ◌+◌, ◌-◌, ◌*◌, ◌^◌, ◌&&◌, ◌||◌};
+ghost use Rattle.std.specs.Prelude.{length, take, drop, map, eqb, replicate, suc, get_or, MatchOption, MatchBool};
 ghost use Rattle.base.specs.Choice.{when◌then◌else◌, among};
 ghost use Rattle.utf8.specs.Utf8.{◌to◌, utf8, characters, continues, begins, size_of, row_of, character_at};
 ghost use Rattle.utf8.specs.InnerNeighbours.{asks, low, high, beside};
 ghost use Rattle.utf8.specs.InnerParts.{is_ascii, sound_at, Ascii, Tested, Plain, Window};
+ghost use Rattle.std.specs.List.{prefix_len};
+ghost use Rattle.std.specs.Simd.Lanes.{mask_l};
+
+use std::simd::prelude::*;
 
 // Whether s begins with a byte from lo to hi, and with `more` bytes from 0x80 to 0xBF after it.
 fn begins(s: &[u8], lo: u8, hi: u8, more: usize) -> bool
@@ -280,6 +284,46 @@ pub fn count(s: &[u8]) -> usize
     ensures { result ≡ characters s.now }
 {
     base::count(s, starts_character)
+}
+
+// The bits of the lanes that are one of two bytes.
+fn places_of(v: u8x16, a: u8, b: u8) -> u64
+    ensures { result ≡ mask_l (map (λ x. eqb x a || eqb x b) v) }
+{
+    (v.simd_eq(u8x16::splat(a)) | v.simd_eq(u8x16::splat(b))).to_bitmask()
+}
+
+// The bits of the lanes that start a character.
+fn starts_of(v: u8x16) -> u64
+    ensures { result ≡ mask_l (map (λ x. not (continues x)) v) }
+{
+    (v & u8x16::splat(0xC0))
+        .simd_ne(u8x16::splat(0x80))
+        .to_bitmask()
+}
+
+// How many bytes stand at the front of a block, and how many of them start a character.
+#[derive(Clone, Copy)]
+pub struct Part {
+    pub len: usize,
+    pub width: usize,
+}
+
+// The first of 16 bytes up to one of two bytes, at most `most`. No loop and no branch hangs on a byte.
+pub fn front(block: &[u8; 16], a: u8, b: u8, most: usize) -> Part
+    ensures len { result.len ≡ prefix_len (λ x. not (eqb x a || eqb x b)) (take most block.now) }
+    ensures width { result.width ≡ characters (take result.len block.now) }
+{
+    let v = u8x16::from_array(*block);
+    let found = places_of(v, a, b);
+    let first = if found == 0 {
+        16
+    } else {
+        found.trailing_zeros() as usize
+    };
+    let len = first.min(most);
+    let width = (starts_of(v) % (1 << len as u32)).count_ones() as usize;
+    Part { len, width }
 }
 
 // A code point so far, with the payload of a byte more.

@@ -1,0 +1,91 @@
+-- What the masks of a vector's lanes say of its bytes. A lane that is computed from a byte is held to a test of bytes at each of the 256.
+-- Assumes nothing.
+use Rattle.utf8.proofs.Names.{◌≡◌, refl, ap, ap₂, sym, ◌∙◌, Bool, beq, true, false, ◌&&◌, ◌||◌, List, [], ◌∷◌, ℕ, zero, suc, ◌+◌, ◌*◌, ◌/◌, ◌%◌}
+use Rattle.utf8.proofs.Names.{◌<◌, ◌≤◌, arith, eqb, length, take, and_left, and_right, ⊎_elim, eq_or_not}
+use Rattle.std.proofs.Common.{◌^◌, map, replicate, cond, w8, Fits}
+use Rattle.std.specs.List.{prefix_len, count_by}
+use Rattle.std.proofs.lemmas.List.{length-map, take-map}
+use native.Mathlib.Nat.{pow-zero, pow-suc, zero-mod, mod-one}
+use lib.Arith.{mod-mul}
+use Rattle.std.proofs.lemmas.Simd.{mask_l-mod, ones-mask_l, zip2_splat, zip2_of_maps}
+use lib.Count.{ones as count_ones}
+use Rattle.std.proofs.lemmas.Nat.{pow_pos}
+use Rattle.std.specs.Prelude.{min}
+use lib.Bits.{bit_or}
+use lib.Lanes.{zip2, mask_l, top, Each1}
+
+-- every number below n passes p
+abbrev pub upto : (ℕ → Bool) → ℕ → Bool
+upto p zero = true
+upto p (suc n) = p n && upto p n
+
+beq_is : (a b : Bool) → beq a b ≡ true → a ≡ b
+beq_is true true e = refl
+beq_is false false e = refl
+beq_is true false e = sym e
+beq_is false true e = e
+
+pub upto_sound : (p : ℕ → Bool) (n : ℕ) → upto p n ≡ true → (x : ℕ) → x < n → p x ≡ true
+upto_sound p zero e x h = absurd (let z : ⊥ = omega arith in z)
+upto_sound p (suc n) e x h =
+    ⊎_elim (λ (q : x ≡ n). rw q (and_left (p n) (upto p n) e)) (λ (q : x ≡ n → ⊥). upto_sound p n (and_right (p n) (upto p n) e) x (omega arith)) (eq_or_not x n)
+
+-- the top bits of lanes f x are what p says of the bytes x
+each_byte : (f : ℕ → ℕ) (p : ℕ → Bool) → upto (λ x. beq (top 7 (f x)) (p x)) 256 ≡ true → (v : List ℕ) → Each1 (Fits w8) v
+    → map (top 7) (map f v) ≡ map p v
+each_byte f p all [] fits = refl
+each_byte f p all (x ∷ xs) fits =
+    ap₂ (λ a b. a ∷ b) (beq_is _ _ (upto_sound (λ y. beq (top 7 (f y)) (p y)) 256 all x fits.0.fits)) (each_byte f p all xs fits.1)
+
+pub masked : (f : ℕ → ℕ) (p : ℕ → Bool) (v z : List ℕ) → length v ≤ 64 → Each1 (Fits w8) v → z ≡ map f v
+    → upto (λ x. beq (top 7 (f x)) (p x)) 256 ≡ true → mask_l (map (top 7) z) % 2 ^ 64 ≡ mask_l (map p v)
+masked f p v z short fits e all =
+    ap (λ l. mask_l l % 2 ^ 64) (ap (map (top 7)) e ∙ each_byte f p all v fits) ∙ mask_l-mod (map p v) 64 (omega (arith, length-map v p))
+
+-- the lanes that are one of two bytes
+abbrev pub hit : ℕ → ℕ → ℕ
+hit x y = cond (eqb x y) 255 0
+
+or_hits : (s t : Bool) → top 7 (bit_or (cond s 255 0) (cond t 255 0)) ≡ (s || t)
+or_hits true true = refl
+or_hits true false = refl
+or_hits false true = refl
+or_hits false false = refl
+
+each_hit : (a b : ℕ) (v : List ℕ) → map (top 7) (map (λ x. bit_or (hit x a) (hit x b)) v) ≡ map (λ x. eqb x a || eqb x b) v
+each_hit a b [] = refl
+each_hit a b (x ∷ xs) = ap₂ (λ s r. s ∷ r) (or_hits (eqb x a) (eqb x b)) (each_hit a b xs)
+
+pub two_marked : (a b n : ℕ) (v : List ℕ) → length v ≡ n → n ≤ 64
+    → mask_l (map (top 7) (zip2 bit_or (zip2 hit v (replicate n a)) (zip2 hit v (replicate n b)))) % 2 ^ 64 ≡ mask_l (map (λ x. eqb x a || eqb x b) v)
+two_marked a b n v long short =
+    let lanes = zip2_of_maps bit_or (λ x. hit x a) (λ x. hit x b) v (zip2_splat hit v n a long) (zip2_splat hit v n b long) in
+    ap (λ l. mask_l l % 2 ^ 64) (ap (map (top 7)) lanes ∙ each_hit a b v) ∙ mask_l-mod (map (λ x. eqb x a || eqb x b) v) 64 (omega (arith, length-map v (λ x. eqb x a || eqb x b)))
+
+-- the lowest bits of a mask are the first lanes
+low_bit : (m : Bool) (r p : ℕ) → 0 < p → (cond m 1 0 + 2 * r) % (p * 2) ≡ cond m 1 0 + 2 * (r % p)
+low_bit true r p h = let q : (1 + 2 * r) / 2 ≡ r = omega arith in mod-mul (1 + 2 * r) h (omega arith) ∙ rw q (omega arith)
+low_bit false r p h = let q : (0 + 2 * r) / 2 ≡ r = omega arith in mod-mul (0 + 2 * r) h (omega arith) ∙ rw q (omega arith)
+
+pub mask_take : (ms : List Bool) (k : ℕ) → mask_l ms % 2 ^ k ≡ mask_l (take k ms)
+mask_take [] zero = refl
+mask_take [] (suc k) = zero-mod (2 ^ suc k)
+mask_take (m ∷ ms) zero = ap (λ n. mask_l (m ∷ ms) % n) (pow-zero 2) ∙ mod-one (mask_l (m ∷ ms))
+mask_take (m ∷ ms) (suc k) =
+    ap (λ n. mask_l (m ∷ ms) % n) (pow-suc 2 k) ∙ low_bit m (mask_l ms) (2 ^ k) (pow_pos k) ∙ ap (λ r. cond m 1 0 + 2 * r) (mask_take ms k)
+
+module _ (p : ℕ → Bool) where
+  pub count_front : (v : List ℕ) (k : ℕ) → count_ones (mask_l (map p v) % 2 ^ k) ≡ count_by p (take k v)
+  count_front v k = ap count_ones (mask_take (map p v) k ∙ ap mask_l (take-map p k v)) ∙ ones-mask_l p (take k v)
+
+  -- a run within the first bytes
+  pub run_within : (xs : List ℕ) (m : ℕ) → prefix_len p (take m xs) ≡ min (prefix_len p xs) m
+  run_within [] zero = omega arith
+  run_within [] (suc m) = omega arith
+  run_within (x ∷ xs) zero = omega arith
+  run_within (x ∷ xs) (suc m) = go (p x) (run_within xs m)
+    where
+      go : (b : Bool) → prefix_len p (take m xs) ≡ min (prefix_len p xs) m
+          → cond b (1 + prefix_len p (take m xs)) 0 ≡ min (cond b (1 + prefix_len p xs) 0) (suc m)
+      go true e = omega arith
+      go false e = omega arith
