@@ -1,13 +1,15 @@
 -- What the masks of a vector's lanes say of its bytes. A lane that is computed from a byte is held to a test of bytes at each of the 256.
 -- Assumes nothing.
+use Rattle.utf8.proofs.Laws.{not_none, not_some}
+use Rattle.utf8.specs.InnerParts.{Any}
 use Rattle.utf8.proofs.Names.{◌≡◌, refl, ap, ap₂, sym, ◌∙◌, Bool, beq, true, false, ◌&&◌, ◌||◌, List, [], ◌∷◌, ℕ, zero, suc, ◌+◌, ◌*◌, ◌/◌, ◌%◌}
-use Rattle.utf8.proofs.Names.{◌<◌, ◌≤◌, arith, eqb, length, take, and_left, and_right, ⊎_elim, eq_or_not}
+use Rattle.utf8.proofs.Names.{◌<◌, ◌≤◌, arith, eqb, eqb-true, eqb-false, not, get_or, length, take, and_left, and_right, ⊎_elim, eq_or_not}
 use Rattle.std.proofs.Common.{◌^◌, map, replicate, cond, w8, Fits}
 use Rattle.std.specs.List.{prefix_len, count_by}
 use Rattle.std.proofs.lemmas.List.{length-map, take-map}
 use native.Mathlib.Nat.{pow-zero, pow-suc, zero-mod, mod-one}
 use lib.Arith.{mod-mul}
-use Rattle.std.proofs.lemmas.Simd.{mask_l-mod, ones-mask_l, zip2_splat, zip2_of_maps}
+use Rattle.std.proofs.lemmas.Simd.{mask_l-mod, ones-mask_l, bitmask_splat, zip2_splat, zip2_of_maps}
 use lib.Count.{ones as count_ones}
 use Rattle.std.proofs.lemmas.Nat.{pow_pos}
 use Rattle.std.specs.Prelude.{min}
@@ -19,7 +21,7 @@ abbrev pub upto : (ℕ → Bool) → ℕ → Bool
 upto p zero = true
 upto p (suc n) = p n && upto p n
 
-beq_is : (a b : Bool) → beq a b ≡ true → a ≡ b
+pub beq_is : (a b : Bool) → beq a b ≡ true → a ≡ b
 beq_is true true e = refl
 beq_is false false e = refl
 beq_is true false e = sym e
@@ -89,3 +91,47 @@ module _ (p : ℕ → Bool) where
           → cond b (1 + prefix_len p (take m xs)) 0 ≡ min (cond b (1 + prefix_len p xs) 0) (suc m)
       go true e = omega arith
       go false e = omega arith
+
+-- which lanes are set
+none_set : (p : ℕ → Bool) (v : List ℕ) → mask_l (map p v) ≡ 0 → (k : ℕ) → k < length v → p (get_or v k 0) ≡ false
+none_set p [] e k h = absurd (let z : ⊥ = omega arith in z)
+none_set p (x ∷ xs) e zero h = go (p x) e
+  where
+    go : (b : Bool) → cond b 1 0 + 2 * mask_l (map p xs) ≡ 0 → b ≡ false
+    go true e = absurd (let z : ⊥ = omega arith in z)
+    go false e = refl
+none_set p (x ∷ xs) e (suc k) h = none_set p xs (omega arith) k (omega arith)
+
+one_set : (p : ℕ → Bool) (v : List ℕ) → 0 < mask_l (map p v) → (k : ℕ) × (k < length v) × (p (get_or v k 0) ≡ true)
+one_set p [] h = absurd (let z : ⊥ = omega arith in z)
+one_set p (x ∷ xs) h = go (p x) refl h (one_set p xs)
+  where
+    go : (b : Bool) → p x ≡ b → 0 < cond b 1 0 + 2 * mask_l (map p xs)
+        → (0 < mask_l (map p xs) → (k : ℕ) × (k < length xs) × (p (get_or xs k 0) ≡ true)) → (k : ℕ) × (k < length (x ∷ xs)) × (p (get_or (x ∷ xs) k 0) ≡ true)
+    go true e h r = (0, omega arith, e)
+    go false e h r = let i = r (omega arith) in (suc i.0, omega (arith, i.1), i.2)
+
+-- a lane that is not 0
+abbrev nonzero : ℕ → Bool
+nonzero x = not (eqb x 0)
+
+abbrev pub differs : ℕ → ℕ → ℕ
+differs a b = cond (not (eqb a b)) 255 0
+
+module _ (v : List ℕ) (long : length v ≡ 16) where
+  bits_of : mask_l (map (top 7) (zip2 differs v (replicate 16 0))) % 2 ^ 64 ≡ mask_l (map nonzero v)
+  bits_of = bitmask_splat w8 (λ a b. not (eqb a b)) v 16 0 long (omega arith)
+
+  all_zero : not (eqb (mask_l (map (top 7) (zip2 differs v (replicate 16 0))) % 2 ^ 64) 0) ≡ false → (k : ℕ) → k < 16 → get_or v k 0 ≡ 0
+  all_zero e k h =
+      let m : mask_l (map nonzero v) ≡ 0 = sym bits_of ∙ eqb-true _ 0 (not_some _ e) in
+      eqb-true (get_or v k 0) 0 (not_some _ (none_set nonzero v m k (omega (arith, long))))
+
+  one_nonzero : not (eqb (mask_l (map (top 7) (zip2 differs v (replicate 16 0))) % 2 ^ 64) 0) ≡ true → (k : ℕ) × (k < 16) × (get_or v k 0 ≡ 0 → ⊥)
+  one_nonzero e =
+      let n = eqb-false _ 0 (not_none _ e) in
+      let r = one_set nonzero v (omega (arith, bits_of, n)) in
+      (r.0, omega (arith, r.1, long), eqb-false (get_or v r.0 0) 0 (not_none _ r.2))
+
+  pub any_of : Any v (not (eqb (mask_l (map (top 7) (zip2 differs v (replicate 16 0))) % 2 ^ 64) 0))
+  any_of = record { none = all_zero; one = one_nonzero }

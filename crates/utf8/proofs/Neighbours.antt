@@ -1,14 +1,14 @@
 -- Text is well-formed exactly where each byte may stand after the three before it and the last three leave no character open: `utf8-sound`.
 -- Then the same from a place on, as the code tests it by blocks.
 -- Assumes nothing.
-use Rattle.utf8.proofs.Names.{◌≡◌, refl, ap, sym, ◌∙◌, ⊎_elim, Bool, beq, true, false, not, ◌&&◌, ◌||◌, or-true, false≢true, List, [], ◌∷◌, ℕ, zero, suc}
-use Rattle.utf8.proofs.Names.{◌+◌, ◌-◌, ◌/◌, ◌<◌, ◌≤◌, not-suc-le-zero, add-zero, add-one, arith, leb, eqb, eqb-true, eqb-false}
+use Rattle.utf8.proofs.Names.{◌≡◌, refl, ap, sym, subst₂, ◌∙◌, ⊎_elim, Bool, true, false, not, ◌&&◌, ◌||◌, or-true, false≢true, List, [], ◌∷◌, ℕ, zero, suc}
+use Rattle.utf8.proofs.Names.{◌+◌, ◌-◌, ◌<◌, ◌≤◌, not-suc-le-zero, add-zero, add-one, arith, leb}
 use Rattle.utf8.proofs.Names.{length, get_or, take, drop, drop-cons, drop-length, le-leb, lt-leb}
-use Rattle.utf8.proofs.Names.{lt-ltb, le-ltb, leb-true, leb-false, pick, le_or_lt, and_left, and_right, and_both}
-use Rattle.utf8.proofs.Names.{if_true, if_false, same_test, not-passed, Range, ◌to◌, within, row_of, never, well_formed, utf8, low, high, Ascii}
-use Rattle.utf8.proofs.Names.{sound_at, beside_at, Tested, and-false, get_or-take, get_or-drop, length-take-le, length-drop}
+use Rattle.utf8.proofs.Names.{lt-ltb, le-ltb, leb-true, leb-false, pick, le_or_lt, and_left, and_right}
+use Rattle.utf8.proofs.Names.{if_true, if_false, not-passed, Range, ◌to◌, within, row_of, never, well_formed, utf8, continues, low, high, Ascii}
+use Rattle.utf8.proofs.Names.{sound_at, beside_at, Tested, and-false, drop-drop, get_or-drop, length-drop}
 use Rattle.base.specs.Choice.{among}
-use Rattle.utf8.specs.InnerNeighbours.{asks, starts, beside, sound}
+use Rattle.utf8.specs.InnerNeighbours.{asks, under_way, follows, go_on, beside, sound}
 use Rattle.utf8.proofs.Laws.{tail, begins-never, fits_begins, ascii_run, ascii_part, or_none, any_range}
 use Rattle.utf8.proofs.Laws.{due_1, due_none, due_over, due_2, due_three, due_four}
 use Rattle.utf8.specs.InnerParts.{is_ascii}
@@ -40,76 +40,154 @@ high_most : (p : ℕ) → high p ≤ 0xBF
 unfolding high
 high_most p = pick (λ x. x ≤ 0xBF) _ (λ _. omega arith) (λ _. pick (λ x. x ≤ 0xBF) _ (λ _. omega arith) (λ _. omega arith))
 
+-- a byte of a range that lies in 0x80 to 0xBF lies there
+in_range : (lo hi b : ℕ) → 0x80 ≤ lo → hi ≤ 0xBF → within b (lo to hi) ≡ true → (0x80 ≤ b) × (b ≤ 0xBF)
+in_range lo hi b g h e = (
+  omega (arith, leb-true lo b (and_left (leb lo b) (leb b hi) e)),
+  omega (arith, leb-true b hi (and_right (leb lo b) (leb b hi) e)),
+)
+
+-- what stands after the three, by whether one of the first two goes on after the last
+under_way_none : (r q : ℕ) → q < 0xE0 → r < 0xF0 → under_way r q ≡ false
+under_way_none r q g h = rw (lt-leb 0xE0 q g, lt-leb 0xF0 r h)
+
+module _ (r q p b : ℕ) where
+  pub beside_closed : under_way r q ≡ false → beside r q p b ≡ follows p b
+  unfolding beside
+  beside_closed e = if_false (go_on p b) (follows p b) e
+
+  pub beside_open : under_way r q ≡ true → beside r q p b ≡ go_on p b
+  unfolding beside
+  beside_open e = if_true (go_on p b) (follows p b) e
+
+  -- after the end of a character
+  beside_start : p < 0xC0 → q < 0xE0 → r < 0xF0 → beside r q p b ≡ not (continues b)
+  beside_start f g h = beside_closed (under_way_none r q g h) ∙ if_true (not (continues b)) _ (lt-ltb p 0xC0 f)
+
+  -- after a first byte
+  beside_first : 0xC2 ≤ p → p < 0xF5 → q < 0xE0 → r < 0xF0 → beside r q p b ≡ within b (low p to high p)
+  beside_first f g h i =
+      beside_closed (under_way_none r q h i) ∙ if_false (not (continues b)) _ (le-ltb p 0xC0 (omega arith))
+      ∙ rw (le-leb 0xC2 p f, le-leb p 0xF4 (omega arith)) refl
+
+  -- after a byte that goes on with a character that goes on
+  beside_next : under_way r q ≡ true → 0x80 ≤ p → p ≤ 0xBF → beside r q p b ≡ within b (0x80 to 0xBF)
+  beside_next e g h = beside_open e ∙ rw (le-leb 0x80 p g, le-leb p 0xBF h) refl
+
+-- with nothing before the first of the three
+pub third_open : (a b c : ℕ) → 0xE0 ≤ a → beside 0 a b c ≡ go_on b c
+third_open a b c h = beside_open 0 a b c (rw (le-leb 0xE0 a h))
+
+pub third_closed : (a b c : ℕ) → a < 0xE0 → beside 0 a b c ≡ follows b c
+third_closed a b c h = beside_closed 0 a b c (under_way_none 0 a h (omega arith))
+
+-- what `follows` says where it is not both
+pub follows_start : (p b : ℕ) → p < 0xC0 → follows p b ≡ not (continues b)
+follows_start p b h = if_true (not (continues b)) _ (lt-ltb p 0xC0 h)
+
+pub follows_first : (p b : ℕ) → 0xC0 ≤ p → follows p b ≡ (among 0xC2 0xF4 p && among (low p) (high p) b)
+follows_first p b h = if_false (not (continues b)) _ (le-ltb p 0xC0 h)
+
 -- after the three, the ranges `due` are due
 abbrev Due : ℕ → ℕ → ℕ → List Range → Type 0
 Due r q p [] = (p < 0xC0) × (q < 0xE0) × (r < 0xF0)
-Due r q p (x ∷ due) = (asks r q p ≡ true) × (x ≡ low p to high p) × ((b : ℕ) → 0x80 ≤ b → b ≤ 0xBF → Due q p b due)
+Due r q p (x ∷ due) = (asks r q p ≡ true) × ((b : ℕ) → beside r q p b ≡ within b x) × ((b : ℕ) → within b x ≡ true → Due q p b due)
 
-one_due : (r q p : ℕ) → asks r q p ≡ true → p < 0xE0 → q < 0xF0 → Due r q p tail
-one_due r q p e g h = (e, any_range p (λ z. omega arith) (λ z. omega arith) (λ z. omega arith) (λ z. omega arith), λ b l u. (omega arith, g, h))
+one_due : (r q p : ℕ) → asks r q p ≡ true → ((b : ℕ) → beside r q p b ≡ within b (0x80 to 0xBF)) → p < 0xE0 → q < 0xF0 → Due r q p tail
+one_due r q p e n g h = (e, n, λ b w. let i = in_range 0x80 0xBF b (omega arith) (omega arith) w in (omega (arith, i), g, h))
 
-two_due : (r q p : ℕ) (x : Range) → asks r q p ≡ true → ((b : ℕ) → asks q p b ≡ true) → p < 0xF0 → x ≡ low p to high p → Due r q p (x ∷ tail)
-two_due r q p x e f h n = (e, n, λ b l u. one_due q p b (f b) (omega arith) h)
+under_p : (q p : ℕ) → 0xE0 ≤ p → under_way q p ≡ true
+under_p q p h = rw (le-leb 0xE0 p h)
 
-three_due : (r q p : ℕ) (x : Range) → 0xF0 ≤ p → x ≡ low p to high p → Due r q p (x ∷ 0x80 to 0xBF ∷ tail)
-three_due r q p x h n = (
-  asks_p r q p (omega arith),
+under_q : (q p : ℕ) → 0xF0 ≤ q → under_way q p ≡ true
+under_q q p h = simp (le-leb 0xF0 q h, or-true)
+
+-- with two bytes due, the first of the range x
+two_due : (r q p : ℕ) (x : Range) → asks r q p ≡ true → ((b : ℕ) → beside r q p b ≡ within b x)
+    → ((b : ℕ) → within b x ≡ true → (0x80 ≤ b) × (b ≤ 0xBF)) → ((b : ℕ) → asks q p b ≡ true) → under_way q p ≡ true → p < 0xF0 → Due r q p (x ∷ tail)
+two_due r q p x e n i f u h = (
+  e,
   n,
-  λ b l u. two_due q p b (0x80 to 0xBF) (asks_q q p b (omega arith)) (λ c. asks_r p b c h) (omega arith)
-      (any_range b (λ z. omega arith) (λ z. omega arith) (λ z. omega arith) (λ z. omega arith)),
+  λ b w. let l = i b w in one_due q p b (f b) (λ c. beside_next q p b c u l.0 l.1) (omega (arith, l)) h,
 )
 
--- what stands after the three, by whether they ask
-beside_due : (r q p b : ℕ) → asks r q p ≡ true → beside r q p b ≡ within b (low p to high p)
-unfolding beside
-beside_due r q p b e = if_true (among (low p) (high p) b) (starts b) e
-
-beside-start : (r q p b : ℕ) → asks r q p ≡ false → beside r q p b ≡ starts b
-unfolding beside
-beside-start r q p b e = if_false (among (low p) (high p) b) (starts b) e
+-- with three, after the first byte of a character of four
+three_due : (r q p : ℕ) (x : Range) → 0xF0 ≤ p → ((b : ℕ) → beside r q p b ≡ within b x)
+    → ((b : ℕ) → within b x ≡ true → (0x80 ≤ b) × (b ≤ 0xBF)) → Due r q p (x ∷ 0x80 to 0xBF ∷ tail)
+three_due r q p x h n i = (
+  asks_p r q p (omega arith),
+  n,
+  λ b w.
+      let l = i b w in
+      two_due q p b (0x80 to 0xBF) (asks_q q p b (omega arith)) (λ c. beside_next q p b c (under_p q p (omega arith)) l.0 l.1)
+      (λ c v. in_range 0x80 0xBF c (omega arith) (omega arith) v) (λ c. asks_r p b c h) (under_q p b h) (omega (arith, l)),
+)
 
 never_fits : (s : List ℕ) → well_formed never.after s ≡ false
 never_fits s = fits_begins never.after s ∙ rw (← begins-never s)
 
-starts_ascii : (b : ℕ) → b < 0x80 → starts b ≡ true
-starts_ascii b h = rw (lt-ltb b 0x80 h)
+goes_on : (b : ℕ) → 0x80 ≤ b → b < 0xC0 → continues b ≡ true
+goes_on b g h = rw (le-leb 0x80 b g, le-leb b 0xBF (omega arith))
 
-starts_more : (b : ℕ) → 0xC2 ≤ b → b < 0xF5 → starts b ≡ true
-starts_more b g h = simp (le-leb 0xC2 b g, le-leb b 0xF4 (omega arith), or-true)
+goes_low : (b : ℕ) → b < 0x80 → continues b ≡ false
+goes_low b h = rw (lt-leb 0x80 b h)
 
-starts_none : (b : ℕ) → 0x80 ≤ b → b < 0xC2 → starts b ≡ false
-starts_none b g h = rw (le-ltb b 0x80 g, lt-leb 0xC2 b h)
+goes_high : (b : ℕ) → 0xC0 ≤ b → continues b ≡ false
+goes_high b h = simp (lt-leb b 0xBF (omega arith), and-false)
 
-starts_over : (b : ℕ) → 0xF5 ≤ b → starts b ≡ false
-starts_over b h = rw (le-ltb b 0x80 (omega arith), le-leb 0xC2 b (omega arith), lt-leb b 0xF4 h)
+-- a byte that is no first byte of a character, and does not go on with one, stands in no text
+no_first : (q p b : ℕ) (s : List ℕ) → p < 0xE0 → q < 0xF0 → 0xC0 ≤ b → among 0xC2 0xF4 b ≡ false → sound q p b s ≡ false
+no_first q p b [] g h l n = ap not (asks_p q p b l)
+no_first q p b (c ∷ s) g h l n =
+    let e : beside q p b c ≡ false = beside_closed q p b c (under_way_none q p g h) ∙ if_false _ _ (le-ltb b 0xC0 l) ∙ rw n refl in
+    rw e refl
 
 -- the first byte of a character, and what is due after it
 module _ (r q p b : ℕ) (s : List ℕ) (n : Due r q p []) (rest : (due : List Range) → Due q p b due → well_formed due s ≡ sound q p b s) where
-  begins_with : (due : List Range) → (row_of b).after ≡ due → starts b ≡ true → Due q p b due
-      → well_formed (row_of b).after s ≡ (beside r q p b && sound q p b s)
-  begins_with due e f d = rw (e, beside-start r q p b (asks_none r q p n.0 n.1 n.2), f) (rest due d)
+  start : beside r q p b ≡ not (continues b)
+  start = beside_start r q p b n.0 n.1 n.2
 
-  begins-not : (row_of b).after ≡ never.after → starts b ≡ false → well_formed (row_of b).after s ≡ (beside r q p b && sound q p b s)
-  begins-not e f = rw (e, beside-start r q p b (asks_none r q p n.0 n.1 n.2), f) (never_fits s)
+  begins_with : (due : List Range) → (row_of b).after ≡ due → continues b ≡ false → Due q p b due
+      → well_formed (row_of b).after s ≡ (beside r q p b && sound q p b s)
+  begins_with due e f d = rw (e, start, f) (rest due d)
+
+  begins-not : (row_of b).after ≡ never.after → continues b ≡ true → well_formed (row_of b).after s ≡ (beside r q p b && sound q p b s)
+  begins-not e f = rw (e, start, f) (never_fits s)
+
+  begins-none : (row_of b).after ≡ never.after → 0xC0 ≤ b → among 0xC2 0xF4 b ≡ false → well_formed (row_of b).after s ≡ (beside r q p b && sound q p b s)
+  begins-none e g f = rw (e, start, goes_high b g) (never_fits s ∙ sym (no_first q p b s (omega (arith, n)) (omega (arith, n)) g f))
+
+  led : 0xC2 ≤ b → b < 0xF5 → (c : ℕ) → beside q p b c ≡ within c (low b to high b)
+  led g h c = beside_first q p b c g h (omega (arith, n)) (omega (arith, n))
+
+  ranged : (c : ℕ) → within c (low b to high b) ≡ true → (0x80 ≤ c) × (c ≤ 0xBF)
+  ranged c w = in_range (low b) (high b) c (low_least b) (high_most b) w
+
+  starts-two : 0xC2 ≤ b → b < 0xE0 → well_formed (row_of b).after s ≡ (beside r q p b && sound q p b s)
+  starts-two g h =
+      let range = any_range b (λ z. omega arith) (λ z. omega arith) (λ z. omega arith) (λ z. omega arith) in
+      begins_with tail (due_2 b g h) (goes_high b (omega arith))
+      (one_due q p b (asks_p q p b (omega arith)) (λ c. led g (omega arith) c ∙ ap (within c) (sym range)) h (omega (arith, n)))
 
   starts-three : 0xE0 ≤ b → b < 0xF0 → well_formed (row_of b).after s ≡ (beside r q p b && sound q p b s)
   starts-three g h =
-      begins_with (low b to high b ∷ tail) (due_three b g h) (starts_more b (omega arith) (omega arith))
-      (two_due q p b _ (asks_p q p b (omega arith)) (λ c. asks_q p b c g) h refl)
+      begins_with (low b to high b ∷ tail) (due_three b g h) (goes_high b (omega arith))
+      (two_due q p b (low b to high b) (asks_p q p b (omega arith)) (led (omega arith) (omega arith)) ranged (λ c. asks_q p b c g) (under_p p b g) h)
 
   starts-four : 0xF0 ≤ b → b < 0xF5 → well_formed (row_of b).after s ≡ (beside r q p b && sound q p b s)
   starts-four g h =
-      begins_with (low b to high b ∷ 0x80 to 0xBF ∷ tail) (due_four b g h) (starts_more b (omega arith) h) (three_due q p b _ g refl)
+      begins_with (low b to high b ∷ 0x80 to 0xBF ∷ tail) (due_four b g h) (goes_high b (omega arith))
+      (three_due q p b (low b to high b) g (led (omega arith) h) ranged)
 
   -- by the lines of table 3-7
   first_byte : well_formed (row_of b).after s ≡ (beside r q p b && sound q p b s)
   first_byte =
-      below 0x80 (λ h. begins_with [] (due_1 b h) (starts_ascii b h) (omega (arith, n)))
-      (λ i. below 0xC2 (λ h. begins-not (due_none b i h) (starts_none b i h))
-      (λ j. below 0xE0
-      (λ h. begins_with tail (due_2 b j h) (starts_more b j (omega arith)) (one_due q p b (asks_p q p b (omega arith)) h (omega (arith, n))))
-      (λ k. below 0xF0 (starts-three k)
-      (λ l. below 0xF5 (starts-four l) (λ m. begins-not (due_over b m) (starts_over b m))))))
+      below 0x80 (λ h. begins_with [] (due_1 b h) (goes_low b h) (omega (arith, n)))
+      (λ i. below 0xC0 (λ h. begins-not (due_none b i (omega arith)) (goes_on b i h))
+      (λ k. below 0xC2 (λ h. begins-none (due_none b i h) k (rw (lt-leb 0xC2 b h) refl))
+      (λ j. below 0xE0 (starts-two j)
+      (λ l. below 0xF0 (starts-three l)
+      (λ m. below 0xF5 (starts-four m) (λ o. begins-none (due_over b o) k (simp (lt-leb b 0xF4 (omega arith), and-false))))))))
     where
       below : (m : ℕ) {A : Type 0} → (b < m → A) → (m ≤ b → A) → A
       below m f g = ⊎_elim g f (le_or_lt m b)
@@ -117,13 +195,10 @@ module _ (r q p b : ℕ) (s : List ℕ) (n : Due r q p []) (rest : (due : List R
 -- a byte that is due
 next_byte : (r q p b : ℕ) (x : Range) (due : List Range) (s : List ℕ) → Due r q p (x ∷ due) → (Due q p b due → well_formed due s ≡ sound q p b s)
     → (within b x && well_formed due s) ≡ (beside r q p b && sound q p b s)
-next_byte r q p b x due s d rest = rw (beside_due r q p b d.0, d.1) (go (within b (low p to high p)) refl)
+next_byte r q p b x due s d rest = rw (d.1 b) (go (within b x) refl)
   where
-    go : (y : Bool) → within b (low p to high p) ≡ y → (y && well_formed due s) ≡ (y && sound q p b s)
-    go true e =
-        let l = leb-true (low p) b (and_left (leb (low p) b) (leb b (high p)) e) in
-        let u = leb-true b (high p) (and_right (leb (low p) b) (leb b (high p)) e) in
-        rest (d.2 b (omega (arith, low_least p)) (omega (arith, high_most p)))
+    go : (y : Bool) → within b x ≡ y → (y && well_formed due s) ≡ (y && sound q p b s)
+    go true e = rest (d.2 b e)
     go false e = refl
 
 -- a text with ranges due, by the three bytes before it
@@ -183,42 +258,6 @@ first_three (a ∷ []) h = absurd (let z : ⊥ = omega arith in z)
 first_three (a ∷ b ∷ []) h = absurd (let z : ⊥ = omega arith in z)
 first_three (a ∷ b ∷ c ∷ s) h = utf8-sound (a ∷ b ∷ c ∷ s)
 
--- a byte that may not stand there is a fault
-pub fault_due : (r q p b : ℕ) {x y : Bool} {range : ℕ × ℕ} → x ≡ asks r q p → x ≡ true → range ≡ (low p, high p)
-    → y ≡ not (among range.0 range.1 b) → y ≡ not (beside r q p b)
-fault_due r q p b {y = y} e t l d = rw (beside_due r q p b (sym e ∙ t)) (rw l at d)
-
-pub fault_ascii : (r q p b : ℕ) {x : Bool} → x ≡ asks r q p → x ≡ false → b < 0x80 → false ≡ not (beside r q p b)
-fault_ascii r q p b e t h = ap not (sym (beside-start r q p b (sym e ∙ t) ∙ starts_ascii b h))
-
-pub fault_start : (r q p b : ℕ) {x y : Bool} → x ≡ asks r q p → x ≡ false → 0x80 ≤ b → y ≡ not (among 0xC2 0xF4 b) → y ≡ not (beside r q p b)
-fault_start r q p b e t h d = rw (beside-start r q p b (sym e ∙ t), le-ltb b 0x80 h) d
-
--- where p narrows no range and b may stand in a text, b stands after the three where it goes on with a character exactly if they ask for that
-pub sure_due : (r q p b : ℕ) → asks r q p ≡ true → (p ≡ 0xE0 → ⊥) → (p ≡ 0xED → ⊥) → p < 0xF0 → b / 64 ≡ 2 → beside r q p b ≡ true
-sure_due r q p b t k l h d =
-    let u = any_range p k l (λ z. omega arith) (λ z. omega arith) in
-    beside_due r q p b t ∙ ap (within b) (sym u) ∙ and_both (le-leb 0x80 b (omega arith)) (le-leb b 0xBF (omega arith))
-
-pub sure_start : (r q p b : ℕ) → asks r q p ≡ false → b < 0xF5 → (b / 2 ≡ 0x60 → ⊥) → (b / 64 ≡ 2 → ⊥) → beside r q p b ≡ true
-sure_start r q p b t h n d =
-    beside-start r q p b t
-    ∙ ⊎_elim (λ (l : 0x80 ≤ b). starts_more b (⊎_elim (λ (g : 0xC2 ≤ b). g) (λ (g : b < 0xC2). absurd (no l g)) (le_or_lt 0xC2 b)) h)
-    (λ (l : b < 0x80). starts_ascii b l) (le_or_lt 0x80 b)
-  where
-    no : 0x80 ≤ b → b < 0xC2 → ⊥
-    no l g = ⊎_elim (λ (u : 0xC0 ≤ b). n (omega arith)) (λ (u : b < 0xC0). d (omega arith)) (le_or_lt 0xC0 b)
-
-pub sure_by : (r q p b : ℕ) {x : Bool} → x ≡ asks r q p → (p ≡ 0xE0 → ⊥) → (p ≡ 0xED → ⊥) → p < 0xF0 → b < 0xF5 → (b / 2 ≡ 0x60 → ⊥)
-    → not (beq x (eqb (b / 64) 2)) ≡ false → beside r q p b ≡ true
-sure_by r q p b {x} e k l h m n d = go x (eqb (b / 64) 2) refl e d
-  where
-    go : (x y : Bool) → eqb (b / 64) 2 ≡ y → x ≡ asks r q p → not (beq x y) ≡ false → beside r q p b ≡ true
-    go true true f e d = sure_due r q p b (sym e) k l h (eqb-true (b / 64) 2 f)
-    go false false f e d = sure_start r q p b (sym e) m n (eqb-false (b / 64) 2 f)
-    go true false f e d = absurd (false≢true (sym d))
-    go false true f e d = absurd (false≢true (sym d))
-
 -- the bytes from a on, tested one by one
 module _ (s : List ℕ) (a : ℕ) (g : 3 ≤ a) where
   all_beside : (n : ℕ) → a + n ≤ length s → ((k : ℕ) → a ≤ k → k < a + n → beside_at s k ≡ true) → sound_at s a ≡ sound_at s (a + n)
@@ -233,35 +272,34 @@ module _ (s : List ℕ) (a : ℕ) (g : 3 ≤ a) where
       not-passed (sound_at s a) (λ t.
       false≢true (sym (sound-step s (a + n) (omega arith) h ∙ rw e) ∙ sound-later s a (a + n) g (omega arith) (omega arith) t))
 
-  -- by the tests of a part that begins with the three bytes before a
-  module _ (b n m : ℕ) (c : b + 3 ≡ a) (h : a + n ≤ length s) (e : m ≡ n + 3) {r : Bool} (t : Tested (take m (drop b s)) r) where
-    part_byte : (k : ℕ) → k < m → get_or (take m (drop b s)) k 0 ≡ get_or s (b + k) 0
-    part_byte k l = get_or-take m (drop b s) k 0 l ∙ get_or-drop b s k 0
-
-    part_length : length (take m (drop b s)) ≡ m
-    part_length = length-take-le m (drop b s) (omega (arith, length-drop b s))
-
-    part_beside : (k : ℕ) → 3 ≤ k → k < m → beside_at (take m (drop b s)) k ≡ beside_at s (b + k)
-    part_beside k g l =
-        let x : b + (k - 3) ≡ b + k - 3 = omega arith in
-        let y : b + (k - 2) ≡ b + k - 2 = omega arith in
-        let z : b + (k - 1) ≡ b + k - 1 = omega arith in
-        rw (part_byte (k - 3) (omega arith), part_byte (k - 2) (omega arith), part_byte (k - 1) (omega arith), part_byte k l, x, y, z)
-
+  -- by the tests up to a + n
+  module _ (n : ℕ) (h : a + n ≤ length s) {r : Bool} (t : Tested s a (a + n) r) where
     -- all of them stand there
     pub passed : r ≡ false → sound_at s a ≡ sound_at s (a + n)
-    passed f =
-        all_beside n h (λ k i j.
-        let q : b + (k - b) ≡ k = omega arith in
-        rw q at (sym (part_beside (k - b) (omega arith) (omega arith)) ∙ t.all f (k - b) (omega arith) (omega (arith, part_length))))
+    passed f = all_beside n h (t.all f)
 
     -- one does not
     pub failed : r ≡ true → sound_at s a ≡ false
     failed f =
         let k = t.some f in
-        let q : a + (k.0 - 3) ≡ b + k.0 = omega (arith, k.1) in
-        some_beside (k.0 - 3) (omega (arith, k.1, k.2, part_length))
-        (rw q (sym (part_beside k.0 k.1 (omega (arith, k.2, part_length))) ∙ k.3))
+        let q : a + (k.0 - a) ≡ k.0 = omega (arith, k.1) in
+        some_beside (k.0 - a) (omega (arith, k.1, k.2)) (rw q k.3)
+
+-- by the tests of the last bytes
+module _ (s : List ℕ) (j : ℕ) (g : 3 ≤ j) (h : j ≤ length s) {r : Bool} (t : Tested s (length s - (length s - j)) (length s) r) where
+  to_end : Tested s j (j + (length s - j)) r
+  to_end =
+      let a : length s - (length s - j) ≡ j = omega arith in
+      let b : length s ≡ j + (length s - j) = omega arith in
+      subst₂ (λ (x y : ℕ). Tested s x y r) a b t
+
+  pub passed_end : r ≡ false → sound_at s j ≡ sound_at s (length s)
+  passed_end e =
+      let b : j + (length s - j) ≡ length s = omega arith in
+      passed s j g (length s - j) (omega arith) to_end e ∙ ap (sound_at s) b
+
+  pub failed_end : r ≡ true → sound_at s j ≡ false
+  failed_end e = failed s j g (length s - j) (omega arith) to_end e
 
 -- ASCII
 module _ (s : List ℕ) where
@@ -303,19 +341,38 @@ module _ (s : List ℕ) where
       let l = a.each (i - 1) (omega arith) in
       ascii_rest i a ∙ sound-closed s i (omega arith) (omega arith) (omega arith)
 
-  -- 64 bytes of it, where no character is open
-  pub plain-sound : (a m : ℕ) {x : Bool} → 3 ≤ a → a + 64 ≤ length s → x ≡ open_at s a → x ≡ false → m ≡ 64 → is_ascii (take m (drop a s)) ≡ true
-      → sound_at s a ≡ sound_at s (a + 64)
+  -- 32 bytes of it, where no character is open
+  pub plain-sound : (a m : ℕ) {x : Bool} → 3 ≤ a → a + 32 ≤ length s → x ≡ open_at s a → x ≡ false → m ≡ 32 → is_ascii (take m (drop a s)) ≡ true
+      → sound_at s a ≡ sound_at s (a + 32)
   plain-sound a m h l e f q t =
-      let each = ascii_part s a 64 m l q t in
+      let each = ascii_part s a 32 m l q t in
       let o = asks-not (get_or s (a - 3) 0) (get_or s (a - 2) 0) (get_or s (a - 1) 0) (sym e ∙ f) in
       sym (sound-closed s a o.2 o.1 o.0)
-      ∙ ascii_run s a 64 l each
-      ∙ sound-closed s (a + 64) (omega (arith, near each 3 (omega arith) (omega arith))) (omega (arith, near each 2 (omega arith) (omega arith)))
+      ∙ ascii_run s a 32 l each
+      ∙ sound-closed s (a + 32) (omega (arith, near each 3 (omega arith) (omega arith))) (omega (arith, near each 2 (omega arith) (omega arith)))
       (omega (arith, near each 1 (omega arith) (omega arith)))
     where
-      near : ((k : ℕ) → k < 64 → get_or s (a + k) 0 < 0x80) → (k : ℕ) → 1 ≤ k → k ≤ 3 → get_or s (a + 64 - k) 0 < 0x80
-      near each k g v = let q : a + (64 - k) ≡ a + 64 - k = omega arith in rw q at (each (64 - k) (omega arith))
+      near : ((k : ℕ) → k < 32 → get_or s (a + k) 0 < 0x80) → (k : ℕ) → 1 ≤ k → k ≤ 3 → get_or s (a + 32 - k) 0 < 0x80
+      near each k g v = let q : a + (32 - k) ≡ a + 32 - k = omega arith in rw q at (each (32 - k) (omega arith))
+
+-- after ASCII no character is open where none was before it
+module _ (s : List ℕ) (i : ℕ) (g : 3 ≤ i) where
+  still_closed : (n : ℕ) → Ascii (drop i s) n → open_at s i ≡ false → open_at s (i + n) ≡ false
+  still_closed zero a e = rw add-zero e
+  still_closed (suc n) a e =
+      let o = asks-not (get_or s (i + n - 3) 0) (get_or s (i + n - 2) 0) (get_or s (i + n - 1) 0)
+      (still_closed n record { room = omega (arith, a.room); each = λ k h. a.each k (omega arith) } e) in
+      let b : get_or s (i + n) 0 < 0x80 = rw (get_or-drop i s n 0) at (a.each n (omega arith)) in
+      let x : i + suc n - 3 ≡ i + n - 2 = omega arith in
+      let y : i + suc n - 2 ≡ i + n - 1 = omega arith in
+      let z : i + suc n - 1 ≡ i + n = omega arith in
+      rw (x, y, z) (asks_none (get_or s (i + n - 2) 0) (get_or s (i + n - 1) 0) (get_or s (i + n) 0) (omega arith) (omega (arith, o)) (omega (arith, o)))
+
+  -- the rest of a text from i on, of which n bytes are ASCII
+  pub rest_sound : (n : ℕ) → Ascii (drop i s) n → open_at s i ≡ false → utf8 (drop i s) ≡ sound_at s (i + n)
+  rest_sound n a e =
+      let o = asks-not (get_or s (i + n - 3) 0) (get_or s (i + n - 2) 0) (get_or s (i + n - 1) 0) (still_closed n a e) in
+      ascii_rest (drop i s) n a ∙ ap utf8 (drop-drop n i s) ∙ sound-closed s (i + n) o.2 o.1 o.0
 
 not-not : (x : Bool) → not (not x) ≡ x
 not-not true = refl
@@ -331,20 +388,3 @@ module _ (s : List ℕ) (h : 3 ≤ length s) where
 
   pub begun_third : first s ≡ true → second s ≡ true → {x : Bool} → x ≡ not (third s) → utf8 s ≡ (not x && sound_at s 3)
   begun_third d e f = first_three s h ∙ rw (d, e, f) (ap (λ (x : Bool). x && sound_at s 3) (sym (not-not (third s))))
-
--- the last block, which may lie over the one before
-module _ (s : List ℕ) (j : ℕ) (g : 3 ≤ j) (h : j ≤ length s) where
-  sound-from : utf8 s ≡ true → sound_at s j ≡ true
-  sound-from e =
-      let l : 3 ≤ length s = omega arith in
-      let f = sym (first_three s l) ∙ e in
-      sound-later s 3 j (omega arith) g h (and_right (third s) _ (and_right (second s) _ (and_right (first s) _ f)))
-
-  pub last_fails : sound_at s j ≡ false → false ≡ utf8 s
-  last_fails e = sym (not-passed (utf8 s) (λ t. false≢true (sym e ∙ sound-from t)))
-
-  pub last_passes : (i : ℕ) → j ≤ i → i ≤ length s → utf8 s ≡ sound_at s i → sound_at s j ≡ sound_at s (length s) → utf8 s ≡ sound_at s (length s)
-  last_passes i k l e f =
-      e
-      ∙ same_test (sound_at s i) (sound_at s (length s)) (sound-later s i (length s) (omega arith) l (omega arith))
-      (λ t. sound-later s j i g k l (f ∙ t))

@@ -2,12 +2,12 @@
 
 #![tactic(auto)]
 
-ghost use Rattle.std.specs.Prelude.{◌≡◌, ◌≢◌, ℕ, Bool, true, false, not, [], ◌∷◌, ◌<◌, ◌≤◌, ◌+◌, ◌-◌, ◌*◌, ◌^◌, ◌&&◌, ◌||◌};
-ghost use Rattle.std.specs.Prelude.{length, take, drop, map, eqb, replicate, suc, get_or, MatchOption, MatchBool};
+ghost use Rattle.std.specs.Prelude.{◌≡◌, ◌≢◌, ℕ, ◌/◌, Bool, true, false, not, [], ◌∷◌, ◌<◌, ◌≤◌, ◌+◌, ◌-◌, ◌*◌, ◌^◌, ◌&&◌, ◌||◌};
+ghost use Rattle.std.specs.Prelude.{length, take, drop, map, eqb, ltb, replicate, suc, get_or, bit_and, MatchOption, MatchBool};
 ghost use Rattle.base.specs.Choice.{when◌then◌else◌, among};
 ghost use Rattle.utf8.specs.Utf8.{◌to◌, utf8, characters, continues, begins, size_of, row_of, character_at};
-ghost use Rattle.utf8.specs.InnerNeighbours.{asks, low, high, beside};
-ghost use Rattle.utf8.specs.InnerParts.{is_ascii, sound_at, Ascii, Tested, Plain, Window};
+ghost use Rattle.utf8.specs.InnerNeighbours.{asks, low, high, beside, follows};
+ghost use Rattle.utf8.specs.InnerParts.{is_ascii, sound_at, Ascii, Tested, Plain, Classes, Lanes, Any};
 ghost use Rattle.std.specs.List.{prefix_len};
 ghost use Rattle.std.specs.Simd.Lanes.{mask_l};
 
@@ -96,8 +96,8 @@ fn chars(s: &[u8]) -> bool
     rest.is_empty()
 }
 
-// The functions from here to `wide` are well-formedness by each byte and the three before it, r, q and p: the same few tests for every byte, which the
-// compiler makes for 16 bytes at a time. (Bytes and no array of them: a function with a contract takes no pattern, so that each would take it apart again.)
+// The functions from here to `blocks` are well-formedness by each byte and the three before it, r, q and p: the same few steps for every byte, taken for 16 bytes
+// at a time.
 
 // Whether one of the three starts a character that the next byte has to go on with.
 fn asks(r: u8, q: u8, p: u8) -> bool
@@ -113,55 +113,105 @@ fn outside(b: u8, lo: u8, hi: u8) -> bool
     b < lo || hi < b
 }
 
-// Whether b may not stand after the three.
-fn fault(r: u8, q: u8, p: u8, b: u8) -> bool
-    ensures { result ≡ not (beside r q p b) }
+// Whether b may not stand after p, where no character before p goes on after it.
+fn fault_after(p: u8, b: u8) -> bool
+    ensures { result ≡ not (follows p b) }
 {
-    if asks(r, q, p) {
-        let (lo, hi) = range_after(p);
-        outside(b, lo, hi)
-    } else {
-        0x80 <= b && outside(b, 0xC2, 0xF4)
+    if p < 0xC0 {
+        return !starts_character(b);
     }
+    let (lo, hi) = range_after(p);
+    outside(p, 0xC2, 0xF4) || outside(b, lo, hi)
 }
 
-// The same by fewer tests: true also where these do not tell. (A branch for the first five: with all joined by `||` the proof knows them as one value only.)
-fn doubt(r: u8, q: u8, p: u8, b: u8) -> bool
-    ensures { result ≡ false → beside r q p b ≡ true }
+// Whether c may not stand after b, where a stands before that and nothing before it.
+fn third_fault(a: u8, b: u8, c: u8) -> bool
+    ensures { result ≡ not (beside 0 a b c) }
 {
-    // 0xC0 and 0xC1 are those that give 0x60
-    if p == 0xE0 || p == 0xED || 0xF0 <= p || 0xF5 <= b || b >> 1 == 0x60 {
-        return true;
+    if 0xE0 <= a {
+        return starts_character(b) || starts_character(c);
     }
-    asks(r, q, p) != (b >> 6 == 2)
+    fault_after(b, c)
 }
 
-// Whether a test finds one of some bytes from the fourth on, each with the three before it.
-// No `windows(4)`: with it the check of text that is not ASCII runs 1.8 % more instructions.
-fn finds<F: Fn(u8, u8, u8, u8) -> bool>(block: &[u8], test: F) -> bool
-    requires { F.IsAlwaysCallable test }
-    ensures none { result ≡ false → (k : ℕ) → 3 ≤ k → k < length block.now → Window F.post test block.now k false }
-    ensures one { result ≡ true → (k : ℕ) × (3 ≤ k) × (k < length block.now) × Window F.post test block.now k true }
+// Keiser and Lemire's three tables: a bit for each way in which a byte may not follow the one before it, that is left where all three have it. The first two
+// are by the halves of the byte before, the third is by the upper half of the byte.
+//   1  a character ends too early      2  a byte goes on where no character is open      4  three bytes for a code point below 0x800
+//   8  past 0x10FFFF, or no first byte      16  a surrogate      32  two bytes for a code point below 0x80
+//   64  four bytes for a code point below 0x10000, or no first byte      128  both go on with a character, which may be so where one is under way
+const FIRST_HIGH: [u8; 16] = [2, 2, 2, 2, 2, 2, 2, 2, 128, 128, 128, 128, 33, 1, 21, 73];
+
+const FIRST_LOW: [u8; 16] = [
+    231, 163, 131, 131, 139, 203, 203, 203, 203, 203, 203, 203, 203, 219, 203, 203,
+];
+
+const SECOND_HIGH: [u8; 16] = [1, 1, 1, 1, 1, 1, 1, 1, 230, 174, 186, 186, 1, 1, 1, 1];
+
+// The upper half of each byte.
+fn high_halves(v: u8x16) -> u8x16
+    ensures { result ≡ map (λ x. x / 16) v }
 {
-    let mut found = false;
-    for i in 3..block.len() {
-        found |= test(block[i - 3], block[i - 2], block[i - 1], block[i]);
-    }
-    found
+    v >> u8x16::splat(4)
 }
 
-// Whether one of some bytes from the fourth on may not stand after the three before it.
-fn faulty(block: &[u8]) -> bool
-    ensures { Tested block.now result }
+// The lower half of each byte.
+fn low_halves(v: u8x16) -> u8x16
+    ensures { result ≡ map (λ x. bit_and x 15) v }
 {
-    finds(block, fault)
+    v & u8x16::splat(15)
 }
 
-// The same, by the tests of `fault` only where those of `doubt` do not tell.
-fn quickly_faulty(block: &[u8]) -> bool
-    ensures { Tested block.now result }
+// The places of a table that some halves name.
+fn look_up(table: [u8; 16], halves: u8x16) -> u8x16
+    requires { (k : ℕ) → k < 16 → get_or halves k 0 < 16 }
+    ensures { result ≡ map (λ x. get_or table x 0) halves }
 {
-    finds(block, doubt) && faulty(block)
+    u8x16::from_array(table).swizzle_dyn(halves)
+}
+
+// What each byte of b is after the byte of p at its place.
+fn classes(p: u8x16, b: u8x16) -> u8x16
+    ensures { Classes p b result }
+{
+    look_up(FIRST_HIGH, high_halves(p))
+        & look_up(FIRST_LOW, low_halves(p))
+        & look_up(SECOND_HIGH, high_halves(b))
+}
+
+// 128 and more where a byte is not less than another.
+fn from_on(v: u8x16, least: u8) -> u8x16
+    requires { (128 ≤ least) }
+    ensures { result ≡ map (λ x. x - (least - 128)) v }
+{
+    v.saturating_sub(u8x16::splat(least - 128))
+}
+
+// Of 16 bytes, 0 where a byte may stand after the three before it.
+fn faults(s: &[u8], at: usize) -> u8x16
+    requires { (3 ≤ at) × (at + 16 ≤ length s.now) }
+    ensures { Lanes s.now at result }
+{
+    let b = u8x16::from_slice(&s[at..]);
+    let p = u8x16::from_slice(&s[at - 1..]);
+    let q = u8x16::from_slice(&s[at - 2..]);
+    let r = u8x16::from_slice(&s[at - 3..]);
+    let under_way = (from_on(q, 0xE0) | from_on(r, 0xF0)) & u8x16::splat(128);
+    under_way ^ classes(p, b)
+}
+
+// Whether some lane is not 0.
+fn any(v: u8x16) -> bool
+    ensures { Any v result }
+{
+    v.simd_ne(u8x16::splat(0)).to_bitmask() != 0
+}
+
+// Whether one of 32 bytes may not stand after the three before it.
+fn faulty(s: &[u8], at: usize) -> bool
+    requires { (3 ≤ at) × (at + 32 ≤ length s.now) }
+    ensures { Tested s.now at (at + 32) result }
+{
+    any(faults(s, at) | faults(s, at + 16))
 }
 
 // Whether a character is open before n.
@@ -172,12 +222,58 @@ fn cut_off(s: &[u8], n: usize) -> bool
     asks(s[n - 3], s[n - 2], s[n - 1])
 }
 
-// Whether 64 bytes of ASCII stand from a on, with no character open before them.
+// Whether 32 bytes of ASCII stand from a on, with no character open before them.
 fn plain(s: &[u8], a: usize) -> bool
-    requires { (3 ≤ a) × (a ≤ length s.now) }
+    requires { (3 ≤ a) × (a + 32 ≤ length s.now) }
     ensures { Plain s.now a result }
 {
-    64 <= s.len() - a && !cut_off(s, a) && s[a..a + 64].is_ascii()
+    s[a..a + 32].is_ascii() && !cut_off(s, a)
+}
+
+// 16 bytes from a place below 16 on end with as many that are 255 as the place says, after zeros.
+const LAST: [u8; 32] = [
+    0, 0, 0, 0, 0, 0, 0, 0, 0, 0, 0, 0, 0, 0, 0, 0, 255, 255, 255, 255, 255, 255, 255, 255, 255,
+    255, 255, 255, 255, 255, 255, 255,
+];
+
+// The last n lanes of 16, after zeros.
+fn last_lanes(v: u8x16, n: usize) -> u8x16
+    requires { n < 16 }
+    ensures { (k : ℕ) → k < 16 → get_or result k 0 ≡ when ltb (n + k) 16 then 0 else get_or v k 0 }
+{
+    let all: &[u8] = &LAST;
+    v & u8x16::from_slice(&all[n..])
+}
+
+// Whether one of the last n bytes, fewer than 16, may not stand after the three before it: by the 16 that s ends with, of which the others do not count.
+fn last_faulty(s: &[u8], n: usize) -> bool
+    requires { (n < 16) × (19 ≤ length s.now) }
+    ensures { Tested s.now (length s.now - n) (length s.now) result }
+{
+    any(last_lanes(faults(s, s.len() - 16), n))
+}
+
+// Whether the bytes from a place on stand after those before them, and the last leave no character open: by blocks of 32 bytes, then of 16, so that the loop
+// steps by hand.
+fn blocks(s: &[u8], from: usize) -> bool
+    requires { (3 ≤ from) × (from ≤ length s.now) × (19 ≤ length s.now) }
+    ensures { result ≡ sound_at s.now from }
+{
+    let n = s.len();
+    let mut i = from;
+    while 32 <= n - i {
+        if !plain(s, i) && faulty(s, i) {
+            return false;
+        }
+        i += 32;
+    }
+    if 16 <= n - i {
+        if any(faults(s, i)) {
+            return false;
+        }
+        i += 16;
+    }
+    !last_faulty(s, n - i) && !cut_off(s, n)
 }
 
 // Whether each of the first three bytes may stand after those before it: the tests of blocks look back on three.
@@ -185,34 +281,18 @@ fn begins_well(s: &[u8]) -> bool
     requires { 3 ≤ length s.now }
     ensures { utf8 s.now ≡ (result && sound_at s.now 3) }
 {
-    !fault(0, 0, 0, s[0]) && !fault(0, 0, s[0], s[1]) && !fault(0, s[0], s[1], s[2])
+    !fault_after(0, s[0]) && !fault_after(s[0], s[1]) && !third_fault(s[0], s[1], s[2])
 }
 
-// Whether s, of which all before `from` is ASCII, is well-formed: by blocks of 64 that are ASCII, else of 32, so that the loop steps by hand. The last
-// block ends where s does, and may have been tested in part.
+// Whether s, of which all before `from` is ASCII, is well-formed.
 fn wide(s: &[u8], from: usize) -> bool
     requires { (35 ≤ length s.now) × Ascii s.now from }
     ensures { result ≡ utf8 s.now }
 {
-    let n = s.len();
-    if from < 3 && !begins_well(s) {
-        return false;
+    if 3 <= from {
+        return blocks(s, from);
     }
-    let mut i = from.max(3);
-    while 32 <= n - i {
-        if plain(s, i) {
-            i += 64;
-        } else {
-            if quickly_faulty(&s[i - 3..i + 32]) {
-                return false;
-            }
-            i += 32;
-        }
-    }
-    if i < n && faulty(&s[n - 35..]) {
-        return false;
-    }
-    !cut_off(s, n)
+    begins_well(s) && blocks(s, 3)
 }
 
 // Whether s, of which all before `from` is ASCII, is well-formed. `valid` calls it twice, so that the compiler puts `valid` into its callers and not this
@@ -269,7 +349,13 @@ pub fn valid_rest(s: &[u8], from: usize) -> bool
     ensures { result ≡ utf8 (drop from s.now) }
 {
     let rest = base::get_from(s, from);
-    quickly_ascii(s, rest.len()) || valid_from(rest, 0)
+    if quickly_ascii(s, rest.len()) {
+        return true;
+    }
+    if from < 3 || s.len() < 19 || s.len() < from || cut_off(s, from) {
+        return valid_from(rest, 0);
+    }
+    blocks(s, from + past_ascii(rest, 0, 64))
 }
 
 // Whether a byte starts a character: it is none of 0x80 to 0xBF.
