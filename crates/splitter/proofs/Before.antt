@@ -1,7 +1,9 @@
 -- The bytes before the first that passes a test: one byte at a time, and as a part of a body. Assumes nothing.
 use Rattle.splitter.proofs.Names.{ℕ, suc, ◌+◌, ◌-◌, ◌≤◌, ◌<◌, ◌≡◌, refl, sym, ap, ◌∙◌, Bool, true, false, List, [], ◌∷◌, length, take, drop, get_or}
 use Rattle.splitter.proofs.Names.{length-drop, drop_of_length-le, drop-cons, drop-drop, le_refl, arith, when◌then◌else◌, pick, ne_eqb, before}
-use Rattle.splitter.proofs.Names.{is_line_end_or_space}
+use Rattle.splitter.proofs.Names.{is_line_end_or_space, zero, ◌++◌}
+use Rattle.std.specs.Prelude.{not, cond}
+use Rattle.std.specs.List.{prefix_len}
 use native.Mathlib.Numerals.{add-one}
 
 -- what ends a word, and what does not
@@ -42,6 +44,23 @@ module _ (stop : ℕ → Bool) where
   before-take [] = refl
   before-take (b ∷ s) =
       pick (λ (w : List ℕ). w ≡ take (length w) (b ∷ s)) (stop b) (λ e. refl) (λ e. ap (λ (l : List ℕ). b ∷ l) (before-take s))
+
+  -- those among the first m bytes, and those that follow
+  pub before-front : (s : List ℕ) (m : ℕ)
+      → let n = prefix_len (λ b. not (stop b)) (take m s) in before stop s ≡ take n s ++ before stop (drop n s)
+  unfolding before when◌then◌else◌
+  before-front [] zero = refl
+  before-front [] (suc m) = refl
+  before-front (b ∷ s) zero = refl
+  before-front (b ∷ s) (suc m) = go (stop b) refl (before-front s m)
+    where
+      k : ℕ
+      k = prefix_len (λ x. not (stop x)) (take m s)
+
+      go : (c : Bool) → stop b ≡ c → before stop s ≡ take k s ++ before stop (drop k s)
+          → let n = cond (not c) (1 + k) 0 in before stop (b ∷ s) ≡ take n (b ∷ s) ++ before stop (drop n (b ∷ s))
+      go true e h = refl
+      go false e h = let z : 1 + k ≡ suc k = omega arith in rw (z, e) (ap (λ (l : List ℕ). b ∷ l) h)
 
   -- as a part of a body
   module _ (body : List ℕ) (at to : ℕ) (e : to ≡ at + length (before stop (drop at body))) where

@@ -1,10 +1,17 @@
--- A word read byte by byte, with its characters counted on the way. Assumes nothing.
-use Rattle.splitter.proofs.Names.{ℕ, ◌+◌, ◌≤◌, ◌<◌, ◌≡◌, refl, ◌∙◌, ap, ap₂, true, false, List, [], length, drop, get_or, arith, characters, word}
-use Rattle.splitter.proofs.Names.{is_line_end_or_space, word_from, when◌then◌else◌, Bool, continues}
+-- The word at the front of a text, read from the front on, with its characters counted on the way. Assumes nothing.
+use Rattle.splitter.proofs.Names.{ℕ, ◌+◌, ◌≤◌, ◌<◌, ◌≡◌, refl, sym, ◌∙◌, ap, ap₂, true, false, List, [], ◌∷◌, ◌++◌, append_assoc, append-nil, length}
+use Rattle.splitter.proofs.Names.{take, drop, get_or, length-drop, drop-cons, drop-drop, take-add, arith, characters, word, before, is_line_end_or_space}
+use Rattle.splitter.proofs.Names.{word_from, when◌then◌else◌, Bool, continues}
 use Rattle.std.specs.Prelude.{not}
 use Rattle.std.specs.Int.{from_bool}
+use Rattle.std.specs.List.{prefix_len}
+use Rattle.std.proofs.lemmas.List.Sums.{prefix_len-le-length}
+use lib.ListN.{length-append, length-take}
+use lib.Seq.{take-take, length-take-le}
 use Rattle.utf8.proofs.Laws.{adds}
-use Rattle.splitter.proofs.Before.{before-stop, before-go, before-none}
+use Rattle.splitter.specs.InnerParts.{Begins}
+use Rattle.splitter.proofs.Before.{before-front}
+use Rattle.splitter.proofs.Fits.{count_short}
 
 pub adds_is : (b : ℕ) → (from_bool (not (continues b)) ≡ adds b) × (from_bool (not (continues b)) ≤ 1)
 unfolding when◌then◌else◌
@@ -14,37 +21,75 @@ adds_is b = go (continues b)
     go true = (refl, omega arith)
     go false = (refl, omega arith)
 
--- a word at the start of some bytes is read up to `to`, with so many characters
-pub record Reading (s : List ℕ) (to width : ℕ) : Type 0 where
-  pub ends : to + length (word (drop to s)) ≡ length (word s)
-  pub counts : width + characters (word (drop to s)) ≡ characters (word s)
-  pub few : width ≤ to
+characters-append : (a b : List ℕ) → characters (a ++ b) ≡ characters a + characters b
+characters-append [] b = omega arith
+characters-append (x ∷ a) b = let h = characters-append a b in omega arith
 
-module _ (s : List ℕ) (to width : ℕ) (r : Reading s to width) where
-  -- the bytes are those from a place of a body on
-  module _ (body : List ℕ) (at : ℕ) (f : s ≡ drop at body) where
-    read : word (drop to s) ≡ [] → record { to = at + to; width = width } ≡ word_from body at
-    read e =
-        let p : at + to ≡ at + length (word (drop at body)) = omega (arith, r.ends, ap length e, ap (λ (x : List ℕ). length (word x)) f) in
-        let q : width ≡ characters (word (drop at body)) = omega (arith, r.counts, ap characters e, ap (λ (x : List ℕ). characters (word x)) f) in
-        ap₂ (λ (m n : ℕ). record { to = m; width = n }) p q
+-- a word begins with the bytes of its first block of 16 that stand before the first that ends a word
+pub begins-block : (s block : List ℕ) (n w : ℕ) → block ≡ take 16 s → n ≡ prefix_len (λ x. not (is_line_end_or_space x)) (take 16 block)
+    → w ≡ characters (take n block) → Begins s n w
+begins-block s block n w e f g =
+    let p = λ (x : ℕ). not (is_line_end_or_space x) in
+    let k : n ≡ prefix_len p (take 16 s) = f ∙ ap (λ (t : List ℕ). prefix_len p (take 16 t)) e ∙ ap (prefix_len p) (take-take 16 16 s (omega arith)) in
+    let l = prefix_len-le-length p (take 16 s) in
+    let m = length-take 16 s in
+    record {
+      within = omega (arith, k, l, m);
+      joins = rw k (before-front is_line_end_or_space s 16);
+      counts = g ∙ ap characters (ap (take n) e ∙ take-take n 16 s (omega (arith, k, l, m)));
+    }
 
-    pub reading_stop : to < length s → is_line_end_or_space (get_or s to 0) ≡ true → record { to = at + to; width = width } ≡ word_from body at
-    reading_stop h e = read (before-stop is_line_end_or_space s to h e)
+module _ (s : List ℕ) (len width : ℕ) (b : Begins s len width) where
+  -- no more characters are counted than bytes are read
+  pub begins-narrow : width ≤ len
+  begins-narrow = omega (arith, b.counts, count_short (take len s), length-take len s)
 
-    pub reading_end : to ≤ length s → length s ≤ to → record { to = at + length s; width = width } ≡ word_from body at
-    reading_end k h =
-        let z : length s ≡ to = omega arith in
-        ap (λ (n : ℕ). record { to = at + n; width = width }) z ∙ read (before-none is_line_end_or_space s to h)
+  -- the bytes that the rest of the word begins with are read too
+  pub begins-more : (n w : ℕ) → Begins (drop len s) n w → Begins s (len + n) (width + w)
+  begins-more n w c =
+      let t = drop len s in
+      let more = take-add len n s in
+      record {
+        within = omega (arith, b.within, c.within, length-drop len s);
+        joins = b.joins ∙ ap (λ (x : List ℕ). take len s ++ x) c.joins ∙ sym (append_assoc (take len s) (take n t) (word (drop n t)))
+            ∙ ap₂ (λ (x y : List ℕ). x ++ word y) (sym more) (drop-drop n len s);
+        counts = omega (arith, b.counts, c.counts, ap characters more, characters-append (take len s) (take n t));
+      }
 
-  module _ (h : to < length s) (e : is_line_end_or_space (get_or s to 0) ≡ false) where
-    on : (w : ℕ) → w ≡ width + adds (get_or s to 0) → w ≤ width + 1 → Reading s (to + 1) w
-    on w k l =
-        let g = before-go is_line_end_or_space s to h e in
-        let p = ap length g in
-        let q = ap characters g in
-        record { ends = omega (arith, r.ends); counts = omega (arith, r.counts); few = omega (arith, r.few) }
+  module _ (h : len < length s) (e : is_line_end_or_space (get_or s len 0) ≡ false) where
+    one : (w : ℕ) → w ≡ adds (get_or s len 0) → Begins (drop len s) 1 w
+    unfolding before when◌then◌else◌
+    one w f = rw (drop-cons s len 0 h) record { within = omega arith; joins = rw e refl; counts = omega arith }
 
-    -- a byte that begins a character counts, another does not
-    pub reading_next : {x : Bool} {n : ℕ} → x ≡ not (continues (get_or s to 0)) → n ≡ from_bool x → Reading s (to + 1) (width + n)
-    reading_next k f = let a = adds_is (get_or s to 0) in on (width + _) (omega (arith, f, ap from_bool k, a.0)) (omega (arith, f, ap from_bool k, a.1))
+    -- a byte more, which counts if it begins a character
+    pub begins-next : {x : Bool} {n : ℕ} → x ≡ not (continues (get_or s len 0)) → n ≡ from_bool x → Begins s (len + 1) (width + n)
+    begins-next {x} {n} k f = begins-more 1 n (one n (f ∙ ap from_bool k ∙ (adds_is (get_or s len 0)).0))
+
+  -- the word ends there
+  module _ (e : word (drop len s) ≡ []) where
+    whole : take len s ≡ word s
+    whole = sym (b.joins ∙ ap (λ (x : List ℕ). take len s ++ x) e ∙ append-nil (take len s))
+
+    pub whole-length : len ≡ length (word s)
+    whole-length = omega (arith, ap length whole, length-take-le len s b.within)
+
+    pub whole-width : width ≡ characters (word s)
+    whole-width = b.counts ∙ ap characters whole
+
+  -- what follows is read up to the word's end
+  pub whole-joined : (t : List ℕ) (n w : ℕ) → t ≡ drop len s → n ≡ length (word t) → w ≡ characters (word t)
+      → (len + n ≡ length (word s)) × (width + w ≡ characters (word s))
+  whole-joined t n w e f g =
+      let rest = word (drop len s) in
+      let k = ap (λ (x : List ℕ). length (word x)) e in
+      let l = ap (λ (x : List ℕ). characters (word x)) e in (
+        omega (arith, f, k, ap length b.joins, length-append (take len s) rest, length-take-le len s b.within),
+        omega (arith, g, l, b.counts, ap characters b.joins, characters-append (take len s) rest),
+      )
+
+-- what is read and counted of the bytes from a place of a body on is the word from there
+pub word_read : (body s : List ℕ) (at len to width : ℕ) → s ≡ drop at body → len ≡ length (word s) → width ≡ characters (word s) → to ≡ at + len
+    → record { to = to; width = width } ≡ word_from body at
+word_read body s at len to width e f g h =
+    let k : to ≡ at + length (word (drop at body)) = omega (arith, h, f, ap (λ (x : List ℕ). length (word x)) e) in
+    ap₂ (λ (m n : ℕ). record { to = m; width = n }) k (g ∙ ap (λ (x : List ℕ). characters (word x)) e)

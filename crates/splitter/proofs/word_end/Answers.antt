@@ -1,21 +1,47 @@
-use Rattle.splitter.proofs.Names.{⊎_elim}
-use Rattle.splitter.proofs.Before.{space_ends, line_ends, neither_ends}
-use Rattle.splitter.proofs.Words.{reading_stop, reading_end, reading_next}
+use Rattle.splitter.proofs.Names.{◌+◌, ◌-◌, ◌≤◌, ◌≡◌, ap, le_refl, arith, length, length-drop, part_over, characters, is_line_end_or_space, word}
+use Rattle.splitter.proofs.Before.{before-short}
+use Rattle.splitter.proofs.Fits.{count_short}
+use Rattle.splitter.proofs.Words.{whole-joined, word_read}
+use Rattle.splitter.proofs.word_end.Goals.{After-word_bytes-bytes}
 use Rattle.splitter.proofs.word_end.Goals as goal
+use borrow.Author.Rules.{rules}
 
-pub returns-then-x-eq32 : goal.returns-then-x-eq32
-returns-then-x-eq32 c =
-    let l = c.loop-len in
-    reading_stop _ l.len l.width l.invariant (c.args.body.now) c.args.at c.get_from-rest.ensures c.loop-len-test.true
-    (⊎_elim (λ e. space_ends _ e) (λ e. line_ends _ e.1) c.then-x-eq32.either)
+-- blocks and bytes together are the word
+joined : (c : After-word_bytes-bytes)
+    → let s = c.get_from-rest.result.now in
+    let a = c.word_blocks-blocks.result in
+    let b = c.word_bytes-bytes.result in (a.len + b.len ≡ length (word s)) × (a.width + b.width ≡ characters (word s))
+joined c =
+    let s = c.get_from-rest.result.now in
+    let a = c.word_blocks-blocks in
+    let b = c.word_bytes-bytes in
+    whole-joined s a.result.len a.result.width a.ensures _ b.result.len b.result.width (part_over s a.result.len (length s) (le_refl (length s)))
+    b.ensures.len b.ensures.width
 
-pub loop-len-preserved : goal.loop-len-preserved
-loop-len-preserved c =
-    let l = c.loop-len in
-    reading_next _ l.len l.width l.invariant c.loop-len-test.true (neither_ends _ c.if-x-eq10.false c.if-x-eq32.false)
-    c.starts_character.ensures c.from-width.ensures
+pub overflow_add-result-2 : goal.overflow_add-result-2
+overflow_add-result-2 c =
+    let s = c.get_from-rest.result.now in
+    let a = c.word_blocks-blocks.result in
+    let b = c.word_bytes-bytes.result in
+    let j = joined (goal.at.overflow_add-result-2 c).After-word_bytes-bytes in
+    let n = before-short is_line_end_or_space s in
+    let m : length s ≡ length c.args.body.now - c.args.at = omega (arith, ap length c.get_from-rest.ensures, length-drop c.args.at c.args.body.now) in
+    let f : a.len + b.len ≤ length s = omega (arith, j.0, n) in
+    search rules
+
+pub overflow_add-result-3 : goal.overflow_add-result-3
+overflow_add-result-3 c =
+    let s = c.get_from-rest.result.now in
+    let a = c.word_blocks-blocks.result in
+    let b = c.word_bytes-bytes.result in
+    let j = joined (goal.at.overflow_add-result-3 c).After-word_bytes-bytes in
+    let f : a.width + b.width ≤ length s = omega (arith, j.1, count_short (word s), before-short is_line_end_or_space s) in
+    search rules
 
 pub returns : goal.returns
 returns c =
-    let l = c.loop-len in
-    reading_end _ l.len l.width l.invariant (c.args.body.now) c.args.at c.get_from-rest.ensures l.auto.len-end c.loop-len-test.false
+    let s = c.get_from-rest.result.now in
+    let a = c.word_blocks-blocks.result in
+    let b = c.word_bytes-bytes.result in
+    let j = joined (goal.at.returns c).After-word_bytes-bytes in
+    word_read c.args.body.now s c.args.at (a.len + b.len) _ (a.width + b.width) c.get_from-rest.ensures j.0 j.1 (omega arith)
