@@ -1,10 +1,9 @@
 -- The next end of a Section4, looked for once: where it was found from, and after each record that is passed. Assumes nothing.
 use Rattle.console_tabstop.proofs.Names.{◌≡◌, refl, sym, ap, ◌∙◌, Bool, true, false, ⊎_elim, List, ℕ, ◌≤◌, ◌<◌, arith, length, if_true, if_false}
-use Rattle.console_tabstop.proofs.Names.{le_or_lt, tokens_from, is_end, Read, Head, tokens-end, Ahead}
+use Rattle.console_tabstop.proofs.Names.{le_or_lt, tokens_from, is_end, Read, Head, read-on, tokens-end, Ahead}
 use native.Mathlib.Nat.{le_refl}
 use Rattle.records.specs.Records.{token_at}
 use Rattle.records.proofs.Tokens.{tokens_at}
-use Rattle.records.proofs.Reading.{read-on}
 use Rattle.console_tabstop.specs.InnerAhead.{place_of, after_end, Known}
 use Rattle.console_tabstop.proofs.Scans.{listed, gap_here, gap_next, gap_none, empty-none}
 

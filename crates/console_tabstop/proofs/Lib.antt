@@ -2,4 +2,5 @@ mod Names
 pub mod Scans
 pub mod Settled
 pub mod Ahead
+pub mod Passing
 pub mod Searching

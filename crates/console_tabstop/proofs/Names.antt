@@ -6,8 +6,9 @@ pub use Rattle.base.specs.Choice.{when◌then◌else◌}
 pub use Rattle.console_rules.specs.Console.{Terms, settles}
 unfoldable pub use Rattle.console_rules.specs.Console.{empty_block, settled_at, settled_from, tabstop, term, term_end, term_start, terms}
 pub use Rattle.console_tabstop.specs.InnerAhead.{Ahead}
-pub use Rattle.console_tabstop.specs.InnerCounted.{terms_of}
-pub use Rattle.records.proofs.Codes.{end-by-code, no-end-code}
+pub use Rattle.console_tabstop.specs.InnerCounted.{Passed, terms_of}
+pub use Rattle.records.proofs.Codes.{end-by-code, no-end-code, no-start-code}
+pub use Rattle.records.proofs.Reading.{read-on}
 pub use Rattle.records.proofs.Tokens.{tokens-end}
 pub use Rattle.records.specs.Answers.{Read, head_of}
 pub use Rattle.records.specs.Records.{Token, index, is_end, is_start, tokens, tokens_from}
@@ -18,7 +19,7 @@ pub use Rattle.splitter.proofs.Answers.{count_short}
 pub use borrow.Author.Rules.{rules}
 pub use borrow.Author.Tests.{leb-true, lt-leb}
 pub use lib.Dec.{eqb, leb, ltb}
-pub use lib.ListN.{length}
+pub use lib.ListN.{drop, length}
 pub use mathlib.Core.Bool.{◌&&◌, Bool, false, false≢true, true}
 pub use mathlib.Core.List.{List, [], ◌∷◌}
 pub use mathlib.Core.Logic.{⊎_elim}

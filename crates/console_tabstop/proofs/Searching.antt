@@ -1,8 +1,8 @@
 -- The search for the tabstop, record by record. Assumes nothing.
-use Rattle.console_tabstop.proofs.Names.{ℕ, ◌+◌, ◌-◌, ◌≤◌, ◌<◌, ◌≡◌, sym, ap, ◌∙◌, true, false, List, arith, length, part, tokens_from, Read, Head}
-use Rattle.console_tabstop.proofs.Names.{Terms, term, terms, settles, settled_from}
+use Rattle.console_tabstop.proofs.Names.{ℕ, ◌+◌, ◌-◌, ◌≤◌, ◌<◌, ◌≡◌, sym, ap, ◌∙◌, true, false, List, arith, length, drop, part, tokens_from, Read, Head}
+use Rattle.console_tabstop.proofs.Names.{Terms, term, terms, settles, settled_from, Passed}
 use mathlib.Core.Path.{subst}
-use lib.ListN.{drop, length-take}
+use lib.ListN.{length-take}
 use Rattle.console_tabstop.proofs.Scans.{terms-next, terms-none, term_bounds, settled_here, settled-later, settled-none}
 use Rattle.console_tabstop.proofs.Settled.{terms_24, settling_24}
 
@@ -23,6 +23,16 @@ module _ (s : List ℕ) (all : Terms) (place : ℕ) where
       ap (λ (u : Terms). u.widest + 4) (sym (terms-none s at past t) ∙ o.counts),
       sym (settled-none s at past (length s) t) ∙ o.settled,
     )
+
+    -- outside a term, records that change no count are stepped over
+    pub on-passed : (to : ℕ) → Passed s at to → t.counting ≡ false → On to t
+    on-passed to p e = record {
+      counts = sym (p.counts t e) ∙ o.counts;
+      settled = sym (p.settled t e) ∙ o.settled;
+      narrow = o.narrow;
+      passed = omega (arith, o.passed, p.order);
+      near = p.near o.near;
+    }
 
     module _ (h : Head) (r : Read s at h) (inside : at < length s) where
       abbrev Body : List ℕ

@@ -1,7 +1,8 @@
-use Rattle.console_tabstop.proofs.Names.{◌≡◌, sym, ap, ◌∙◌, rules, false≢true, arith, Kind, end-by-code, no-end-code, count_short, term, terms_of}
+use Rattle.console_tabstop.proofs.Names.{◌≡◌, sym, ap, ◌∙◌, rules, false≢true, arith, Kind, end-by-code, no-end-code, no-start-code}
+use Rattle.console_tabstop.proofs.Names.{count_short, term, terms_of}
 use Rattle.records.specs.Records.{kind_of}
 use Rattle.records.specs.declared.Block.TheVariants as block
-use Rattle.records.proofs.Codes.{start-by-code, no-start-code}
+use Rattle.records.proofs.Codes.{start-by-code}
 use Rattle.console_tabstop.proofs.Scans.{text-counted, term-passed}
 use Rattle.console_tabstop.proofs.Terms.on.Goals as goal
 
