@@ -4,8 +4,7 @@ use mathlib.Core.Path.{◌≡◌, refl, sym, ap, subst, ◌∙◌}
 use mathlib.Core.Bool.{Bool, true, false, false≢true}
 use mathlib.Core.Logic.{⊎_elim}
 use mathlib.Core.List.{List, [], ◌∷◌, ◌++◌, append-nil}
-use lib.ListN.{length, take, drop, length-append, length-drop}
-use lib.Seq.{take_all}
+use lib.ListN.{length, take, drop, length-append}
 use native.Mathlib.Nat.{add-zero}
 use native.Mathlib.Omega.{arith}
 use lib.Dec.{leb}
@@ -139,11 +138,10 @@ module _ (set : Settings) (x : List ℕ) (old : Lent) (col at : ℕ) (v : Lent) 
 -- a run that was copied into what is free of a room
 pub run_on : (set : Settings) (x : List ℕ) (old : Lent) (col at : ℕ) (n : GName) (room : List ℕ) (len col' at' : ℕ)
     → LineAdvance set x old col at (lent n room len) col' at' → len ≤ length room → at' ≤ length x
-    → (part : List ℕ) → length part ≡ length (take (length room - len) (drop len room))
-    → (most k w : ℕ) → Copies (take (length x - at') (drop at' x)) most (take (length room - len) (drop len room)) part k w → col' + most ≤ set.width
+    → (text part : List ℕ) → text ≡ drop at' x → length part ≡ length (take (length room - len) (drop len room))
+    → (most k w : ℕ) → Copies text most (take (length room - len) (drop len room)) part k w → col' + most ≤ set.width
     → LineAdvance set x old col at (lent n (take len room ++ (part ++ drop (length room - len) (drop len room))) (len + k)) (col' + w) (at' + k)
-run_on set x old col at n room len col' at' o h l part size most k w c thin =
-    let e : take (length x - at') (drop at' x) ≡ drop at' x = take_all (length x - at') (drop at' x) (omega (arith, length-drop at' x)) in
+run_on set x old col at n room len col' at' o h l text part e size most k w c thin =
     let d = subst (λ (y : List ℕ). Copies y most (take (length room - len) (drop len room)) part k w) e c in
     onward_run set x old col at (lent n room len) col' at' o l _ most k w
     (follows_run (drop at' x) most n room len h part size k w d) (puts_run (drop at' x) most n room len h part size k w d) thin

@@ -3,7 +3,7 @@
 
 #![tactic(auto)]
 
-ghost use Rattle.std.specs.Prelude.{◌≡◌};
+ghost use Rattle.std.specs.Prelude.{◌≡◌, length, take};
 ghost use Rattle.console_rules.specs.Console.{with_column};
 ghost use Rattle.console_chunks.specs.InnerShown.{text_in};
 ghost use Rattle.console_words.specs.InnerAdvance.{LineAdvance, Some, Ahead, Moves};
@@ -15,23 +15,24 @@ use splitter_iter::Splitter;
 
 // Words and spaces as long as they fit on the line and into the room, run after run. A run has no more bytes than the line has columns left, so
 // that none of its chunks folds, whichever the measure. Where its columns are as many as its bytes, no further run fits.
-fn fill_line(page: &mut Page, chunks: &Splitter, set: Settings) -> usize
+// `tail` as in `put_words`.
+fn fill_line(page: &mut Page, chunks: &Splitter, tail: &[u8], set: Settings) -> usize
     requires { Some (text_in page.old) }
-    ensures words { LineAdvance set chunks.now.input.now (text_in page.old) page.old.lay.column.0 chunks.now.cursor.at (text_in page.new) page.new.lay.column.0 result }
+    ensures words { LineAdvance set (take (length chunks.now.input.now) tail.now) (text_in page.old) page.old.lay.column.0 chunks.now.cursor.at (text_in page.new) page.new.lay.column.0 result }
     ensures lay { page.new.lay ≡ with_column page.new.lay.column.0 page.old.lay }
 {
-    let body = chunks.input;
+    let end = chunks.input.len().min(tail.len());
     let mut at = chunks.cursor.at;
     // A loop by its place: how far a run goes is known only once it is copied. The free part is lent to `words::copy_run`: with `words::put_run`, which
     // tests at each run whether the text is full, the console takes 1 to 12 % longer.
-    while at < body.len() {
+    while at < end {
         let column = page.lay.column.0;
-        if set.width <= column || body[at] == b'\n' {
+        if set.width <= column || tail[at] == b'\n' {
             break;
         }
         let len = page.len;
         let room = &mut *page.room;
-        let run = words::copy_run(&mut room[len..], &body[at..], set.width - column);
+        let run = words::copy_run(&mut room[len..], &tail[at..], end - at, set.width - column);
         page.len = len + run.len;
         page.lay.column = Columns(column + run.width);
         at += run.len;
@@ -56,11 +57,19 @@ fn follows(page: &Page, margin: Columns, code: Code) -> bool
 // Of the chunks that are left, the words and spaces that follow on the line; where they end. The chunks give from there what they gave before. It is
 // left free how many of them are taken (none is one way), the room's bytes past the new length, and, where the text is longer than the room, every
 // byte of the room and all of the page but how far its column and skip counter may move.
-pub fn put_words(page: &mut Page, margin: Columns, chunks: &Splitter, set: Settings) -> usize
-    ensures { Moves set margin.0 chunks.now.input.now chunks.now.cursor.code page.old chunks.now.cursor.at page.new result }
+// `tail` is the document's text from the body's first byte on, so that the last bytes of the body are copied by a whole block too: the words are those of as
+// many bytes of it as the body has.
+pub fn put_words(
+    page: &mut Page,
+    margin: Columns,
+    chunks: &Splitter,
+    tail: &[u8],
+    set: Settings,
+) -> usize
+    ensures { Moves set margin.0 (take (length chunks.now.input.now) tail.now) chunks.now.cursor.code page.old chunks.now.cursor.at page.new result }
 {
     if !follows(&*page, margin, chunks.cursor.code) {
         return chunks.cursor.at;
     }
-    fill_line(page, chunks, set)
+    fill_line(page, chunks, tail, set)
 }

@@ -3,7 +3,7 @@
 
 #![tactic(auto)]
 
-ghost use Rattle.std.specs.Prelude.{◌≡◌, false};
+ghost use Rattle.std.specs.Prelude.{◌≡◌, false, length, take};
 ghost use Rattle.room.specs.Lent.{text_of, with_bytes, wrote};
 ghost use Rattle.splitter.specs.Answers.{chunk_of};
 ghost use Rattle.splitter.specs.Split.{raw};
@@ -97,14 +97,15 @@ fn is_plain(l: &Markdown, code: Code) -> bool
 }
 
 // The words and spaces of the chunks that are left, where they go out as they stand, and where they end: the chunks that are left give from there
-// what they gave before.
-pub fn put_plain(t: &mut Text, chunks: &Splitter, l: &Markdown) -> usize
-    ensures { Moves l.now chunks.now.input.now chunks.now.cursor.code (text_of t.old) chunks.now.cursor.at (text_of t.new) result }
+// what they gave before. `tail` is the document's text from the body's first byte on, so that the last bytes of the body are copied by a whole block too:
+// the words are those of as many bytes of it as the body has.
+pub fn put_plain(t: &mut Text, chunks: &Splitter, tail: &[u8], l: &Markdown) -> usize
+    ensures { Moves l.now (take (length chunks.now.input.now) tail.now) chunks.now.cursor.code (text_of t.old) chunks.now.cursor.at (text_of t.new) result }
 {
     let Cursor { at, code } = chunks.cursor;
-    if chunks.input.len() <= at || chunks.input[at] == b'\n' || !is_plain(l, code) {
+    let end = chunks.input.len().min(tail.len());
+    if end <= at || tail[at] == b'\n' || !is_plain(l, code) {
         return at;
     }
-    let text = base::get_from(chunks.input, at);
-    at + words::put_run(t, text, text.len()).len
+    at + words::put_run(t, &tail[at..], end - at, end - at).len
 }

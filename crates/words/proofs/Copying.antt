@@ -67,6 +67,13 @@ plain_there x i n plain k a b e =
     let s : i + (k - i) ≡ k = omega arith in
     plain (k - i) (omega arith) (omega arith) (get_or-drop i x (k - i) 0 ∙ ap (λ (j : ℕ). get_or x j 0) s ∙ e)
 
+-- where a place is followed by bytes with no line end, so is the block that was found there one
+pub plain_block : (x block : List ℕ) (i : ℕ) → block ≡ take 16 (take (length x - i) (drop i x)) → NoLineEnd x i (i + 16) → NoLineEnd block 0 16
+plain_block x block i e plain k a b f =
+    let z : block ≡ take 16 (drop i x) = e ∙ ap (take 16) (take_all (length x - i) (drop i x) (omega (arith, length-drop i x))) in
+    plain (i + k) (omega arith) (omega arith)
+    (sym (get_or-drop i x k 0) ∙ sym (get_or-take 16 (drop i x) k 0 b) ∙ ap (λ (y : List ℕ). get_or y k 0) (sym z) ∙ f)
+
 -- Bytes of a line
 
 module _ (x old : List ℕ) where
@@ -116,10 +123,10 @@ module _ (x old : List ℕ) where
           (ap (λ (m : ℕ). take (m + n) (take i mid ++ part)) (sym k) ∙ take-append-add (take i mid) part n
           ∙ ap (λ (y : List ℕ). take i mid ++ y) (f ∙ ap (take n) left-is)))
 
-      pub copying_block : (block : List ℕ) (w : ℕ) → 8 ≤ length left → block ≡ take 8 left → NoLineEnd block 0 8 → w ≡ characters block
-          → take 8 part ≡ block → Copying x old put (i + 8) (width + w)
+      pub copying_block : (block : List ℕ) (w : ℕ) → 16 ≤ length left → block ≡ take 16 left → NoLineEnd block 0 16 → w ≡ characters block
+          → take 16 part ≡ block → Copying x old put (i + 16) (width + w)
       copying_block block w h s n e f =
-          on-there 8 w h (λ k a b z. n k a b (ap (λ (y : List ℕ). get_or y k 0) s ∙ get_or-take 8 left k 0 b ∙ z)) (e ∙ ap characters s) (f ∙ s)
+          on-there 16 w h (λ k a b z. n k a b (ap (λ (y : List ℕ). get_or y k 0) s ∙ get_or-take 16 left k 0 b ∙ z)) (e ∙ ap characters s) (f ∙ s)
 
       pub copying_join : (n w : ℕ) → Copying left (take (length mid - i) (drop i mid)) part n w → Copying x old put (i + n) (width + w)
       copying_join n w d = on-there n w d.near d.plain (sym d.counts) d.copied
@@ -260,6 +267,10 @@ module _ (x : List ℕ) (most : ℕ) (n : GName) (old : List ℕ) (len : ℕ) (h
         let q : length (take (length old - len) (drop len old)) ≡ length old - length o = free-size ∙ omega (arith, length-take-le len old h, ap length g.1) in
         (omega (arith, length-take-le len old h, ap length g.1), subst (λ (m : ℕ). Words x most m k w) q c.words);
   }
+
+-- the first bytes of a line are those of the text that it begins
+pub line_bytes : (x : List ℕ) (end n : ℕ) → n ≤ length (take end x) → take n (take end x) ≡ take n x
+line_bytes x end n h = take-take n end x (omega (arith, h, length-take end x))
 
 -- what stands there then, where a text did
 pub run_shown : (x : List ℕ) (most : ℕ) (v new : Lent) (k w : ℕ) → Follows x most v k w → new ≡ with_bytes (take k x) v

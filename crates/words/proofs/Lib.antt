@@ -3,3 +3,4 @@ pub mod Copying
 pub mod Chunks
 pub mod Follow
 pub mod Advance
+pub mod Last

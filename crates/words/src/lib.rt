@@ -2,11 +2,11 @@
 
 #![tactic(auto)]
 
-ghost use Rattle.std.specs.Prelude.{◌≡◌, false, ◌≤◌, length, take};
+ghost use Rattle.std.specs.Prelude.{◌≡◌, true, false, ◌≤◌, length, take};
 ghost use Rattle.utf8.specs.Utf8.{characters};
 ghost use Rattle.room.specs.Lent.{text_of, with_bytes};
 ghost use Rattle.splitter.specs.Split.{is_line_end_or_space};
-ghost use Rattle.words.specs.InnerCopies.{NoLineEnd, Copying, Stopped, Whole, Copies, Follows};
+ghost use Rattle.words.specs.InnerCopies.{NoLineEnd, LastBlock, Copying, Stopped, Whole, Copies, Follows};
 
 use room::Text;
 
@@ -24,49 +24,51 @@ fn ends_word(x: u8) -> bool
     x == b'\n' || x == b' '
 }
 
-// The three functions below take a block of eight bytes, and the compiler makes a few instructions of each. With the copy of byte after byte
+// The three functions below take a block of 16 bytes, and the compiler makes a few instructions of each. With the copy of byte after byte
 // alone, `copy_bytes`, the console takes 1.07 to 1.38 of the time, and Markdown 1.01 to 1.55.
 
-// Whether a line end stands among 8 bytes.
-fn has_line_end(block: &[u8; 8]) -> bool
-    ensures { result ≡ false → NoLineEnd block.now 0 8 }
+// Whether a line end stands among 16 bytes.
+fn has_line_end(block: &[u8; 16]) -> bool
+    ensures none { result ≡ false → NoLineEnd block.now 0 16 }
+    ensures one { result ≡ true → NoLineEnd block.now 0 16 → ⊥ }
 {
     base::any(block, |x| x == b'\n')
 }
 
-// How many of 8 bytes start a character.
-fn count(block: &[u8; 8]) -> u8
+// How many of 16 bytes start a character.
+fn count(block: &[u8; 16]) -> u8
     ensures { result ≡ characters block.now }
 {
     base::few(block, &utf8::starts_character)
 }
 
-// Copies 8 bytes to the first 8 that are free.
-fn copy_block(free: &mut [u8], block: &[u8; 8])
-    requires { 8 ≤ length free.old }
-    ensures { take 8 free.new ≡ block.now }
+// Copies 16 bytes to the first 16 that are free.
+fn copy_block(free: &mut [u8], block: &[u8; 16])
+    requires { 16 ≤ length free.old }
+    ensures { take 16 free.new ≡ block.now }
 {
-    if let Some(to) = free.first_chunk_mut::<8>() {
+    if let Some(to) = free.first_chunk_mut::<16>() {
         *to = *block;
     }
 }
 
-// Copies whole blocks of 8 bytes, up to one with a line end in it.
+// Copies whole blocks of 16 bytes, up to one with a line end in it.
 // By places: of what a slice ends as whose blocks `as_chunks_mut` lends, its contract says nothing. A block is counted before it is copied, since it would be
 // read again after the copy.
 fn copy_blocks(free: &mut [u8], text: &[u8]) -> Run
     requires { length text.now ≤ length free.old }
-    ensures { Copying text.now free.old free.new result.len result.width }
+    ensures copying { Copying text.now free.old free.new result.len result.width }
+    ensures last { LastBlock text.now result.len }
 {
     let mut len = 0;
     let mut width: usize = 0;
-    while let Some(block) = text[len..].first_chunk::<8>() {
+    while let Some(block) = text[len..].first_chunk::<16>() {
         if has_line_end(block) {
             break;
         }
         width += usize::from(count(block));
         copy_block(&mut free[len..], block);
-        len += 8;
+        len += 16;
     }
     Run { len, width }
 }
@@ -91,6 +93,25 @@ fn copy_bytes(free: &mut [u8], text: &[u8]) -> Run
     }
 }
 
+// Copies the last of n bytes, up to a line end: by one block where text and free part go on for 16 bytes, whatever stands there after the n.
+fn copy_last(free: &mut [u8], text: &[u8], n: usize) -> Run
+    requires { (n ≤ length text.now) × (n ≤ length free.old) × LastBlock (take n text.now) 0 }
+    ensures copying { Copying (take n text.now) free.old free.new result.len result.width }
+    ensures stopped { Stopped (take n text.now) result.len }
+{
+    match text.first_chunk::<16>() {
+        Some(block) if 16 <= free.len() => {
+            let part = utf8::front(block, b'\n', b'\n', n);
+            copy_block(free, block);
+            Run {
+                len: part.len,
+                width: part.width,
+            }
+        }
+        _ => copy_bytes(&mut free[..n], &text[..n]),
+    }
+}
+
 // A run without the word that it cuts in two, if it does: back to the last space.
 fn whole_words(text: &[u8], run: Run) -> Run
     requires { (run.len ≤ length text.now) × (characters (take run.len text.now) ≡ run.width) × NoLineEnd text.now 0 run.len }
@@ -109,43 +130,36 @@ fn whole_words(text: &[u8], run: Run) -> Run
     }
 }
 
-// Copies a text up to a line end into as many free bytes.
-fn copy_line(free: &mut [u8], line: &[u8]) -> Run
-    requires { length line.now ≡ length free.old }
-    ensures copying { Copying line.now free.old free.new result.len result.width }
-    ensures stopped { Stopped line.now result.len }
-{
-    let blocks = copy_blocks(free, line);
-    let bytes = copy_bytes(&mut free[blocks.len..], &line[blocks.len..]);
-    Run {
-        len: blocks.len + bytes.len,
-        width: blocks.width + bytes.width,
-    }
-}
-
 // Copies the words and spaces at the start of a text, outside ticks, into what is free of a room: as many as end by a line end, within `most`
-// bytes and within the room. Bytes past those may be written too. Both slices are cut to one length, which the compiler then tests once for each block: the
-// console takes 0.97 to 1.02 of the time by that and by the order in `copy_blocks`, Markdown 0.95 to 1.01.
-pub fn copy_run(free: &mut [u8], text: &[u8], most: usize) -> Run
-    ensures { Copies text.now most free.old free.new result.len result.width }
+// bytes and within the room. The text is the bytes before `end`; those from there on are what follows it, and serve to copy the last block whole.
+// Free bytes past the run may be written too. Both slices are cut to one length for `copy_blocks`, which the compiler then tests once for each block: the
+// console takes 0.97 to 1.02 of the time by that and by the order there, Markdown 0.95 to 1.01.
+pub fn copy_run(free: &mut [u8], text: &[u8], end: usize, most: usize) -> Run
+    ensures { Copies (take end text.now) most free.old free.new result.len result.width }
 {
-    let n = most.min(free.len()).min(text.len());
-    let run = copy_line(&mut free[..n], &text[..n]);
-    whole_words(text, run)
+    let line = &text[..end.min(text.len())];
+    let n = most.min(free.len()).min(line.len());
+    let blocks = copy_blocks(&mut free[..n], &text[..n]);
+    let last = copy_last(&mut free[blocks.len..], &text[blocks.len..], n - blocks.len);
+    let run = Run {
+        len: blocks.len + last.len,
+        width: blocks.width + last.width,
+    };
+    whole_words(line, run)
 }
 
 // The same after what is written in a room; where the room is too small already, none.
 // The fields of the text are used here: what is copied past the run is no write of it, so no method writes it.
-pub fn put_run(t: &mut Text, text: &[u8], most: usize) -> Run
+pub fn put_run(t: &mut Text, text: &[u8], end: usize, most: usize) -> Run
     ensures puts { text_of t.new ≡ with_bytes (take result.len text.now) (text_of t.old) }
-    ensures run { Follows text.now most (text_of t.old) result.len result.width }
+    ensures run { Follows (take end text.now) most (text_of t.old) result.len result.width }
 {
     if t.is_full() {
         return Run { len: 0, width: 0 };
     }
     let len = t.len;
     let room = &mut *t.room;
-    let run = copy_run(&mut room[len..], text, most);
+    let run = copy_run(&mut room[len..], text, end, most);
     t.len = len + run.len;
     run
 }
