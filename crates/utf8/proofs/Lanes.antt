@@ -2,12 +2,13 @@
 -- Assumes nothing.
 use Rattle.utf8.proofs.Laws.{not_none, not_some}
 use Rattle.utf8.specs.InnerParts.{Any}
-use Rattle.utf8.proofs.Names.{◌≡◌, refl, ap, ap₂, sym, ◌∙◌, Bool, beq, true, false, ◌&&◌, ◌||◌, List, [], ◌∷◌, ℕ, zero, suc, ◌+◌, ◌*◌, ◌/◌, ◌%◌}
-use Rattle.utf8.proofs.Names.{◌<◌, ◌≤◌, arith, eqb, eqb-true, eqb-false, not, get_or, length, take, and_left, and_right, ⊎_elim, eq_or_not}
-use Rattle.std.proofs.Common.{◌^◌, map, replicate, cond, w8, Fits}
+use Rattle.utf8.proofs.Names.{◌≡◌, refl, ap, ap₂, sym, ◌∙◌, Bool, beq, true, false, ◌&&◌, ◌||◌, List, [], ◌∷◌, ◌++◌, ℕ, zero, suc, ◌+◌, ◌-◌, ◌*◌, ◌/◌, ◌%◌}
+use Rattle.utf8.proofs.Names.{◌<◌, ◌≤◌, arith, eqb, eqb-true, eqb-false, not, get_or, length, take, and_left, and_right, ⊎_elim, eq_or_not, le_or_lt}
+use Rattle.std.proofs.Common.{◌^◌, map, reverse, replicate, cond, w8, Fits}
 use Rattle.std.specs.List.{prefix_len, count_by}
-use Rattle.std.proofs.lemmas.List.{length-map, take-map}
+use Rattle.std.proofs.lemmas.List.{length-map, take-map, take_all}
 use native.Mathlib.Nat.{pow-zero, pow-suc, zero-mod, mod-one}
+use Rattle.std.proofs.lemmas.List.{ext_get_or, get_or-map, get_or_append_left, get_or-reverse, length-reverse}
 use lib.Arith.{mod-mul}
 use Rattle.std.proofs.lemmas.Simd.{mask_l-mod, ones-mask_l, bitmask_splat, zip2_splat, zip2_of_maps}
 use lib.Count.{ones as count_ones}
@@ -135,3 +136,25 @@ module _ (v : List ℕ) (long : length v ≡ 16) where
 
   pub any_of : Any v (not (eqb (mask_l (map (top 7) (zip2 differs v (replicate 16 0))) % 2 ^ 64) 0))
   any_of = record { none = all_zero; one = one_nonzero }
+
+-- as many bytes as there are
+pub take_most : (v : List ℕ) (n k : ℕ) → k ≡ min n (length v) → take k v ≡ take n v
+take_most v n k e = ⊎_elim
+    (λ (h : n ≤ length v). let q : k ≡ n = omega arith in ap (λ (m : ℕ). take m v) q)
+    (λ (h : length v < n). let q : k ≡ length v = omega arith in ap (λ (m : ℕ). take m v) q ∙ take_all (length v) v (omega arith) ∙ sym (take_all n v (omega arith)))
+    (le_or_lt n (length v))
+
+-- the lanes in the other order
+abbrev pub places : List ℕ
+places = 15 ∷ 14 ∷ 13 ∷ 12 ∷ 11 ∷ 10 ∷ 9 ∷ 8 ∷ 7 ∷ 6 ∷ 5 ∷ 4 ∷ 3 ∷ 2 ∷ 1 ∷ 0 ∷ []
+
+places_are : upto (λ i. eqb (get_or places i 0) (15 - i)) 16 ≡ true
+places_are = refl
+
+pub reversed : (v : List ℕ) → length v ≡ 16 → map (λ k. get_or (v ++ v) k 0) places ≡ reverse v
+reversed v long =
+    ext_get_or 0 _ _ (sym (length-reverse v ∙ long)) (λ i h.
+    let at : get_or places i 0 ≡ 15 - i = eqb-true _ _ (upto_sound (λ j. eqb (get_or places j 0) (15 - j)) 16 places_are i h) in
+    let e : length v - 1 - i ≡ 15 - i = omega (arith, long) in
+    get_or-map (λ k. get_or (v ++ v) k 0) places i 0 0 h ∙ ap (λ (k : ℕ). get_or (v ++ v) k 0) at ∙ get_or_append_left v v 0 (15 - i) (omega (arith, long))
+    ∙ ap (λ (k : ℕ). get_or v k 0) (sym e) ∙ sym (get_or-reverse v i 0 (omega (arith, long))))

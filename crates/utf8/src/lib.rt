@@ -3,7 +3,7 @@
 #![tactic(auto)]
 
 ghost use Rattle.std.specs.Prelude.{◌≡◌, ◌≢◌, ℕ, ◌/◌, Bool, true, false, not, [], ◌∷◌, ◌<◌, ◌≤◌, ◌+◌, ◌-◌, ◌*◌, ◌^◌, ◌&&◌, ◌||◌};
-ghost use Rattle.std.specs.Prelude.{length, take, drop, map, eqb, ltb, replicate, suc, get_or, bit_and, MatchOption, MatchBool};
+ghost use Rattle.std.specs.Prelude.{length, take, drop, map, reverse, eqb, ltb, replicate, suc, get_or, bit_and, MatchOption, MatchBool};
 ghost use Rattle.base.specs.Choice.{when◌then◌else◌, among};
 ghost use Rattle.utf8.specs.Utf8.{◌to◌, utf8, characters, continues, begins, size_of, row_of, character_at};
 ghost use Rattle.utf8.specs.InnerNeighbours.{asks, low, high, beside, follows};
@@ -395,12 +395,11 @@ pub struct Part {
     pub width: usize,
 }
 
-// The first of 16 bytes up to one of two bytes, at most `most`. No loop and no branch hangs on a byte.
-pub fn front(block: &[u8; 16], a: u8, b: u8, most: usize) -> Part
-    ensures len { result.len ≡ prefix_len (λ x. not (eqb x a || eqb x b)) (take most block.now) }
-    ensures width { result.width ≡ characters (take result.len block.now) }
+// The first of some lanes up to one of two bytes, at most `most`. No loop and no branch hangs on a byte.
+fn front_of(v: u8x16, a: u8, b: u8, most: usize) -> Part
+    ensures len { result.len ≡ prefix_len (λ x. not (eqb x a || eqb x b)) (take most v) }
+    ensures width { result.width ≡ characters (take result.len v) }
 {
-    let v = u8x16::from_array(*block);
     let found = places_of(v, a, b);
     let first = if found == 0 {
         16
@@ -410,6 +409,31 @@ pub fn front(block: &[u8; 16], a: u8, b: u8, most: usize) -> Part
     let len = first.min(most);
     let width = (starts_of(v) % (1 << len as u32)).count_ones() as usize;
     Part { len, width }
+}
+
+// The first of 16 bytes up to one of two bytes, at most `most`.
+pub fn front(block: &[u8; 16], a: u8, b: u8, most: usize) -> Part
+    ensures len { result.len ≡ prefix_len (λ x. not (eqb x a || eqb x b)) (take most block.now) }
+    ensures width { result.width ≡ characters (take result.len block.now) }
+{
+    front_of(u8x16::from_array(*block), a, b, most)
+}
+
+// The last of 16 bytes from the end back to a byte, which is none of them.
+pub fn back(block: &[u8; 16], a: u8) -> Part
+    ensures len { result.len ≡ prefix_len (λ x. not (eqb x a || eqb x a)) (reverse block.now) }
+    ensures width { result.width ≡ characters (take result.len (reverse block.now)) }
+{
+    front_of(u8x16::from_array(*block).reverse(), a, a, 16)
+}
+
+// How many of the first n of 16 bytes start a character.
+pub fn count_front(block: &[u8; 16], n: usize) -> usize
+    ensures { result ≡ characters (take n block.now) }
+{
+    let k = n.min(16);
+    let starts = starts_of(u8x16::from_array(*block));
+    (starts % (1 << k as u32)).count_ones() as usize
 }
 
 // A code point so far, with the payload of a byte more.
