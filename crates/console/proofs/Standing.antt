@@ -5,7 +5,8 @@ use Rattle.console.proofs.Names.{refusal_place, Refusal, split, body, Lent, Lead
 use Rattle.console.proofs.Names.{Settings, Sheet, text_in, page_of, ruled, after, Page, Stands, Written}
 use Rattle.std.specs.Prelude.{Result as Answer}
 use Prim.Native.Nat.{◌*◌, ◌^◌}
-use lib.ListN.{drop, length-take}
+use lib.ListN.{drop, length-take, take, length-drop}
+use lib.Seq.{length-take-le, take_all}
 use Rattle.base.specs.Bytes.{part}
 use Rattle.base.specs.Stack.{top, popped}
 use Rattle.base.proofs.Choice.{if_true, if_false}
@@ -276,3 +277,11 @@ module _ (p : Page) (kept : List ℕ) (r : Answer (Unit {0}) Refusal) (x : Sheet
 
   pub placed_at : (u : Unit {0}) → r ≡ Ok u → after r (page_of p kept) ≡ x → page_of p kept ≡ x
   placed_at u e f = rw e at f
+
+-- a body is the front of what stands from its first byte on
+pub body_front : (x : List ℕ) (a b : ℕ) → a ≤ b → b ≤ length x
+    → take (b - a) (drop a x) ≡ take (length (take (b - a) (drop a x))) (take (length x - a) (drop a x))
+body_front x a b h k =
+    let n : length (take (b - a) (drop a x)) ≡ b - a = length-take-le (b - a) (drop a x) (omega (arith, length-drop a x)) in
+    let z : take (length x - a) (drop a x) ≡ drop a x = take_all (length x - a) (drop a x) (omega (arith, length-drop a x)) in
+    rw (n, z) refl

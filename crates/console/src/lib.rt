@@ -2,7 +2,7 @@
 
 #![tactic(auto)]
 
-ghost use Rattle.std.specs.Prelude.{◌≡◌, List, [], ℕ, ◌+◌, ◌≤◌, ◌^◌, length};
+ghost use Rattle.std.specs.Prelude.{◌≡◌, List, [], ℕ, ◌+◌, ◌≤◌, ◌^◌, length, take};
 ghost use Rattle.base.specs.Result.{measured};
 ghost use Rattle.splitter.specs.Answers.{placed_of, PieceWithin};
 ghost use Rattle.records.specs.Records.{tokens};
@@ -100,21 +100,22 @@ fn put_piece(
     page.place_chunk(margin, chunk, set)
 }
 
-// The text of a record whose body starts at a place of the document, at a margin.
+// The text of a record whose body starts at a place of the document, at a margin. `tail` is the document's text from there on: the body and what follows it.
 fn put_body(
     page: &mut Page,
     margin: Columns,
     start: usize,
     body: &[u8],
+    tail: &[u8],
     set: Settings,
 ) -> Result<(), Refusal>
-    requires { (page.old.lay.column.0 ≤ 2 ^ 49) × (margin.0 ≤ 1_000_000) × (length body.now ≤ max_bytes) × (start ≤ max_bytes) }
+    requires { (page.old.lay.column.0 ≤ 2 ^ 49) × (margin.0 ≤ 1_000_000) × (length body.now ≤ max_bytes) × (start ≤ max_bytes) × (body.now ≡ take (length body.now) tail.now) }
     ensures { Written set body.now margin.0 start page.old page.new result }
 {
     let mut chunks = splitter_iter::split(body);
     // words and then a chunk at a time: a `for` over the chunks would lend them to the loop alone, and words move their cursor
     loop {
-        chunks.cursor.at = console_words::put_words(page, margin, &chunks, set);
+        chunks.cursor.at = console_words::put_words(page, margin, &chunks, tail, set);
         // At a body's end the splitter is not asked: so the console takes 0.97 to 0.99 of its time.
         if body.len() <= chunks.cursor.at {
             return Ok(());
@@ -157,7 +158,8 @@ fn walk(accepted: &Accepted, set: Settings, tab: Columns, room: &mut [u8]) -> Re
             Kind::Text(_) => {
                 if !page.lay.skip.enabled() {
                     let body = &document[h.start..h.next];
-                    put_body(&mut page, margins.top(), h.start, body, set)?;
+                    let tail = &document[h.start..];
+                    put_body(&mut page, margins.top(), h.start, body, tail, set)?;
                 }
             }
         }

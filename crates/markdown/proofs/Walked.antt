@@ -5,6 +5,11 @@ use Rattle.markdown.proofs.Names.{arith, Result, gives, refused, ◌>>=◌, bind
 use Rattle.markdown.proofs.Names.{Token, check, Style, Block, split, chunk_of, placed_from, cursor, start, page, with_lay, write, shown, last, anywhere}
 use Rattle.markdown.proofs.Names.{walk, body, hides, skip_paragraph, Markdown, met_term, start_of, end_of, closed, start_rule, chunk_rule, fencing}
 use borrow.Author.Tests.{eqb-true, eqb-false}
+use Prim.Native.Nat.{◌-◌, ◌<◌}
+use mathlib.Core.Logic.{⊎_elim}
+use lib.ListN.{take, drop_of_length-le}
+use lib.Seq.{length-take-le, take_all, drop-drop}
+use Rattle.base.proofs.Choice.{le_or_lt}
 use Rattle.std.specs.Borrow.{GName}
 use Rattle.document.proofs.Walks.{check-gives}
 use Rattle.records.specs.declared.Style.TheVariants as style
@@ -30,20 +35,67 @@ use Rattle.markdown_chunks.specs.InnerAdvance.{marked_from, Moves}
 use Rattle.markdown_marks.proofs.Flags.{start_few, end_few, met_few, met_skip, met_mono, met_style, met_styled}
 use Rattle.markdown.proofs.Turns.{start_is, end_is, start_meta, end_meta, unknown_is, hidden_is, text-is, finish-is, chunk-on, chunk-last}
 
--- The bodies of some records are as short as an accepted document.
-abbrev Short : List Token → Type 0
-Short [] = Unit {0}
-Short (t ∷ ts) = (length t.body ≤ 32_768) × Short ts
+-- The body of a record is the front of what stands in a document from its first byte on.
+pub record Front (document : List ℕ) (t : Token) : Type 0 where
+  pub inside : t.start ≤ length document
+  pub same : t.body ≡ take (length t.body) (drop t.start document)
 
-short_from : (s : List ℕ) (p pass : ℕ) → length s ≤ 32_768 → Short (tokens p pass s)
-unfolding tokens token_at
-short_from [] p zero h = tt
-short_from [] p (suc pass) h = tt
-short_from (b ∷ s) p (suc pass) h = short_from s (p + 1) pass (omega (arith, h))
-short_from (b ∷ s) p zero h = (
-  omega (arith, h, length-take (size (b ∷ s)) (drop 6 (b ∷ s)), length-drop 6 (b ∷ s)),
-  short_from s (p + 1) (5 + size (b ∷ s)) (omega (arith, h)),
-)
+-- and of what is taken from there on
+pub front_of : {document : List ℕ} {t : Token} → Front document t → (x : List ℕ) → x ≡ document
+    → t.body ≡ take (length t.body) (take (length x - t.start) (drop t.start x))
+front_of {document} {t} f x e =
+    f.same
+    ∙ ap (take (length t.body))
+    (ap (drop t.start) (sym e) ∙ sym (take_all (length x - t.start) (drop t.start x) (omega (arith, length-drop t.start x))))
+
+front_at : (document s : List ℕ) (p : ℕ) → s ≡ drop p document → p ≤ length document → Front document (token_at p s)
+unfolding token_at
+front_at document s p e h = record {
+  inside = omega (arith, h, ap length e, length-drop p document, length-take 6 s);
+  same = own (size s) (drop 6 s) ∙ ap (take (length (take (size s) (drop 6 s)))) after_head;
+}
+  where
+    -- so many bytes are the front that they are
+    own : (n : ℕ) (y : List ℕ) → take n y ≡ take (length (take n y)) y
+    own n y =
+        ⊎_elim (λ (l : n ≤ length y). let k : length (take n y) ≡ n = length-take-le n y l in ap (λ (m : ℕ). take m y) (sym k))
+        (λ (l : length y < n). let k : take n y ≡ y = take_all n y (omega arith) in k ∙ sym (rw k (take_all (length y) y (omega arith))))
+        (le_or_lt n (length y))
+
+    there : drop 6 s ≡ drop (p + 6) document
+    there = ap (drop 6) e ∙ drop-drop 6 p document
+
+    after_head : drop 6 s ≡ drop (p + length (take 6 s)) document
+    after_head =
+        ⊎_elim (λ (l : 6 ≤ length s). let k : length (take 6 s) ≡ 6 = length-take-le 6 s l in there ∙ ap (λ (m : ℕ). drop (p + m) document) (sym k))
+        (λ (l : length s < 6).
+        let z : drop 6 s ≡ [] = drop_of_length-le s {i = 6} (omega arith) in
+        let k : length (take 6 s) ≡ length s = ap length (take_all 6 s (omega arith)) in
+        z ∙ sym (drop_of_length-le document {i = p + length (take 6 s)} (omega (arith, k, ap length e, length-drop p document))))
+        (le_or_lt 6 (length s))
+
+-- it is no longer than these bytes
+body_few : (s : List ℕ) (p : ℕ) → length s ≤ 32_768 → length (token_at p s).body ≤ 32_768
+unfolding token_at
+body_few s p k = omega (arith, k, length-take (size s) (drop 6 s), length-drop 6 s)
+
+-- The bodies of some records are as short as an accepted document, and stand in it.
+abbrev Bodies : List ℕ → List Token → Type 0
+Bodies document [] = Unit {0}
+Bodies document (t ∷ ts) = ((length t.body ≤ 32_768) × Front document t) × Bodies document ts
+
+module _ (document : List ℕ) where
+  bodies_from : (s : List ℕ) (p pass : ℕ) → s ≡ drop p document → p ≤ length document → length s ≤ 32_768 → Bodies document (tokens p pass s)
+  unfolding tokens
+  bodies_from [] p zero e h k = tt
+  bodies_from [] p (suc pass) e h k = tt
+  bodies_from (b ∷ s) p (suc pass) e h k =
+      bodies_from s (p + 1) pass (ap (drop 1) e ∙ drop-drop 1 p document) (omega (arith, ap length e, length-drop p document)) (omega (arith, k))
+  bodies_from (b ∷ s) p zero e h k = (
+    (body_few (b ∷ s) p k, front_at document (b ∷ s) p e h),
+    bodies_from s (p + 1) (5 + size (b ∷ s)) (ap (drop 1) e ∙ drop-drop 1 p document) (omega (arith, ap length e, length-drop p document))
+        (omega (arith, k)),
+  )
 
 -- the defaults of the fields are what stands before the first record
 pub default-plain : (l : Markdown)
@@ -80,7 +132,7 @@ module _ (name : GName) (limit : ℕ) (full : Bool) (document : List ℕ) where
 
   -- before a record is read, with those that are left
   pub record On (t : Text) (ts : List Token) (lay : Markdown) : Type 0 where
-    pub short : Short ts
+    pub bodies : Bodies document ts
     pub same : Same t
     pub few : lay.skip + length ts ≤ 32_768
     pub open_few : lay.mono + length ts ≤ 32_768
@@ -90,7 +142,7 @@ module _ (name : GName) (limit : ℕ) (full : Bool) (document : List ℕ) where
       → On t (tokens 0 0 document) plain
   unfolding shown ◌>>=◌
   on-start t loan w n e = record {
-    short = short_from document 0 0 (check-gives document [] e).0;
+    bodies = bodies_from document document 0 0 refl (omega arith) (check-gives document [] e).0;
     same = (n, (same_room _ _ _ _ w).1);
     few = omega (arith, few_records document [] e);
     open_few = omega (arith, few_records document [] e);
@@ -102,7 +154,7 @@ module _ (name : GName) (limit : ℕ) (full : Bool) (document : List ℕ) where
 
   -- the chunks of a body from a cursor on are left, and then what follows the body
   pub record InBody (t : Text) (ts : List Token) (lay : Markdown) (y : List ℕ) (c : Cursor) : Type 0 where
-    pub short : (length y ≤ 32_768) × Short ts
+    pub short : (length y ≤ 32_768) × Bodies document ts
     pub same : Same t
     pub few : lay.skip + 1 + length ts ≤ 32_768
     pub open_few : lay.mono + length ts ≤ 32_768
@@ -157,7 +209,7 @@ module _ (name : GName) (limit : ℕ) (full : Bool) (document : List ℕ) where
       pub on-done : placed_from y c ≡ [] → On u ts lay'
       on-done f =
           let o : On u ts (with_fenced false lay) = record {
-            short = i.short.1;
+            bodies = i.short.1;
             same = still t u (λ n. extended n (code_ends lay)) i.same w;
             few = omega (arith, i.few);
             open_few = i.open_few;
@@ -170,7 +222,7 @@ module _ (name : GName) (limit : ℕ) (full : Bool) (document : List ℕ) where
       on_stopped {p} took f k h =
           let g : k ≡ skip_paragraph lay.skip = h ∙ ap (λ (l : Markdown). skip_paragraph l.skip) v in
           let o : On u ts (with_fenced false (with_skip k lay)) = record {
-            short = i.short.1;
+            bodies = i.short.1;
             same = still t u (λ n. extended n (code_ends lay)) i.same w;
             few = omega (arith, i.few, g);
             open_few = i.open_few;
@@ -210,14 +262,17 @@ module _ (name : GName) (limit : ℕ) (full : Bool) (document : List ℕ) where
       fewer : length ts ≡ 1 + length us
       fewer = omega (arith, ap length first)
 
-      short_left : (length h.body ≤ 32_768) × Short us
-      short_left = subst Short first o.short
+      bodies_left : ((length h.body ≤ 32_768) × Front document h) × Bodies document us
+      bodies_left = subst (Bodies document) first o.bodies
+
+      pub front_here : Front document h
+      front_here = bodies_left.0.1
 
       -- nothing is done
       passes : ((x : List ℕ) → Turned (page [] lay x) ≡ gives (page [] lay x)) → On t us lay
       unfolding ◌>>=◌
       passes f = record {
-        short = short_left.1;
+        bodies = bodies_left.1;
         same = o.same;
         few = omega (arith, o.few, fewer);
         open_few = omega (arith, o.open_few, fewer);
@@ -260,7 +315,7 @@ module _ (name : GName) (limit : ℕ) (full : Bool) (document : List ℕ) where
             let skip = ap (λ (l : Markdown). l.skip) v ∙ met_skip b (term_ends us) lay in
             let mono = ap (λ (l : Markdown). l.mono) v ∙ met_mono b (term_ends us) lay in
             record {
-              short = short_left.1;
+              bodies = bodies_left.1;
               same = still t u (λ size. started_text size met b) o.same w;
               few = omega (arith, o.few, fewer, most.0, skip, ap (λ (l : Markdown). l.skip) z);
               open_few = omega (arith, o.open_few, fewer, most.1, mono, ap (λ (l : Markdown). l.mono) z);
@@ -279,7 +334,7 @@ module _ (name : GName) (limit : ℕ) (full : Bool) (document : List ℕ) where
         on-ended e m w f =
             let most = end_few b (with_style style.Text lay) in
             record {
-              short = short_left.1;
+              bodies = bodies_left.1;
               same = still t u (λ size. ended_text size lay b) o.same w;
               few = omega (arith, o.few, fewer, most.0, ap (λ (l : Markdown). l.skip) f);
               open_few = omega (arith, o.open_few, fewer, most.1, ap (λ (l : Markdown). l.mono) f);
@@ -299,7 +354,7 @@ module _ (name : GName) (limit : ℕ) (full : Bool) (document : List ℕ) where
             → InBody u us (with_style st lay) h.body start
         unfolding change split
         on-body u z w = record {
-          short = short_left;
+          short = (bodies_left.0.0, bodies_left.1);
           same = still t u (λ n. extended n (closing lay.style ++ opening st)) o.same w;
           few = omega (arith, o.few, fewer);
           open_few = omega (arith, o.open_few, fewer);
@@ -319,7 +374,7 @@ module _ (name : GName) (limit : ℕ) (full : Bool) (document : List ℕ) where
 -- with the name of another loan, or that of the text itself
 module _ {name : GName} {limit : ℕ} {full : Bool} {document : List ℕ} {t : Text} {ts : List Token} {lay : Markdown} where
   pub on_named : {other : GName} → On other limit full document t ts lay → other ≡ name → On name limit full document t ts lay
-  on_named o e = record { short = o.short; same = (o.same.0 ∙ e, o.same.1); few = o.few; open_few = o.open_few; leads = o.leads }
+  on_named o e = record { bodies = o.bodies; same = (o.same.0 ∙ e, o.same.1); few = o.few; open_few = o.open_few; leads = o.leads }
 
   pub body_own : {y : List ℕ} {c : Cursor} → InBody name limit full document t ts lay y c → InBody (t.room.ghost_name) limit full document t ts lay y c
   body_own i = record { short = i.short; same = (refl, i.same.1); few = i.few; open_few = i.open_few; leads = i.leads }

@@ -46,9 +46,10 @@ fn walk(document: &Accepted, full: bool, room: &mut [u8]) -> Result<usize, Refus
                 markdown_marks::change_to_markdown_style(&mut t, lay.style, st);
                 lay.style = st;
                 let mut chunks = splitter_iter::split(r.body);
+                let tail = &document.bytes()[r.start..];
                 // words and then a chunk at a time: by chunks alone it took 1.8 to 4 times as long
                 'chunks: loop {
-                    chunks.cursor.at = markdown_chunks::put_plain(&mut t, &chunks, &lay);
+                    chunks.cursor.at = markdown_chunks::put_plain(&mut t, &chunks, tail, &lay);
                     let Some((piece, _)) = chunks.next() else {
                         break 'chunks;
                     };

@@ -30,7 +30,8 @@ failed b h =
     (eq_or_not b 0x0A)
 
 -- The bytes of a block before its first line end, of which n may count.
-module _ (x block : List ℕ) (n len : ℕ) (inside : n ≤ length x) (full : 16 ≤ length x) (b : block ≡ take 16 x) (e : len ≡ prefix_len goes_on (take n block)) where
+module _ (x block : List ℕ) (n len : ℕ) (inside : n ≤ length x) (full : 16 ≤ length x) (b : block ≡ take 16 x)
+    (e : len ≡ prefix_len goes_on (take n block)) where
   all : length (take 16 x) ≡ 16
   all = length-take-le 16 x full
 

@@ -1,4 +1,5 @@
-use Rattle.console.proofs.Names.{◌≡◌, refl, sym, ◌∙◌, arith, cursor, Took}
+use lib.ListN.{take}
+use Rattle.console.proofs.Names.{length, ◌≡◌, refl, sym, ◌∙◌, arith, cursor, Took}
 use Rattle.splitter.proofs.Steps.{first-none, placed-done}
 use Rattle.splitter_iter.specs.InnerStruct.{splitter}
 use Rattle.splitter_iter.proofs.Left.{took_next, none_next}
@@ -14,7 +15,8 @@ words : (c : After-put_words-chunks)
 words c =
     let l = c.loop-chunks in
     let r = c.put_words-chunks in
-    write_words _ _ _ _ _ l.page l.chunks.cursor l.invariant.0 r.new.page r.result (rw l.invariant.1 at r.ensures)
+    let e : take (length l.chunks.input.now) c.args.tail.now ≡ c.args.body.now = rw l.invariant.1 (sym c.requires.4) in
+    write_words _ _ _ _ _ l.page l.chunks.cursor l.invariant.0 r.new.page r.result (rw e at r.ensures)
 
 -- and the chunk after them was taken
 chunk : (c : In-Some)

@@ -7,7 +7,7 @@ use Rattle.refusal.specs.declared.Refusal.TheVariants as refusal
 use Rattle.console_tabstop.proofs.Ahead.{known_next}
 use Rattle.console.proofs.Standing.{stand_first, stand_over, stand_read, stand_known, stand_startable, stand_less, stand_column, stand_started}
 use Rattle.console.proofs.Standing.{stand_ended, stand_hidden, stand_written, stand_refused, margin_low, column_low, body_few, start_few}
-use Rattle.console.proofs.Standing.{stands-refused, stands-ended, stands-done}
+use Rattle.console.proofs.Standing.{stands-refused, stands-ended, stands-done, body_front}
 use Rattle.console.proofs.walk.Goals.{After-whole_at-h}
 use Rattle.console.proofs.walk.Goals as goal
 
@@ -107,6 +107,12 @@ slice_bounds-body-count c = let r = read (goal.at.slice_bounds-body-count c).Aft
 pub slice_bounds-body-start : goal.slice_bounds-body-start
 slice_bounds-body-start c = let r = read (goal.at.slice_bounds-body-start c).After-whole_at-h in omega (arith, r.order, r.high)
 
+pub slice_bounds-tail-start : goal.slice_bounds-tail-start
+slice_bounds-tail-start c = let r = read (goal.at.slice_bounds-tail-start c).After-whole_at-h in omega (arith, r.order, r.high)
+
+pub slice_bounds-tail-count : goal.slice_bounds-tail-count
+slice_bounds-tail-count c = let r = read (goal.at.slice_bounds-tail-count c).After-whole_at-h in omega (arith, r.order, r.high)
+
 pub slice_bounds-body-end : goal.slice_bounds-body-end
 slice_bounds-body-end c = let r = read (goal.at.slice_bounds-body-end c).After-whole_at-h in omega (arith, r.high)
 
@@ -121,6 +127,7 @@ put_body-requires c =
       omega (arith, c.top.ensures, low),
       body_few _ _ _ _ s.page s.margins s.at s.invariant.0 c.whole_at-h.result r l _ c.in-Text.is few,
       start_few _ _ _ _ s.page s.margins s.at s.invariant.0 c.whole_at-h.result r l _ c.in-Text.is few,
+      body_front c.bytes-document.result.now c.whole_at-h.result.start c.whole_at-h.result.next (omega (arith, r.order)) (omega (arith, r.high)),
     )
 
 pub returns-in_err-put_body-in-Text : goal.returns-in_err-put_body-in-Text

@@ -9,7 +9,8 @@ use Rattle.console_words.proofs.fill_line.Given as goal
 
 abbrev pub invariant-loop-at : goal.invariant-loop-at
 invariant-loop-at l =
-    LineAdvance l.set (take (length l.chunks.input.now) l.tail) (text_in l.initial.page) l.initial.page.lay.column.0 l.chunks.cursor.at (text_in l.page) l.page.lay.column.0 l.at
+    LineAdvance l.set (take (length l.chunks.input.now) l.tail) (text_in l.initial.page) l.initial.page.lay.column.0 l.chunks.cursor.at
+    (text_in l.page) l.page.lay.column.0 l.at
     × (l.page.lay ≡ with_column l.page.lay.column.0 l.initial.page.lay)
 
 abbrev pub decreases-loop-at : goal.decreases-loop-at

@@ -1,10 +1,10 @@
-use Rattle.markdown.proofs.Names.{◌≡◌, refl, sym, ap, ◌∙◌, subst, arith, rules, List, ℕ}
+use Rattle.markdown.proofs.Names.{◌≤◌, ◌≡◌, length, refl, sym, ap, ◌∙◌, subst, arith, rules, List, ℕ}
 use Rattle.room.specs.Lent.{Lent}
 use Rattle.room.proofs.Lents.{same_room}
 use Rattle.renderer.specs.Rendered.{standing, Inside}
 use Rattle.splitter_iter.proofs.Left.{took_next, none_next}
 use Rattle.markdown.proofs.Walked.{default-plain, on-start, on_full, on-end, on_unknown, on_meta, on-started, on-ended, on_hidden, on-body, on-done, on_stopped}
-use Rattle.markdown.proofs.Walked.{body_words, body-on, on_named, body_own}
+use Rattle.markdown.proofs.Walked.{body_words, body-on, on_named, body_own, front_here, front_of}
 use Rattle.markdown.proofs.walk.Goals as goal
 
 pub records-init : goal.records-init
@@ -36,25 +36,43 @@ pub records-preserved-then-enabled : goal.records-preserved-then-enabled
 records-preserved-then-enabled c =
     on_hidden _ _ _ _ c.records.invariant c.in-Some.ensures.steps c.in-Text.is (sym c.enabled.ensures ∙ c.if-enabled.true)
 
+-- the document from the body's first byte on
+
+pub slice_bounds-tail-start : goal.slice_bounds-tail-start
+slice_bounds-tail-start c =
+    let f = front_here _ _ _ _ c.records.invariant c.in-Some.ensures.steps in
+    let h : c.in-Some.r.start ≤ length c.bytes-in-Text.result.now = omega (arith, f.inside, ap length c.bytes-in-Text.ensures.same) in
+    search rules
+
+pub slice_bounds-tail-count : goal.slice_bounds-tail-count
+slice_bounds-tail-count c =
+    let f = front_here _ _ _ _ c.records.invariant c.in-Some.ensures.steps in
+    omega (arith, f.inside, ap length c.bytes-in-Text.ensures.same)
+
 pub chunks-init : goal.chunks-init
 chunks-init c =
-    rw c.split-chunks.ensures.0
-    (body_own
-    (on-body _ _ _ _ c.records.invariant c.in-Some.ensures.steps c.in-Text.is c.change_to_markdown_style.new.t
-    (sym c.enabled.ensures ∙ c.if-enabled.false) c.change_to_markdown_style.ensures))
+    rw c.split-chunks.ensures.0 (
+      body_own
+          (on-body _ _ _ _ c.records.invariant c.in-Some.ensures.steps c.in-Text.is c.change_to_markdown_style.new.t
+          (sym c.enabled.ensures ∙ c.if-enabled.false) c.change_to_markdown_style.ensures),
+      front_of (front_here _ _ _ _ c.records.invariant c.in-Some.ensures.steps) c.bytes-in-Text.result.now c.bytes-in-Text.ensures.same,
+    )
 
 pub chunks-preserved : goal.chunks-preserved
 chunks-preserved c =
     let n = took_next _ _ _ c.next-in-chunks.ensures.steps _ _ c.in-Some-next.is in
-    rw n.1
-    (body-on _ _ _ _ (body_words _ _ _ _ c.chunks.invariant c.put_plain-chunks.new.t _ c.put_plain-chunks.ensures) n.0 c.put_chunk.new.t _
-    (sym (c.ends_body.ensures _) ∙ c.if-ends_body.false) (rw n.1 at c.put_chunk.ensures.text) (rw n.1 at c.put_chunk.ensures.after))
+    rw n.1 (
+      body-on _ _ _ _ (body_words _ _ _ _ c.chunks.invariant.0 c.put_plain-chunks.new.t _ (rw (← c.chunks.invariant.1) at c.put_plain-chunks.ensures))
+          n.0 c.put_chunk.new.t _ (sym (c.ends_body.ensures _) ∙ c.if-ends_body.false) (rw n.1 at c.put_chunk.ensures.text)
+          (rw n.1 at c.put_chunk.ensures.after),
+      c.chunks.invariant.1,
+    )
 
 pub records-preserved-then-ends_body : goal.records-preserved-then-ends_body
 records-preserved-then-ends_body c =
     let n = took_next _ _ _ c.next-in-chunks.ensures.steps _ _ c.in-Some-next.is in
     on_named
-    (on_stopped _ _ _ _ (body_words _ _ _ _ c.chunks.invariant c.put_plain-chunks.new.t _ c.put_plain-chunks.ensures)
+    (on_stopped _ _ _ _ (body_words _ _ _ _ c.chunks.invariant.0 c.put_plain-chunks.new.t _ (rw (← c.chunks.invariant.1) at c.put_plain-chunks.ensures))
     c.end_code.new.t c.end_code.ensures.text _ c.end_code.ensures.after n.0 (sym (c.ends_body.ensures _) ∙ c.if-ends_body.true) _ c.enable.ensures)
     ((same_room _ _ _ _ c.change_to_markdown_style.ensures).0 ∙ c.records.invariant.same.0)
 
@@ -68,7 +86,7 @@ chunks-smaller c =
 pub records-preserved : goal.records-preserved
 records-preserved c =
     on_named
-    (on-done _ _ _ _ (body_words _ _ _ _ c.chunks.invariant c.put_plain-chunks.new.t _ c.put_plain-chunks.ensures)
+    (on-done _ _ _ _ (body_words _ _ _ _ c.chunks.invariant.0 c.put_plain-chunks.new.t _ (rw (← c.chunks.invariant.1) at c.put_plain-chunks.ensures))
     c.end_code-in-Text.new.t c.end_code-in-Text.ensures.text _ c.end_code-in-Text.ensures.after
     (none_next _ _ _ c.next-in-chunks.ensures.steps c.in_default-next.is))
     ((same_room _ _ _ _ c.change_to_markdown_style.ensures).0 ∙ c.records.invariant.same.0)
