@@ -2,7 +2,7 @@
 
 #![tactic(auto)]
 
-ghost use Rattle.std.specs.Prelude.{◌≡◌, false, ◌+◌, ◌-◌, ◌≤◌, ◌<◌, ◌^◌, length};
+ghost use Rattle.std.specs.Prelude.{◌≡◌, false, ◌+◌, ◌-◌, ◌≤◌, ◌<◌, ◌^◌, length, take, drop};
 ghost use Rattle.records.specs.Records.{index, is_text, kind_of, tokens, tokens_from};
 ghost use Rattle.records.specs.declared.Block.TheVariants as block;
 ghost use Rattle.console_rules.specs.Console.{term_start, term_end, term, terms, settles, tabstop, settled_from, settled_at, tabstop_in, settled_in};
@@ -12,7 +12,7 @@ ghost use Rattle.console_tabstop.specs.InnerCounted.{terms_of, Passed};
 ghost use Rattle.console_tabstop.specs.InnerAhead.{Ahead, Known};
 
 use console_rules::{Columns, MAX_TAB, MAX_TABSTOP};
-use records::{Block, Kind, Records};
+use records::{Block, Kind, Raw, Records};
 use refusal::Refusal;
 
 // Whether the start and the end of a Block come first.
@@ -115,14 +115,16 @@ impl Terms {
     }
 
     // The count after a record. Most kinds change nothing, and none is taken apart further than this needs.
-    fn on(&mut self, code: usize, body: &[u8])
-        requires { self.old.counted + length body.now < 2 ^ 64 }
-        ensures { terms_of self.new ≡ term (kind_of code) body.now (terms_of self.old) }
+    fn on(&mut self, r: Raw, document: &[u8])
+        requires { (r.start ≤ r.next) × (self.old.counted + (r.next - r.start) < 2 ^ 64) }
+        ensures { terms_of self.new ≡ term (kind_of r.code) (take (r.next - r.start) (drop r.start document.now)) (terms_of self.old) }
     {
-        match code {
+        match r.code {
             TERM_START => self.start(),
             TERM_END => self.end(),
-            _ if self.counting && is_text(code) => self.counted += utf8::count(body),
+            _ if self.counting && is_text(r.code) => {
+                self.counted += utf8::count_from(document, r.start, r.next - r.start);
+            }
             _ => {}
         }
     }
@@ -160,7 +162,7 @@ fn find_from(document: &[u8], from: usize, first: Terms) -> Tabstop
                 at: i,
             };
         }
-        t.on(r.code, &document[r.start..r.next]);
+        t.on(r, document);
         i = r.next;
     }
     Tabstop {
@@ -211,7 +213,7 @@ fn find_tabstop(document: &[u8]) -> Tabstop
                 at,
             };
         }
-        t.on(r.code, &document[r.start..r.next]);
+        t.on(r, document);
         at = r.next;
     }
     Tabstop {

@@ -158,3 +158,10 @@ reversed v long =
     let e : length v - 1 - i ≡ 15 - i = omega (arith, long) in
     get_or-map (λ k. get_or (v ++ v) k 0) places i 0 0 h ∙ ap (λ (k : ℕ). get_or (v ++ v) k 0) at ∙ get_or_append_left v v 0 (15 - i) (omega (arith, long))
     ∙ ap (λ (k : ℕ). get_or v k 0) (sym e) ∙ sym (get_or-reverse v i 0 (omega (arith, long))))
+
+-- the front of a front
+pub take_front : (n m : ℕ) (l : List ℕ) → n ≤ m → take n (take m l) ≡ take n l
+take_front zero m l h = refl
+take_front (suc n) zero l h = absurd (let z : ⊥ = omega arith in z)
+take_front (suc n) (suc m) [] h = refl
+take_front (suc n) (suc m) (x ∷ l) h = ap (λ (r : List ℕ). x ∷ r) (take_front n m l (omega arith))

@@ -436,6 +436,19 @@ pub fn count_front(block: &[u8; 16], n: usize) -> usize
     (starts % (1 << k as u32)).count_ones() as usize
 }
 
+// How many of n bytes from a place on start a character: of a few by the block that begins there, if s goes on as far.
+pub fn count_from(s: &[u8], from: usize, n: usize) -> usize
+    ensures { result ≡ characters (take n (drop from s.now)) }
+{
+    let text = base::get_from(s, from);
+    if n <= 16 {
+        if let Some(block) = text.first_chunk::<16>() {
+            return count_front(block, n);
+        }
+    }
+    count(&text[..n.min(text.len())])
+}
+
 // A code point so far, with the payload of a byte more.
 fn with(c: u32, b: u8) -> u32
     requires { (c < 2 ^ 21) × (0x80 ≤ b) }
