@@ -38,10 +38,8 @@ inside c = omega (arith, body_end c, length-take (length c.args.chunks.now.input
 pub overflow_add-page-in-loop-at : goal.overflow_add-page-in-loop-at
 overflow_add-page-in-loop-at c =
     let w = c.copy_run-run.ensures.words in
-    let at = c.loop-at.at in
-    let line = take (c.min-end.result - at) (take (length c.args.tail.now - at) (drop at c.args.tail.now)) in
     let f : c.loop-at.page.lay.column.0 + c.copy_run-run.result.width ≤ c.args.set.width =
-    omega (arith, w.near, w.counts, narrow line c.copy_run-run.result.len, c.if-set-column.false) in
+    omega (arith, w.near, w.counts, narrow, c.if-set-column.false) in
     search rules
 
 pub returns-then-run : goal.returns-then-run
