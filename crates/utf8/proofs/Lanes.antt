@@ -3,16 +3,18 @@
 use Rattle.utf8.proofs.Laws.{not_none, not_some}
 use Rattle.utf8.specs.InnerParts.{Any}
 use Rattle.utf8.proofs.Names.{◌≡◌, refl, ap, ap₂, sym, ◌∙◌, Bool, beq, true, false, ◌&&◌, ◌||◌, List, [], ◌∷◌, ◌++◌, ℕ, zero, suc, ◌+◌, ◌-◌, ◌*◌, ◌/◌, ◌%◌}
-use Rattle.utf8.proofs.Names.{◌<◌, ◌≤◌, arith, eqb, eqb-true, eqb-false, not, get_or, length, take, and_left, and_right, ⊎_elim, eq_or_not, le_or_lt}
+use Rattle.utf8.proofs.Names.{◌<◌, ◌≤◌, arith, eqb, eqb-true, eqb-false, leb, leb-false, not, get_or, length, take}
+use Rattle.utf8.proofs.Names.{and_left, and_right, ⊎_elim, eq_or_not, le_or_lt}
 use Rattle.std.proofs.Common.{◌^◌, map, reverse, replicate, cond, w8, Fits}
 use Rattle.std.specs.List.{prefix_len, count_by}
 use Rattle.std.proofs.lemmas.List.{length-map, take-map, take_all}
 use native.Mathlib.Nat.{pow-zero, pow-suc, zero-mod, mod-one}
 use Rattle.std.proofs.lemmas.List.{ext_get_or, get_or-map, get_or_append_left, get_or-reverse, length-reverse}
 use lib.Arith.{mod-mul}
-use Rattle.std.proofs.lemmas.Simd.{mask_l-mod, ones-mask_l, bitmask_splat, zip2_splat, zip2_of_maps}
+use Rattle.std.proofs.lemmas.Simd.{mask_l-mod, ones-mask_l, bitmask_splat, zip2_splat_left, tops_compared, get_or-zip2, length-zip2, zip2_splat, zip2_of_maps}
 use lib.Count.{ones as count_ones}
-use Rattle.std.proofs.lemmas.Nat.{pow_pos}
+use Rattle.std.proofs.lemmas.Nat.{pow_pos, and_le_l, and_le_r}
+use Rattle.std.specs.Int.Bits.{or_add_and}
 use Rattle.std.specs.Prelude.{min}
 use lib.Bits.{bit_or}
 use lib.Lanes.{zip2, mask_l, top, Each1}
@@ -31,7 +33,8 @@ beq_is false true e = e
 pub upto_sound : (p : ℕ → Bool) (n : ℕ) → upto p n ≡ true → (x : ℕ) → x < n → p x ≡ true
 upto_sound p zero e x h = absurd (let z : ⊥ = omega arith in z)
 upto_sound p (suc n) e x h =
-    ⊎_elim (λ (q : x ≡ n). rw q (and_left (p n) (upto p n) e)) (λ (q : x ≡ n → ⊥). upto_sound p n (and_right (p n) (upto p n) e) x (omega arith)) (eq_or_not x n)
+    ⊎_elim (λ (q : x ≡ n). rw q (and_left (p n) (upto p n) e))
+    (λ (q : x ≡ n → ⊥). upto_sound p n (and_right (p n) (upto p n) e) x (omega arith)) (eq_or_not x n)
 
 -- the top bits of lanes f x are what p says of the bytes x
 each_byte : (f : ℕ → ℕ) (p : ℕ → Bool) → upto (λ x. beq (top 7 (f x)) (p x)) 256 ≡ true → (v : List ℕ) → Each1 (Fits w8) v
@@ -63,7 +66,8 @@ pub two_marked : (a b n : ℕ) (v : List ℕ) → length v ≡ n → n ≤ 64
     → mask_l (map (top 7) (zip2 bit_or (zip2 hit v (replicate n a)) (zip2 hit v (replicate n b)))) % 2 ^ 64 ≡ mask_l (map (λ x. eqb x a || eqb x b) v)
 two_marked a b n v long short =
     let lanes = zip2_of_maps bit_or (λ x. hit x a) (λ x. hit x b) v (zip2_splat hit v n a long) (zip2_splat hit v n b long) in
-    ap (λ l. mask_l l % 2 ^ 64) (ap (map (top 7)) lanes ∙ each_hit a b v) ∙ mask_l-mod (map (λ x. eqb x a || eqb x b) v) 64 (omega (arith, length-map v (λ x. eqb x a || eqb x b)))
+    ap (λ l. mask_l l % 2 ^ 64) (ap (map (top 7)) lanes ∙ each_hit a b v)
+    ∙ mask_l-mod (map (λ x. eqb x a || eqb x b) v) 64 (omega (arith, length-map v (λ x. eqb x a || eqb x b)))
 
 -- the lowest bits of a mask are the first lanes
 low_bit : (m : Bool) (r p : ℕ) → 0 < p → (cond m 1 0 + 2 * r) % (p * 2) ≡ cond m 1 0 + 2 * (r % p)
@@ -141,7 +145,8 @@ module _ (v : List ℕ) (long : length v ≡ 16) where
 pub take_most : (v : List ℕ) (n k : ℕ) → k ≡ min n (length v) → take k v ≡ take n v
 take_most v n k e = ⊎_elim
     (λ (h : n ≤ length v). let q : k ≡ n = omega arith in ap (λ (m : ℕ). take m v) q)
-    (λ (h : length v < n). let q : k ≡ length v = omega arith in ap (λ (m : ℕ). take m v) q ∙ take_all (length v) v (omega arith) ∙ sym (take_all n v (omega arith)))
+    (λ (h : length v < n). let q : k ≡ length v = omega arith in
+    ap (λ (m : ℕ). take m v) q ∙ take_all (length v) v (omega arith) ∙ sym (take_all n v (omega arith)))
     (le_or_lt n (length v))
 
 -- the lanes in the other order
@@ -165,3 +170,23 @@ take_front zero m l h = refl
 take_front (suc n) zero l h = absurd (let z : ⊥ = omega arith in z)
 take_front (suc n) (suc m) [] h = refl
 take_front (suc n) (suc m) (x ∷ l) h = ap (λ (r : List ℕ). x ∷ r) (take_front n m l (omega arith))
+
+-- two vectors of ASCII
+abbrev pub least : ℕ → ℕ → ℕ
+least a b = cond (leb a b) 255 0
+
+or_least : (a b : ℕ) → bit_or a b < 128 → (a < 128) × (b < 128)
+or_least a b h = (omega (arith, or_add_and a b, and_le_r a b), omega (arith, or_add_and a b, and_le_l a b))
+
+pub both_low : (v w : List ℕ) → length v ≡ 16 → length w ≡ 16
+    → eqb (mask_l (map (top 7) (zip2 least (replicate 16 128) (zip2 bit_or v w))) % 2 ^ 64) 0 ≡ true → (k : ℕ) → k < 16
+    → (get_or v k 0 < 0x80) × (get_or w k 0 < 0x80)
+both_low v w lv lw e k h =
+    let z = zip2 bit_or v w in
+    let long : length z ≡ 16 = length-zip2 bit_or v w (lv ∙ sym lw) ∙ lv in
+    let bits : mask_l (map (top 7) (zip2 least (replicate 16 128) z)) % 2 ^ 64 ≡ mask_l (map (leb 128) z) =
+    ap (λ l. mask_l l % 2 ^ 64) (tops_compared w8 leb (replicate 16 128) z ∙ zip2_splat_left leb 128 16 z long)
+    ∙ mask_l-mod (map (leb 128) z) 64 (omega (arith, length-map z (leb 128), long)) in
+    let low = leb-false 128 (get_or z k 0) (none_set (leb 128) z (sym bits ∙ eqb-true _ 0 e) k (omega (arith, long))) in
+    let is : get_or z k 0 ≡ bit_or (get_or v k 0) (get_or w k 0) = get_or-zip2 bit_or v w k 0 0 0 (omega (arith, lv)) (omega (arith, lw)) in
+    or_least (get_or v k 0) (get_or w k 0) (omega (arith, is, low))

@@ -2,14 +2,16 @@
 -- lanes of a block say which of its bytes may stand after the three before them.
 -- Assumes nothing.
 use Rattle.utf8.proofs.Names.{◌≡◌, refl, ap, ap₂, sym, ◌∙◌, ⊎_elim, Bool, beq, true, false, not, ◌&&◌, List, [], ◌∷◌, ℕ, zero, suc, ◌+◌, ◌-◌, ◌*◌, ◌/◌, ◌%◌}
-use Rattle.utf8.proofs.Names.{◌<◌, ◌≤◌, arith, eqb, leb, length, get_or, and_left, and_right, pick, le_or_lt, when◌then◌else◌, ltb-true, or-true, le-leb, lt-leb, continues, low, high}
+use Rattle.utf8.proofs.Names.{◌<◌, ◌≤◌, arith, eqb, leb, length, get_or, and_left, and_right, pick, le_or_lt}
+use Rattle.utf8.proofs.Names.{when◌then◌else◌, ltb-true, or-true, le-leb, lt-leb, continues, low, high}
 use Rattle.utf8.proofs.Names.{Classes, Lanes}
 use Rattle.base.specs.Choice.{among}
 use Rattle.utf8.specs.InnerNeighbours.{under_way, follows, go_on, beside}
 use Rattle.utf8.specs.declared.TheConstants.{FIRST_HIGH, FIRST_LOW, SECOND_HIGH}
 use Rattle.std.proofs.Common.{◌^◌, map, replicate, cond, w8, Fits, ltb, ltb-false}
 use Rattle.std.proofs.lemmas.List.{length-map, get_or-map, ext_get_or}
-use Rattle.std.proofs.lemmas.Simd.{Each1-get_or, Each1-from_get_or, get_or-zip2, length-zip2, map-map, length-chunk, get_or-chunk, get_or-replicate, SwzOk, SwzOk-from_below, swz_l}
+use Rattle.std.proofs.lemmas.Simd.{Each1-get_or, Each1-from_get_or, get_or-zip2, length-zip2, map-map, length-chunk, get_or-chunk}
+use Rattle.std.proofs.lemmas.Simd.{get_or-replicate, SwzOk, SwzOk-from_below, swz_l}
 use Rattle.std.proofs.lemmas.Simd.{length-swz_l, get_or-swz_l_below}
 use Rattle.std.proofs.lemmas.Nat.Bits.{and_pow, bit_at_or}
 use Rattle.std.specs.Int.Bits.{xor_zero_l}
@@ -21,7 +23,8 @@ use Rattle.utf8.proofs.Neighbours.{beside_open, beside_closed}
 
 -- a table at some places
 pub look_ok : (js : List ℕ) → length js ≡ 16 → ((k : ℕ) → k < 16 → get_or js k 0 < 16) → SwzOk w8 16 16 0 js
-look_ok js long small = SwzOk-from_below w8 16 1 16 0 js refl (omega (arith, long)) (Each1-from_get_or (λ j. j < 16) js 0 (λ i h. small i (omega (arith, long))))
+look_ok js long small =
+    SwzOk-from_below w8 16 1 16 0 js refl (omega (arith, long)) (Each1-from_get_or (λ j. j < 16) js 0 (λ i h. small i (omega (arith, long))))
 
 pub looked_up : (t js : List ℕ) → length js ≡ 16 → ((k : ℕ) → k < 16 → get_or js k 0 < 16) → swz_l w8 16 t 0 js ≡ map (λ j. get_or t j 0) js
 looked_up t js long small =
@@ -77,11 +80,15 @@ continues_half b = rw (from_half 8 b, to_half 11 b)
 
 low_half : (p b : ℕ) → leb (low p) b ≡ leb (low p) (b / 16 * 16)
 unfolding low
-low_half p b = pick (λ x. leb x b ≡ leb x (b / 16 * 16)) _ (λ _. from_half 10 b) (λ _. pick (λ x. leb x b ≡ leb x (b / 16 * 16)) _ (λ _. from_half 9 b) (λ _. from_half 8 b))
+low_half p b =
+    pick (λ x. leb x b ≡ leb x (b / 16 * 16)) _ (λ _. from_half 10 b)
+    (λ _. pick (λ x. leb x b ≡ leb x (b / 16 * 16)) _ (λ _. from_half 9 b) (λ _. from_half 8 b))
 
 high_half : (p b : ℕ) → leb b (high p) ≡ leb (b / 16 * 16) (high p)
 unfolding high
-high_half p b = pick (λ x. leb b x ≡ leb (b / 16 * 16) x) _ (λ _. to_half 9 b) (λ _. pick (λ x. leb b x ≡ leb (b / 16 * 16) x) _ (λ _. to_half 8 b) (λ _. to_half 11 b))
+high_half p b =
+    pick (λ x. leb b x ≡ leb (b / 16 * 16) x) _ (λ _. to_half 9 b)
+    (λ _. pick (λ x. leb b x ≡ leb (b / 16 * 16) x) _ (λ _. to_half 8 b) (λ _. to_half 11 b))
 
 follows_half : (p b : ℕ) → follows p b ≡ follows p (b / 16 * 16)
 follows_half p b =
@@ -156,7 +163,8 @@ module _ (p b x y z : List ℕ) (lp : length p ≡ 16) (lb : length b ≡ 16) (f
       let c = looked FIRST_LOW (λ a. bit_and a 15) p y lp ey in
       let d = looked SECOND_HIGH (λ a. a / 16) b z lb ez in
       let two : length (zip2 bit_and x y) ≡ 16 = length-zip2 bit_and x y (a.0 ∙ sym c.0) ∙ a.0 in
-      let fit = λ (v : List ℕ) (l : length v ≡ 16) (f : Each1 (Fits w8) v) (k : ℕ) (h : k < 16). (Each1-get_or (Fits w8) v k 0 (omega (arith, l)) f).fits in record {
+      let fit = λ (v : List ℕ) (l : length v ≡ 16) (f : Each1 (Fits w8) v) (k : ℕ) (h : k < 16).
+      (Each1-get_or (Fits w8) v k 0 (omega (arith, l)) f).fits in record {
         long = length-zip2 bit_and (zip2 bit_and x y) z (two ∙ sym d.0) ∙ two;
         follow = λ k h. ap (λ n. eqb n 0) (all_three k h) ∙ follow_class (get_or p k 0) (get_or b k 0) (fit p lp fp k h) (fit b lb fb k h);
         goes = λ k h. ap (λ n. eqb (bit_xor 128 n) 0) (all_three k h) ∙ go_class (get_or p k 0) (get_or b k 0) (fit p lp fp k h) (fit b lb fb k h);

@@ -342,10 +342,9 @@ module _ (s : List ℕ) where
       ascii_rest i a ∙ sound-closed s i (omega arith) (omega arith) (omega arith)
 
   -- 32 bytes of it, where no character is open
-  pub plain-sound : (a m : ℕ) {x : Bool} → 3 ≤ a → a + 32 ≤ length s → x ≡ open_at s a → x ≡ false → m ≡ 32 → is_ascii (take m (drop a s)) ≡ true
+  pub plain-sound : (a : ℕ) {x : Bool} → 3 ≤ a → a + 32 ≤ length s → x ≡ open_at s a → x ≡ false → ((k : ℕ) → k < 32 → get_or s (a + k) 0 < 0x80)
       → sound_at s a ≡ sound_at s (a + 32)
-  plain-sound a m h l e f q t =
-      let each = ascii_part s a 32 m l q t in
+  plain-sound a h l e f each =
       let o = asks-not (get_or s (a - 3) 0) (get_or s (a - 2) 0) (get_or s (a - 1) 0) (sym e ∙ f) in
       sym (sound-closed s a o.2 o.1 o.0)
       ∙ ascii_run s a 32 l each

@@ -1,6 +1,8 @@
 -- From the lanes of blocks to the bytes of a text: what `any` says of them.
 -- Assumes nothing.
-use Rattle.utf8.proofs.Names.{◌≡◌, refl, ap, ap₂, sym, ◌∙◌, ⊎_elim, Bool, true, false, List, ℕ, ◌+◌, ◌-◌, ◌<◌, ◌≤◌, arith, eqb, eqb-true, ne_eqb, le-ltb, lt-ltb, if_true, if_false, when◌then◌else◌, length, get_or}
+use Rattle.utf8.proofs.Names.{◌≡◌, refl, ap, ap₂, sym, ◌∙◌, ⊎_elim, Bool, true, false, List, ℕ, ◌+◌, ◌-◌, ◌<◌, ◌≤◌, arith}
+use Rattle.utf8.proofs.Names.{eqb, eqb-true, ne_eqb, length, get_or}
+use Rattle.utf8.proofs.Names.{le-ltb, lt-ltb, if_true, if_false, when◌then◌else◌}
 use Rattle.utf8.proofs.Names.{eq_or_not, le_or_lt, Lanes, Tested, beside_at}
 use Rattle.std.proofs.Common.{w8, Fits, cond, ltb}
 use Rattle.std.proofs.lemmas.Simd.{get_or-zip2, Each1-get_or}
@@ -62,7 +64,8 @@ last_at : (j : ℕ) → j < 32 → get_or LAST j 0 ≡ cond (ltb j 16) 0 255
 last_at j h = eqb-true _ _ (upto_sound (λ j. eqb (get_or LAST j 0) (cond (ltb j 16) 0 255)) 32 last_are j h)
 
 pub lanes_last : (n : ℕ) (v w : List ℕ) → n < 16 → length v ≡ 16 → Each1 (Fits w8) v → length w ≡ 16
-    → ((k : ℕ) → k < 16 → get_or w k 0 ≡ get_or LAST (n + k) 0) → (k : ℕ) → k < 16 → get_or (zip2 bit_and v w) k 0 ≡ when ltb (n + k) 16 then 0 else get_or v k 0
+    → ((k : ℕ) → k < 16 → get_or w k 0 ≡ get_or LAST (n + k) 0) → (k : ℕ) → k < 16
+    → get_or (zip2 bit_and v w) k 0 ≡ when ltb (n + k) 16 then 0 else get_or v k 0
 unfolding when◌then◌else◌
 lanes_last n v w few l fits long are k h =
     let small = (Each1-get_or (Fits w8) v k 0 (omega (arith, l)) fits).fits in

@@ -16,13 +16,15 @@ pub returns-in-260 : goal.returns-in-260
 unfolding term
 returns-in-260 c =
     let a = c.args in
-    c.start.ensures ∙ sym (ap (λ (k : Kind). term k (body a.r.start a.r.next a.document.now) (terms_of a.self.now)) (start-by-code a.r.code block.ItemTerm c.in-260.is))
+    c.start.ensures
+    ∙ sym (ap (λ (k : Kind). term k (body a.r.start a.r.next a.document.now) (terms_of a.self.now)) (start-by-code a.r.code block.ItemTerm c.in-260.is))
 
 pub returns-in-516 : goal.returns-in-516
 unfolding term
 returns-in-516 c =
     let a = c.args in
-    c.end.ensures ∙ sym (ap (λ (k : Kind). term k (body a.r.start a.r.next a.document.now) (terms_of a.self.now)) (end-by-code a.r.code block.ItemTerm c.in-516.is))
+    c.end.ensures
+    ∙ sym (ap (λ (k : Kind). term k (body a.r.start a.r.next a.document.now) (terms_of a.self.now)) (end-by-code a.r.code block.ItemTerm c.in-516.is))
 
 pub overflow_add-self : goal.overflow_add-self
 overflow_add-self c =
