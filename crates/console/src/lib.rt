@@ -100,7 +100,7 @@ fn put_piece(
     page.place_chunk(margin, chunk, set)
 }
 
-// The text of a record whose body starts at a place of the document, at a margin. `tail` is the document's text from there on: the body and what follows it.
+// The text of a record whose body starts at a place of the document, at a margin. `tail` is the document's bytes from there on: the body and what follows it.
 fn put_body(
     page: &mut Page,
     margin: Columns,

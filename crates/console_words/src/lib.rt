@@ -57,8 +57,8 @@ fn follows(page: &Page, margin: Columns, code: Code) -> bool
 // Of the chunks that are left, the words and spaces that follow on the line; where they end. The chunks give from there what they gave before. It is
 // left free how many of them are taken (none is one way), the room's bytes past the new length, and, where the text is longer than the room, every
 // byte of the room and all of the page but how far its column and skip counter may move.
-// `tail` is the document's text from the body's first byte on, so that the last bytes of the body are copied by a whole block too: the words are those of as
-// many bytes of it as the body has.
+// `tail` is the document's bytes from the body's first on, so that the last bytes of the body go by a whole block too: the words are those of as many of
+// these bytes as the body has.
 pub fn put_words(
     page: &mut Page,
     margin: Columns,

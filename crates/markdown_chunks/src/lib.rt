@@ -97,8 +97,8 @@ fn is_plain(l: &Markdown, code: Code) -> bool
 }
 
 // The words and spaces of the chunks that are left, where they go out as they stand, and where they end: the chunks that are left give from there
-// what they gave before. `tail` is the document's text from the body's first byte on, so that the last bytes of the body are copied by a whole block too:
-// the words are those of as many bytes of it as the body has.
+// what they gave before. `tail` is the document's bytes from the body's first on, so that the last bytes of the body go by a whole block too: the words are
+// those of as many of these bytes as the body has.
 pub fn put_plain(t: &mut Text, chunks: &Splitter, tail: &[u8], l: &Markdown) -> usize
     ensures { Moves l.now (take (length chunks.now.input.now) tail.now) chunks.now.cursor.code (text_of t.old) chunks.now.cursor.at (text_of t.new) result }
 {

@@ -127,7 +127,7 @@ module _ (x : List ℕ) (end m : ℕ) (h : m ≡ min end (length x)) where
       (λ (l : length x < end). take_all m x (omega arith) ∙ sym (take_all end x (omega arith)))
       (le_or_lt end (length x))
 
-  pub line_size : length (take m x) ≡ m
+  line_size : length (take m x) ≡ m
   line_size = length-take-le m x (omega arith)
 
   -- what was copied of it

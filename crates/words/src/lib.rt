@@ -93,7 +93,8 @@ fn copy_bytes(free: &mut [u8], text: &[u8]) -> Run
     }
 }
 
-// Copies the last of n bytes, up to a line end: by one block where text and free part go on for 16 bytes, whatever stands there after the n.
+// Copies n bytes, up to a line end, none of which lies past a block of 16: by that one block where text and free part both go on for 16 bytes, whatever
+// follows the n bytes there. Free bytes past the n may be written too.
 fn copy_last(free: &mut [u8], text: &[u8], n: usize) -> Run
     requires { (n ≤ length text.now) × (n ≤ length free.old) × LastBlock (take n text.now) 0 }
     ensures copying { Copying (take n text.now) free.old free.new result.len result.width }
@@ -131,7 +132,7 @@ fn whole_words(text: &[u8], run: Run) -> Run
 }
 
 // Copies the words and spaces at the start of a text, outside ticks, into what is free of a room: as many as end by a line end, within `most`
-// bytes and within the room. The text is the bytes before `end`; those from there on are what follows it, and serve to copy the last block whole.
+// bytes and within the room. The text is the bytes before `end`; those from there on are what follows it, so that the last bytes go by a whole block too.
 // Free bytes past the run may be written too. Both slices are cut to one length for `copy_blocks`, which the compiler then tests once for each block: the
 // console takes 0.97 to 1.02 of the time by that and by the order there, Markdown 0.95 to 1.01.
 pub fn copy_run(free: &mut [u8], text: &[u8], end: usize, most: usize) -> Run
