@@ -4,6 +4,9 @@ use Rattle.splitter.proofs.Names.{length-drop, drop_of_length-le, drop-cons, dro
 use Rattle.splitter.proofs.Names.{is_line_end_or_space, zero, ◌++◌}
 use Rattle.std.specs.Prelude.{not, cond}
 use Rattle.std.specs.List.{prefix_len}
+use Rattle.std.proofs.lemmas.List.Sums.{prefix_len-le-length}
+use lib.ListN.{length-take}
+use lib.Seq.{take-take}
 use native.Mathlib.Numerals.{add-one}
 
 -- what ends a word, and what does not
@@ -61,6 +64,15 @@ module _ (stop : ℕ → Bool) where
           → let n = cond (not c) (1 + k) 0 in before stop (b ∷ s) ≡ take n (b ∷ s) ++ before stop (drop n (b ∷ s))
       go true e h = refl
       go false e h = let z : 1 + k ≡ suc k = omega arith in rw (z, e) (ap (λ (l : List ℕ). b ∷ l) h)
+
+  -- those of a text's first block of 16, and those that follow
+  pub before-block : (s block : List ℕ) (n : ℕ) → block ≡ take 16 s → n ≡ prefix_len (λ b. not (stop b)) (take 16 block)
+      → (n ≤ 16) × (n ≤ length s) × (before stop s ≡ take n s ++ before stop (drop n s))
+  before-block s block n e f =
+      let p = λ (b : ℕ). not (stop b) in
+      let k : n ≡ prefix_len p (take 16 s) = f ∙ ap (λ (t : List ℕ). prefix_len p (take 16 t)) e ∙ ap (prefix_len p) (take-take 16 16 s (omega arith)) in
+      let l = prefix_len-le-length p (take 16 s) in
+      let m = length-take 16 s in (omega (arith, k, l, m), omega (arith, k, l, m), rw k (before-front s 16))
 
   -- as a part of a body
   module _ (body : List ℕ) (at to : ℕ) (e : to ≡ at + length (before stop (drop at body))) where

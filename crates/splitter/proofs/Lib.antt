@@ -2,6 +2,7 @@ mod Names
 pub mod Before
 pub mod Positions
 pub mod Words
+mod Lines
 pub mod Starts
 pub mod Stripped
 pub mod Fits

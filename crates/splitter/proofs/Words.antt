@@ -5,12 +5,11 @@ use Rattle.splitter.proofs.Names.{word_from, when◌then◌else◌, Bool, contin
 use Rattle.std.specs.Prelude.{not}
 use Rattle.std.specs.Int.{from_bool}
 use Rattle.std.specs.List.{prefix_len}
-use Rattle.std.proofs.lemmas.List.Sums.{prefix_len-le-length}
 use lib.ListN.{length-append, length-take}
 use lib.Seq.{take-take, length-take-le}
 use Rattle.utf8.proofs.Laws.{adds}
 use Rattle.splitter.specs.InnerParts.{Begins}
-use Rattle.splitter.proofs.Before.{before-front}
+use Rattle.splitter.proofs.Before.{before-block}
 use Rattle.splitter.proofs.Fits.{count_short}
 
 pub adds_is : (b : ℕ) → (from_bool (not (continues b)) ≡ adds b) × (from_bool (not (continues b)) ≤ 1)
@@ -29,15 +28,8 @@ characters-append (x ∷ a) b = let h = characters-append a b in omega arith
 pub begins-block : (s block : List ℕ) (n w : ℕ) → block ≡ take 16 s → n ≡ prefix_len (λ x. not (is_line_end_or_space x)) (take 16 block)
     → w ≡ characters (take n block) → Begins s n w
 begins-block s block n w e f g =
-    let p = λ (x : ℕ). not (is_line_end_or_space x) in
-    let k : n ≡ prefix_len p (take 16 s) = f ∙ ap (λ (t : List ℕ). prefix_len p (take 16 t)) e ∙ ap (prefix_len p) (take-take 16 16 s (omega arith)) in
-    let l = prefix_len-le-length p (take 16 s) in
-    let m = length-take 16 s in
-    record {
-      within = omega (arith, k, l, m);
-      joins = rw k (before-front is_line_end_or_space s 16);
-      counts = g ∙ ap characters (ap (take n) e ∙ take-take n 16 s (omega (arith, k, l, m)));
-    }
+    let b = before-block is_line_end_or_space s block n e f in
+    record { within = b.1; joins = b.2; counts = g ∙ ap characters (ap (take n) e ∙ take-take n 16 s b.0) }
 
 module _ (s : List ℕ) (len width : ℕ) (b : Begins s len width) where
   -- no more characters are counted than bytes are read

@@ -1,7 +1,7 @@
 -- What the functions inside this crate promise each other; no rule of 01 stands here.
 use Rattle.std.specs.Prelude.{ℕ, ◌+◌, ◌≤◌, ◌<◌, ◌≡◌, List, ◌++◌, length, take, drop}
 use Rattle.utf8.specs.Utf8.{characters}
-use Rattle.splitter.specs.Split.{word}
+use Rattle.splitter.specs.Split.{line, word}
 use Rattle.splitter.specs.declared.Word.{Word}
 
 -- where the word from a place on ends, and its characters
@@ -13,6 +13,11 @@ pub record Begins (text : List ℕ) (len width : ℕ) : Type 0 where
   pub within : len ≤ length text
   pub joins : word text ≡ take len text ++ word (drop len text)
   pub counts : width ≡ characters (take len text)
+
+-- the line at the front of a text begins with the first len bytes
+pub record LineBegins (text : List ℕ) (len : ℕ) : Type 0 where
+  pub within : len ≤ length text
+  pub reaches : length (line text) ≡ len + length (line (drop len text))
 
 -- some bytes are those after the byte at a place of a body
 abbrev pub Follows : List ℕ → ℕ → List ℕ → Type 0

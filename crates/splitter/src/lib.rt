@@ -7,7 +7,7 @@ ghost use Rattle.std.specs.Prelude.{◌≡◌, Some, ◌+◌, ◌<◌, length, d
 ghost use Rattle.utf8.specs.Utf8.{characters};
 ghost use Rattle.splitter.specs.Split.{line, word, step, stripped, ticked as ticked_line, after_line_end};
 ghost use Rattle.splitter.specs.Answers.{cursor, answer, first_chunk, place_of, piece_text, Within};
-ghost use Rattle.splitter.specs.InnerParts.{Begins, Follows, word_from};
+ghost use Rattle.splitter.specs.InnerParts.{Begins, Follows, LineBegins, word_from};
 ghost use Rattle.splitter.specs.declared.Code.TheVariants as code;
 
 use utf8::Part;
@@ -72,12 +72,30 @@ impl Piece {
     }
 }
 
-// Where the line that starts at `at` ends.
+// The bytes that the line at the front of a text begins with: blocks of 16, up to one with a line end, and of that one the bytes before it. What stands after
+// the last whole block is left to `line_end`.
+fn line_blocks(text: &[u8]) -> usize
+    ensures { LineBegins text.now result }
+{
+    let mut len: usize = 0;
+    while let Some(block) = text[len..].first_chunk::<16>() {
+        let part = utf8::front(block, b'\n', b'\n', 16);
+        len += part.len;
+        if part.len < 16 {
+            break;
+        }
+    }
+    len
+}
+
+// Where the line that starts at `at` ends: by blocks, and what is left byte by byte.
 fn line_end(body: &[u8], at: usize) -> usize
     ensures { result ≡ at + length (line (drop at body.now)) }
 {
     let rest = base::get_from(body, at);
-    at + rest.iter().position(|b| *b == b'\n').unwrap_or(rest.len())
+    let len = line_blocks(rest);
+    let last = &rest[len..];
+    at + len + last.iter().position(|b| *b == b'\n').unwrap_or(last.len())
 }
 
 // Where a word ends, and how many characters it has.
