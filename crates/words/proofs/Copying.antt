@@ -18,7 +18,7 @@ use Rattle.room.proofs.Laws.{wrote, seen-out}
 use Rattle.room.proofs.Lents.{lent_wrote, seen_given}
 use Rattle.splitter.proofs.Fits.{count_short}
 use Rattle.splitter.proofs.Words.{adds_is}
-use Rattle.words.specs.InnerCopies.{Stopped, Whole, Words, Copies}
+use Rattle.words.specs.InnerCopies.{AfterSpace, Stopped, Whole, Words, Copies}
 
 -- Parts
 
@@ -149,11 +149,11 @@ module _ (x old : List ℕ) where
 -- Whole words
 
 module _ (x : List ℕ) (far width : ℕ) (counts : characters (take far x) ≡ width) where
-  -- where a word goes on across the end of a run, and no byte from a place on is a space, no more of the run is whole
-  module _ (h : far < length x) (e : is_line_end_or_space (get_or x far 0) ≡ false) (plain : NoLineEnd x 0 far) (to : ℕ)
-      (n : (j : ℕ) → to ≤ j → j < far → get_or (take far x) j 0 ≡ 0x20 → ⊥) where
-    cut : (k : ℕ) → to < k → k ≤ far → NoWordCut x k → ⊥
-    cut k a b w =
+  -- A run across whose end a word goes on.
+  module _ (h : far < length x) (e : is_line_end_or_space (get_or x far 0) ≡ false) (plain : NoLineEnd x 0 far) where
+    -- where no byte from a place on is a space, no more of it is whole
+    cut : (to : ℕ) → ((j : ℕ) → to ≤ j → j < far → get_or (take far x) j 0 ≡ 0x20 → ⊥) → (k : ℕ) → to < k → k ≤ far → NoWordCut x k → ⊥
+    cut to n k a b w =
         no-space (k - 1) (omega arith) (omega arith)
         (w (omega arith)
         (⊎_elim
@@ -164,28 +164,30 @@ module _ (x : List ℕ) (far width : ℕ) (counts : characters (take far x) ≡ 
         no-space : (j : ℕ) → to ≤ j → j < far → get_or x j 0 ≡ 0x20 → ⊥
         no-space j a b f = n j a b (get_or-take far x j 0 b ∙ f)
 
-    module _ (k : to ≤ far) (s : ℕ) (f : s ≡ characters (take (length (take far x) - to) (drop to (take far x)))) where
+    -- The bytes up to its last space.
+    module _ (len w : ℕ) (a : AfterSpace (take far x) len w) where
+      size : length (take far x) ≡ far
+      size = length-take-le far x (omega arith)
+
       -- the run's width is that of the words and that of the rest
-      pub both : characters (take to x) + s ≡ width
+      pub both : characters (take (far - len) x) + w ≡ width
       both =
-          let z : take (length (take far x) - to) (drop to (take far x)) ≡ drop to (take far x) =
-          take_all (length (take far x) - to) (drop to (take far x)) (omega (arith, length-drop to (take far x))) in
-          ap (λ (m : ℕ). characters (take to x) + m) (f ∙ ap characters z)
+          let to = far - len in
+          let q : length (take far x) - len ≡ to = omega (arith, size) in
+          ap (λ (m : ℕ). characters (take to x) + m) (a.counts ∙ ap (λ (i : ℕ). characters (drop i (take far x))) q)
           ∙ sym (characters-append (take to x) (drop to (take far x)))
-          ∙ ap (λ (y : List ℕ). characters (y ++ drop to (take far x))) (sym (take-take to far x k))
+          ∙ ap (λ (y : List ℕ). characters (y ++ drop to (take far x))) (sym (take-take to far x (omega arith)))
           ∙ ap characters (take-append-drop to (take far x)) ∙ counts
 
-      pub whole_space : get_or (take far x) (to - 1) 0 ≡ 0x20 → 0 < to → Whole x far to (width - s)
-      whole_space g l = record {
-        near = k;
+      pub whole_before : Whole x far (far - len) (width - w)
+      whole_before = record {
+        near = omega arith;
         counts = omega (arith, both);
-        whole = λ _ _ _. sym (get_or-take far x (to - 1) 0 (omega arith)) ∙ g;
-        last = cut;
+        whole = λ l _ _.
+            let q : far - len - 1 ≡ length (take far x) - len - 1 = omega (arith, size) in
+            sym (get_or-take far x (far - len - 1) 0 (omega arith)) ∙ ap (λ (i : ℕ). get_or (take far x) i 0) q ∙ a.space (omega (arith, size));
+        last = cut (far - len) (λ j l m. a.plain j (omega (arith, size)) (omega (arith, size)));
       }
-
-    -- no word at all
-    pub whole-none : to ≡ 0 → Whole x far 0 0
-    whole-none z = record { near = omega arith; counts = refl; whole = λ q. absurd (omega arith); last = λ k a. cut k (omega arith) }
 
 -- A run
 

@@ -1,12 +1,12 @@
 -- The last bytes of a line, by one block that may go on past them, and all bytes of a line together. Assumes nothing.
-use Rattle.words.proofs.Names.{ℕ, ◌+◌, ◌-◌, ◌≤◌, ◌<◌, ◌≡◌, sym, ap, ◌∙◌, List, ◌++◌, Bool, false, not, ⊎_elim, length, take, drop, get_or, length-take}
+use Rattle.words.proofs.Names.{ℕ, ◌+◌, ◌-◌, ◌≤◌, ◌<◌, ◌≡◌, refl, sym, ap, ◌∙◌, List, ◌++◌, Bool, false, not, ⊎_elim, length, take, drop, get_or, length-take}
 use Prim.Native.Nat.{min}
 use Rattle.words.proofs.Names.{length-drop, arith, le_or_lt, characters, NoLineEnd, Copying}
 use mathlib.Core.Bool.{true, ◌||◌, false≢true}
 use mathlib.Core.Path.{subst}
 use lib.Dec.{eqb}
 use lib.Seq.{take-take, length-take-le, get_or-take, take_all}
-use borrow.Author.Tests.{ne_eqb}
+use borrow.Author.Tests.{ne_eqb, eq-eqb}
 use Rattle.std.specs.List.{prefix_len}
 use Rattle.std.proofs.lemmas.List.{drop-take}
 use Rattle.std.proofs.lemmas.List.Sums.{prefix_len-le-length, prefix_len_passes, prefix_len_stops}
@@ -14,30 +14,32 @@ use Rattle.base.proofs.Choice.{eq_or_not}
 use Rattle.words.specs.InnerCopies.{LastBlock, Stopped, Copies, Whole}
 use Rattle.words.proofs.Copying.{plain_there, copying_within, copying_join, stopped_join, line_of, copies_whole}
 
--- a byte that is no line end
-abbrev pub goes_on : ℕ → Bool
-goes_on b = not (eqb b 0x0A || eqb b 0x0A)
+-- a byte is another than the byte a
+abbrev pub other : ℕ → ℕ → Bool
+other a b = not (eqb b a || eqb b a)
 
-passed : (b : ℕ) → goes_on b ≡ true → b ≡ 0x0A → ⊥
-passed b h e = false≢true (sym (ap goes_on e) ∙ h)
+pub other_differs : (a b : ℕ) → other a b ≡ true → b ≡ a → ⊥
+other_differs a b h e =
+    let t : other a b ≡ false = rw (e, eq-eqb a a refl) refl in
+    false≢true (sym t ∙ h)
 
-failed : (b : ℕ) → goes_on b ≡ false → b ≡ 0x0A
-failed b h =
-    ⊎_elim (λ (e : b ≡ 0x0A). e)
-    (λ (n : b ≡ 0x0A → ⊥).
-    let t : goes_on b ≡ true = rw (ne_eqb b 0x0A n) in
+pub no_other_is : (a b : ℕ) → other a b ≡ false → b ≡ a
+no_other_is a b h =
+    ⊎_elim (λ (e : b ≡ a). e)
+    (λ (n : b ≡ a → ⊥).
+    let t : other a b ≡ true = rw (ne_eqb b a n) in
     absurd (false≢true (sym h ∙ t)))
-    (eq_or_not b 0x0A)
+    (eq_or_not b a)
 
 -- The bytes of a block before its first line end, of which n may count.
 module _ (x block : List ℕ) (n len : ℕ) (inside : n ≤ length x) (full : 16 ≤ length x) (b : block ≡ take 16 x)
-    (e : len ≡ prefix_len goes_on (take n block)) where
+    (e : len ≡ prefix_len (other 0x0A) (take n block)) where
   all : length (take 16 x) ≡ 16
   all = length-take-le 16 x full
 
   near : (len ≤ n) × (len ≤ 16)
   near =
-      let h = prefix_len-le-length goes_on (take n block) in
+      let h = prefix_len-le-length (other 0x0A) (take n block) in
       (omega (arith, e, h, length-take n block), omega (arith, e, h, length-take n block, ap length b, all))
 
   byte_is : (k : ℕ) → k < n → k < 16 → get_or (take n block) k 0 ≡ get_or (take n x) k 0
@@ -45,7 +47,7 @@ module _ (x block : List ℕ) (n len : ℕ) (inside : n ≤ length x) (full : 16
 
   plain : NoLineEnd (take n x) 0 len
   plain k a l f =
-      passed (get_or (take n block) k 0) (prefix_len_passes goes_on (take n block) k 0 (omega (arith, e, l)))
+      other_differs 0x0A (get_or (take n block) k 0) (prefix_len_passes (other 0x0A) (take n block) k 0 (omega (arith, e, l)))
       (byte_is k (omega (arith, near.0, l)) (omega (arith, near.1, l)) ∙ f)
 
   pub front_stopped : LastBlock (take n x) 0 → Stopped (take n x) len
@@ -55,9 +57,9 @@ module _ (x block : List ℕ) (n len : ℕ) (inside : n ≤ length x) (full : 16
       (λ (g : len < 16).
       let t : length (take n block) ≡ length (take 16 (take n x)) = omega (arith, length-take n block, ap length b, all, length-take 16 (take n x)) in
       sym (byte_is len (omega (arith, s)) g)
-      ∙ failed (get_or (take n block) len 0)
-      (subst (λ (k : ℕ). goes_on (get_or (take n block) k 0) ≡ false) (sym e)
-      (prefix_len_stops goes_on (take n block) 0 (omega (arith, e, s, t, length-take 16 (take n x))))))
+      ∙ no_other_is 0x0A (get_or (take n block) len 0)
+      (subst (λ (k : ℕ). other 0x0A (get_or (take n block) k 0) ≡ false) (sym e)
+      (prefix_len_stops (other 0x0A) (take n block) 0 (omega (arith, e, s, t, length-take 16 (take n x))))))
       (le_or_lt 16 len)
 
   pub front_copied : (width : ℕ) (old new : List ℕ) → length new ≡ length old → width ≡ characters (take len block) → take 16 new ≡ block

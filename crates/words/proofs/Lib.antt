@@ -4,3 +4,4 @@ pub mod Chunks
 pub mod Follow
 pub mod Advance
 pub mod Last
+pub mod Space

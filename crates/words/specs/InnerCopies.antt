@@ -1,5 +1,5 @@
 -- What copying a run of words promises; no rule of 01 stands here.
-use Rattle.std.specs.Prelude.{ℕ, ◌+◌, ◌-◌, ◌≤◌, ◌<◌, ◌≡◌, false, List, length, take, get_or}
+use Rattle.std.specs.Prelude.{ℕ, ◌+◌, ◌-◌, ◌≤◌, ◌<◌, ◌≡◌, false, List, length, take, drop, get_or}
 use Rattle.base.specs.Result.{gives}
 use Rattle.room.specs.Lent.{Lent}
 use Rattle.utf8.specs.Utf8.{characters}
@@ -28,6 +28,13 @@ Stopped x len = len < length x → get_or x len 0 ≡ 0x0A
 -- the block of 16 bytes at a place is the last to be copied: it has a line end, or the text ends in it
 abbrev pub LastBlock : List ℕ → ℕ → Type 0
 LastBlock x len = len + 16 ≤ length x → NoLineEnd x len (len + 16) → ⊥
+
+-- The last `len` bytes of a line x are those after its last space, all of them where it has none; `width` is the number of their characters.
+pub record AfterSpace (x : List ℕ) (len width : ℕ) : Type 0 where
+  pub near : len ≤ length x
+  pub plain : (k : ℕ) → length x - len ≤ k → k < length x → get_or x k 0 ≡ 0x20 → ⊥
+  pub space : len < length x → get_or x (length x - len - 1) 0 ≡ 0x20
+  pub counts : width ≡ characters (drop (length x - len) x)
 
 -- The first bytes of a text up to `far` without the word that they cut, if they cut one; no more of them are without.
 pub record Whole (x : List ℕ) (far len width : ℕ) : Type 0 where

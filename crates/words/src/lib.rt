@@ -6,9 +6,10 @@ ghost use Rattle.std.specs.Prelude.{◌≡◌, true, false, ◌≤◌, length, t
 ghost use Rattle.utf8.specs.Utf8.{characters};
 ghost use Rattle.room.specs.Lent.{text_of, with_bytes};
 ghost use Rattle.splitter.specs.Split.{is_line_end_or_space};
-ghost use Rattle.words.specs.InnerCopies.{NoLineEnd, LastBlock, Copying, Stopped, Whole, Copies, Follows};
+ghost use Rattle.words.specs.InnerCopies.{NoLineEnd, LastBlock, Copying, Stopped, AfterSpace, Whole, Copies, Follows};
 
 use room::Text;
+use utf8::Part;
 
 // How many bytes a run has, and its width.
 #[derive(Clone, Copy)]
@@ -113,6 +114,27 @@ fn copy_last(free: &mut [u8], text: &[u8], n: usize) -> Run
     }
 }
 
+// The bytes of a line after its last space: how many, and their characters. All of them where it has none.
+// The last 16 are taken as one block first, since few words are longer; where no space stands among them, the line is taken byte by byte.
+fn after_space(line: &[u8]) -> Part
+    ensures { AfterSpace line.now result.len result.width }
+{
+    if let Some(block) = line.last_chunk::<16>() {
+        let part = utf8::back(block, b' ');
+        if part.len < 16 {
+            return part;
+        }
+    }
+    let from = match line.iter().rposition(|x| *x == b' ') {
+        Some(i) => i + 1,
+        None => 0,
+    };
+    Part {
+        len: line.len() - from,
+        width: utf8::count(&line[from..]),
+    }
+}
+
 // A run without the word that it cuts in two, if it does: back to the last space.
 fn whole_words(text: &[u8], run: Run) -> Run
     requires { (run.len ≤ length text.now) × (characters (take run.len text.now) ≡ run.width) × NoLineEnd text.now 0 run.len }
@@ -121,13 +143,10 @@ fn whole_words(text: &[u8], run: Run) -> Run
     if text.len() <= run.len || ends_word(text[run.len]) {
         return run;
     }
-    let line = &text[..run.len];
-    match line.iter().rposition(|x| *x == b' ') {
-        Some(i) => Run {
-            len: i + 1,
-            width: run.width - utf8::count(&line[i + 1..]),
-        },
-        None => Run { len: 0, width: 0 },
+    let part = after_space(&text[..run.len]);
+    Run {
+        len: run.len - part.len,
+        width: run.width - part.width,
     }
 }
 
