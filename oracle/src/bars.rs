@@ -63,11 +63,7 @@ const fn allowed(call: &'static str, page: &'static str, most: f64) -> Allowed {
 
 /// Why they are over their bars: docs/DECISIONS.md, 'Bars that are not met'. The figures are 6 to 10 parts in 100 above the most that was measured.
 const ALLOWED: &[Allowed] = &[
-    allowed("console, room as needed", "nonascii.doc", 0.66),
-    allowed("markdown", "nonascii.doc", 0.57),
-    allowed("console, room 65,536", "nonascii.doc", 0.75),
-    allowed("console, room 65,536", "options-2k.doc", 0.65),
-    allowed("markdown, room 65,536", "nonascii.doc", 0.65),
+    allowed("console, room 65,536", "options-2k.doc", 0.68),
     allowed(DRAFT, "options-2k.doc", 1.3),
     allowed(DRAFT, "options-8k.doc", 1.7),
     allowed(DRAFT, "options-30k.doc", 1.85),
@@ -76,9 +72,11 @@ const ALLOWED: &[Allowed] = &[
     allowed("roff", "pairs of InlineBlock", 6.9),
     allowed("roff", "pairs of Mono", 6.9),
     allowed("roff", "InlineBlocks 32 deep", 7.3),
-    allowed("roff", "Section4 32 deep, empty texts", 4.4),
-    allowed("roff", "a heading of empty texts", 5.2),
+    allowed("roff", "Section4 32 deep, empty texts", 5.0),
+    allowed("roff", "a heading of empty texts", 6.0),
     allowed("roff", "a heading of blocks", 10.2),
+    allowed("html", "texts of an empty line, cut", 3.75),
+    allowed("html", "texts cut at a paragraph", 3.7),
     allowed("html", "ampersands", 3.4),
 ];
 
