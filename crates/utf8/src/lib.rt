@@ -263,6 +263,7 @@ fn last_faulty(s: &[u8], n: usize) -> bool
 
 // Whether the bytes from a place on stand after those before them, and the last leave no character open: by blocks of 32 bytes, then of 16, so that the loop
 // steps by hand.
+#[inline(never)]
 fn blocks(s: &[u8], from: usize) -> bool
     requires { (3 ≤ from) × (from ≤ length s.now) × (19 ≤ length s.now) }
     ensures { result ≡ sound_at s.now from }
