@@ -3,6 +3,7 @@ pub use Prim.Native.Nat.{◌*◌, ◌+◌, ◌-◌, ◌<◌, ◌≤◌, suc, zer
 pub use Rattle.base.proofs.Choice.{and_left, and_right, if_false, if_true, le_or_lt, pick}
 unfoldable pub use Rattle.base.specs.Choice.{when◌then◌else◌}
 pub use Rattle.records.specs.Answers.{Read, token_of}
+unfoldable pub use Rattle.records.specs.Answers.{bare}
 pub use Rattle.records.specs.Records.{Token, index, is_end, is_start, is_text, number, tokens_from}
 unfoldable pub use Rattle.records.specs.Records.{blocks, kind_of, little, record_fits, size, styles, token_at, tokens}
 pub use Rattle.records.specs.declared.Block.{Block}

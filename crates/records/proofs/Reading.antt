@@ -1,9 +1,10 @@
 -- A record's bytes as numbers, its kind, and where it ends. Assumes nothing.
-use Rattle.records.proofs.Names.{ℕ, suc, ◌+◌, ◌-◌, ◌*◌, ◌≤◌, ◌<◌, ◌≡◌, refl, sym, ap, ap₂, ◌∙◌, subst, true, false, List, [], ◌∷◌, leb, ltb, length}
+use Rattle.records.proofs.Names.{ℕ, suc, ◌+◌, ◌-◌, ◌*◌, ◌≤◌, ◌<◌, ◌≡◌, refl, sym, ap, ap₂, ◌∙◌, subst, Bool, true, false, List, [], ◌∷◌, leb, ltb, length}
 use Rattle.records.proofs.Names.{take, drop, get_or, length-drop, drop_of_length-le, get_or-eq_default, drop-drop, arith, le_refl, add-zero, lt-ltb}
 use Rattle.records.proofs.Names.{le-ltb, le-leb, lt-leb, leb-true, when◌then◌else◌, and_left, and_right, if_true, if_false, Token, little, styles}
-use Rattle.records.proofs.Names.{blocks, kind_of, size, token_at, tokens_from, record_fits, token_of, Read, Kind, Block, Style, Head}
+use Rattle.records.proofs.Names.{blocks, kind_of, size, token_at, tokens_from, record_fits, token_of, Read, bare, Kind, Block, Style, Head}
 use mathlib.Core.Logic.{⊎_elim}
+use mathlib.Core.Bool.{false≢true}
 use Rattle.base.proofs.Choice.{le_or_lt, same_test}
 use lib.Dec.{eqb}
 use borrow.Author.Tests.{eqb-true, eq-eqb, ne_eqb}
@@ -227,3 +228,41 @@ module _ (s : List ℕ) (at : ℕ) where
     pub fits_by : (n : ℕ) → 6 ≤ left → n ≡ little (take 4 (drop at s)) → leb n (left - 6) ≡ record_fits (drop at s)
     unfolding record_fits size
     fits_by n h e = rw (length-drop at s, ← d, le-leb 6 left h, ← e)
+
+-- A record without a body
+
+module _ (s : List ℕ) (at : ℕ) where
+  pub bare_few : length s < at + 6 → 0 ≡ bare (drop at s)
+  unfolding bare when◌then◌else◌
+  bare_few h = rw (lt-leb 6 (length (drop at s)) (omega (arith, length-drop at s)))
+
+  module _ (j : at + 6 ≤ length s) where
+    pub bare_long : (n : ℕ) → n ≡ little (take 4 (drop at s)) → (n ≡ 0 → ⊥) → 0 ≡ bare (drop at s)
+    unfolding bare when◌then◌else◌ size
+    bare_long n e z =
+        rw (le-leb 6 (length (drop at s)) (omega (arith, length-drop at s)), ne_eqb (little (take 4 (drop at s))) 0 (λ q. z (e ∙ q))) refl
+
+    pub bare_here : (n k : ℕ) → n ≡ little (take 4 (drop at s)) → n ≡ 0 → k ≡ little (take 2 (drop (at + 4) s)) → k ≡ bare (drop at s)
+    unfolding bare when◌then◌else◌ size
+    bare_here n k e z t =
+        rw (le-leb 6 (length (drop at s)) (omega (arith, length-drop at s)), eq-eqb (little (take 4 (drop at s))) 0 (sym e ∙ z))
+        (t ∙ ap (λ (l : List ℕ). little (take 2 l)) (sym (drop-drop 4 at s)))
+
+  -- it is the next record, and the rest follows six bytes on
+  pub bare_read : (k : ℕ) → k ≡ bare (drop at s) → (k ≡ 0 → ⊥)
+      → (at + 6 ≤ length s) × Read s at (record { kind = kind_of k; start = at + 6; next = at + 6 })
+  unfolding size
+  bare_read k e z =
+      ⊎_elim
+      (λ (j : at + 6 ≤ length s). go j (eqb (size (drop at s)) 0) refl)
+      (λ (h : length s < at + 6). absurd (z (e ∙ sym (bare_few h))))
+      (le_or_lt (at + 6) (length s))
+    where
+      go : at + 6 ≤ length s → (b : Bool) → eqb (size (drop at s)) 0 ≡ b
+          → (at + 6 ≤ length s) × Read s at (record { kind = kind_of k; start = at + 6; next = at + 6 })
+      go j false q = absurd (z (e ∙ sym (bare_long j (size (drop at s)) refl (λ y. false≢true (sym q ∙ eq-eqb (size (drop at s)) 0 y)))))
+      go j true q =
+          let n : size (drop at s) ≡ 0 = eqb-true (size (drop at s)) 0 q in
+          let t : k ≡ little (take 2 (drop (at + 4) s)) = e ∙ sym (bare_here j (size (drop at s)) _ refl n refl) in
+          (j, subst (λ (n : ℕ). Read s at (record { kind = kind_of k; start = at + 6; next = n })) (let p : at + 6 + 0 ≡ at + 6 = omega arith in p)
+          (read_whole s at (kind_of k) (omega arith) (ap kind_of t) 0 (sym n) j (omega arith)))

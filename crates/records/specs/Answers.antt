@@ -1,8 +1,8 @@
 -- What reading a record answers, seen as the rules' record.
-use Rattle.std.specs.Prelude.{ℕ, ◌+◌, ◌≤◌, ◌<◌, ◌≡◌, true, List, [], ◌∷◌, ltb, length, drop}
+use Rattle.std.specs.Prelude.{ℕ, ◌+◌, ◌≤◌, ◌<◌, ◌≡◌, ◌&&◌, true, List, [], ◌∷◌, leb, ltb, eqb, length, take, drop}
 use Rattle.base.specs.Choice.{when◌then◌else◌}
 use Rattle.base.specs.Bytes.{part}
-use Rattle.records.specs.Records.{Token, kind_of, tokens_from, record_fits, size}
+use Rattle.records.specs.Records.{Token, kind_of, tokens_from, record_fits, size, little}
 use Rattle.records.specs.declared.Kind.TheVariants as kind
 use Rattle.records.specs.declared.Head.{Head}
 use Rattle.records.specs.declared.Raw.{Raw}
@@ -24,3 +24,7 @@ pub record Read (s : List ℕ) (at : ℕ) (h : Head) : Type 0 where
   pub high : h.next ≤ length s
   pub past : length s ≤ at → h ≡ record { kind = kind.Unknown; start = length s; next = length s }
   pub whole : at < length s → record_fits (drop at s) ≡ true → (h.start ≡ at + 6) × (h.next ≡ at + (6 + size (drop at s)))
+
+-- the number of the kind of the record that some bytes begin with, where it has no body and all its six bytes are there; else 0
+unfoldable pub bare : List ℕ → ℕ
+bare s = when leb 6 (length s) && eqb (size s) 0 then little (take 2 (drop 4 s)) else 0

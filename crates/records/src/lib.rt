@@ -7,7 +7,7 @@ ghost use Rattle.records.specs.Records.{little, number, index, is_of, kind_of, r
 ghost use Rattle.records.specs.Numbered.{StyleNumbered, BlockNumbered};
 ghost use Rattle.std.specs.Iterator.{YieldsFirstBy, item_count};
 ghost use Rattle.records.specs.Records.{tokens, tokens_from};
-ghost use Rattle.records.specs.Answers.{head_of, Read};
+ghost use Rattle.records.specs.Answers.{head_of, Read, bare};
 ghost use Rattle.records.specs.Listed.{token, left};
 
 // Style of a text record, in the order of its kind.
@@ -306,6 +306,23 @@ pub fn whole_at(document: &[u8], at: usize) -> Head
         start: body,
         next,
     }
+}
+
+// The number of the kind of the record at `at`, where that has no body and all six bytes are there; else 0. With it a walk steps over records without a body
+// and does not wait for their lengths.
+pub fn bare_at(document: &[u8], at: usize) -> usize
+    ensures { result ≡ bare (drop at document.now) }
+{
+    if document.len() <= at {
+        return 0;
+    }
+    if document.len() - at < 6 {
+        return 0;
+    }
+    if whole_four(document, at) != 0 {
+        return 0;
+    }
+    whole_two(document, at + 4)
 }
 
 // Refusal 2 otherwise: whether the record at `at` lies whole in the document.
