@@ -14,7 +14,7 @@ use mathlib.Core.Logic.{⊎_elim}
 use Rattle.std.proofs.lemmas.List.{length-map, get_or-map, get_or-take, map-set}
 use denote.Enum.Bare.{sameb}
 use lib.Dec.{eqb, leb}
-use mathlib.Core.Bool.{◌&&◌}
+use mathlib.Core.Bool.{◌&&◌, false}
 
 module _ (blocks : List Block) (depth : ℕ) (h : depth ≤ length blocks) where
   room : depth ≤ length (map index blocks)
@@ -30,6 +30,17 @@ module _ (blocks : List Block) (depth : ℕ) (h : depth ≤ length blocks) where
 
   pub held_pop : take (depth - 1) (map index blocks) ≡ popped (take depth (map index blocks))
   held_pop = pop_take (map index blocks) depth room
+
+  -- the innermost, as it stands in the array
+  pub held_at : (d b : Block) → 1 ≤ depth
+      → sameb the_type (get_or blocks (depth - 1) d) b ≡ leb 1 (length (take depth (map index blocks))) && eqb (top (take depth (map index blocks))) (index b)
+  held_at d b l =
+      same_block (get_or blocks (depth - 1) d) b
+      ∙ ap (λ (n : ℕ). eqb n (index b)) (sym (get_or-map index blocks (depth - 1) d 0 (omega (arith, l))))
+      ∙ innermost-last (map index blocks) depth (index b) room l
+
+  pub held_none : (b : Block) → depth ≡ 0 → false ≡ leb 1 (length (take depth (map index blocks))) && eqb (top (take depth (map index blocks))) (index b)
+  held_none b z = innermost-none (map index blocks) depth (index b) room (omega (arith, z))
 
   -- the innermost, as `last` gives it
   pub held_last : (r : Option (Bor Block)) (b : Bor Block)
@@ -47,7 +58,4 @@ module _ (blocks : List Block) (depth : ℕ) (h : depth ≤ length blocks) where
       sym (get_or-take depth blocks (depth - 1) b.now l)
       ∙ ap (λ (n : ℕ). get_or (take depth blocks) (n - 1) b.now) (sym k)
       ∙ get_or_from_slice_get (take depth blocks) (length (take depth blocks) - 1) x.now b.now (sym e) in
-      same_block x.now b.now
-      ∙ ap (λ (y : Block). eqb (index y) (index b.now)) (sym g)
-      ∙ ap (λ (n : ℕ). eqb n (index b.now)) (sym (get_or-map index blocks (depth - 1) b.now 0 (omega (arith, l))))
-      ∙ innermost-last (map index blocks) depth (index b.now) room (omega (arith, l))
+      ap (λ (y : Block). sameb the_type y b.now) (sym g) ∙ held_at b.now b.now (omega (arith, l))

@@ -1,10 +1,11 @@
 -- The refusals of one record, as the code finds them on a stack kept in an array. Assumes nothing.
-use Rattle.document.proofs.Names.{ℕ, suc, ◌-◌, ◌≤◌, ◌<◌, ◌≡◌, refl, sym, ap, ◌∙◌, true, false, List, [], ◌∷◌, length, take, drop, get_or}
-use Rattle.document.proofs.Names.{length-take-le, take_all, arith, le-leb, lt-leb, le-ltb, lt-ltb, ne_eqb, eqb-true, false≢true}
+use Rattle.document.proofs.Names.{ℕ, suc, ◌+◌, ◌-◌, ◌≤◌, ◌<◌, ◌≡◌, refl, sym, ap, ◌∙◌, true, false, List, [], ◌∷◌, length, take, drop, get_or}
+use Rattle.document.proofs.Names.{length-take-le, length-drop, take_all, arith, eq-eqb, le-leb, lt-leb, le-ltb, lt-ltb, ne_eqb, eqb-true, false≢true}
 use Rattle.document.proofs.Names.{part, Result, gives, refused, ◌>>=◌, top-take, Token, index}
 use Rattle.document.proofs.Names.{record_fits, opens, closes, bodiless, accept, first, reads, open_blocks, short, closed, check, checked}
 use Rattle.document.proofs.Names.{Read, Head, Kind, Style, Block}
 use lib.Dec.{eqb, leb}
+use Rattle.std.proofs.lemmas.List.{drop-take}
 use mathlib.Core.Logic.{◌⊎◌, ⊎_elim}
 use mathlib.Core.Bool.{◌&&◌}
 use Rattle.base.specs.Choice.{when◌then◌else◌}
@@ -56,28 +57,28 @@ module _ (array : List ℕ) (depth i : ℕ) (h : depth ≤ length array) where
 -- a record by its kind
 
 module _ {k : Kind} (p : ℕ) (body stack : List ℕ) where
-  pub accept_unknown : k ≡ kind.Unknown → refused 3 p ≡ accept p k body stack
+  accept_unknown : k ≡ kind.Unknown → refused 3 p ≡ accept p k body stack
   unfolding accept
   accept_unknown e = rw e
 
-  pub accept-text : {st : Style} → k ≡ kind.Text st → utf8 body ≡ true → gives stack ≡ accept p k body stack
+  accept-text : {st : Style} → k ≡ kind.Text st → utf8 body ≡ true → gives stack ≡ accept p k body stack
   unfolding accept when◌then◌else◌
   accept-text e v = rw (e, v)
 
-  pub accept-other : {st : Style} → k ≡ kind.Text st → utf8 body ≡ false → refused 5 p ≡ accept p k body stack
+  accept-other : {st : Style} → k ≡ kind.Text st → utf8 body ≡ false → refused 5 p ≡ accept p k body stack
   unfolding accept when◌then◌else◌
   accept-other e v = rw (e, v)
 
-  pub accept-start : {b : Block} → k ≡ kind.Start b → true ≡ eqb (length body) 0 → opens p (index b) stack ≡ accept p k body stack
+  accept-start : {b : Block} → k ≡ kind.Start b → true ≡ eqb (length body) 0 → opens p (index b) stack ≡ accept p k body stack
   unfolding accept
   accept-start {b} q h = rw q (sym (body-none p body (opens p (index b) stack) h))
 
-  pub accept-end : {b : Block} → k ≡ kind.End b → true ≡ eqb (length body) 0 → closes p (index b) stack ≡ accept p k body stack
+  accept-end : {b : Block} → k ≡ kind.End b → true ≡ eqb (length body) 0 → closes p (index b) stack ≡ accept p k body stack
   unfolding accept
   accept-end {b} q h = rw q (sym (body-none p body (closes p (index b) stack) h))
 
   -- .. of either kind
-  pub accept-body : ((b : Block) × (k ≡ kind.Start b)) ⊎ ((b : Block) × (k ≡ kind.End b)) → false ≡ eqb (length body) 0
+  accept-body : ((b : Block) × (k ≡ kind.Start b)) ⊎ ((b : Block) × (k ≡ kind.End b)) → false ≡ eqb (length body) 0
       → refused 4 p ≡ accept p k body stack
   unfolding accept
   accept-body q h =
@@ -85,6 +86,19 @@ module _ {k : Kind} (p : ℕ) (body stack : List ℕ) where
       (λ (s : (b : Block) × (k ≡ kind.Start b)). rw s.1 (sym (body-some p body (opens p (index s.0) stack) h)))
       (λ (e : (b : Block) × (k ≡ kind.End b)). rw e.1 (sym (body-some p body (closes p (index e.0) stack) h)))
       q
+
+-- the body of a record that was read
+
+module _ {s : List ℕ} {at : ℕ} {h : Head} (r : Read s at h) where
+  body_long : length (part s h.start h.next) ≡ h.next - h.start
+  body_long = length-take-le (h.next - h.start) (drop h.start s) (omega (arith, length-drop h.start s, r.high))
+
+  -- it is as many bytes as it is long, the last of those up to its end
+  pub body_last : drop (length (take h.next s) - (h.next - h.start)) (take h.next s) ≡ part s h.start h.next
+  body_last =
+      let n : length (take h.next s) - (h.next - h.start) ≡ h.start = omega (arith, length-take-le h.next s r.high, r.order) in
+      let q : h.next ≡ h.start + (h.next - h.start) = omega (arith, r.order) in
+      ap (λ (k : ℕ). drop k (take h.next s)) n ∙ ap (λ (k : ℕ). drop h.start (take k s)) q ∙ drop-take h.start (h.next - h.start) s
 
 -- a turn of the loop over the records
 
@@ -98,13 +112,55 @@ module _ (s : List ℕ) (at : ℕ) (stack : List ℕ) (l : at < length s) where
     unfolding first when◌then◌else◌
     first_read = rw f (ap (λ (t : Token). accept at t.kind t.body stack) (read-token r l))
 
-    pub reads_on : {after : List ℕ} → accept at h.kind (part s h.start h.next) stack ≡ gives after
+    reads_on : {after : List ℕ} → accept at h.kind (part s h.start h.next) stack ≡ gives after
         → reads at 0 stack (drop at s) ≡ reads h.next 0 after (drop h.next s)
     reads_on {after} e =
         reads_at_gives s at stack after l (first_read ∙ e) ∙ ap (λ (n : ℕ). reads n 0 after (drop n s)) (sym (r.whole l f).1)
 
-    pub reads-refused : {n p : ℕ} → accept at h.kind (part s h.start h.next) stack ≡ refused n p → reads at 0 stack (drop at s) ≡ refused n p
+    reads-refused : {n p : ℕ} → accept at h.kind (part s h.start h.next) stack ≡ refused n p → reads at 0 stack (drop at s) ≡ refused n p
     reads-refused {n} {p} e = reads_at_refused s at stack n p l (first_read ∙ e)
+
+    -- by the kind
+
+    pub reads-unknown : h.kind ≡ kind.Unknown → reads at 0 stack (drop at s) ≡ refused 3 at
+    reads-unknown e = reads-refused (sym (accept_unknown at (part s h.start h.next) stack e))
+
+    pub reads_text : {st : Style} → h.kind ≡ kind.Text st → utf8 (part s h.start h.next) ≡ true
+        → reads at 0 stack (drop at s) ≡ reads h.next 0 stack (drop h.next s)
+    reads_text e v = reads_on (sym (accept-text at (part s h.start h.next) stack e v))
+
+    pub reads-other : {st : Style} → h.kind ≡ kind.Text st → utf8 (part s h.start h.next) ≡ false → reads at 0 stack (drop at s) ≡ refused 5 at
+    reads-other e v = reads-refused (sym (accept-other at (part s h.start h.next) stack e v))
+
+    pub reads-body : ((b : Block) × (h.kind ≡ kind.Start b)) ⊎ ((b : Block) × (h.kind ≡ kind.End b)) → (h.next - h.start ≡ 0 → ⊥)
+        → reads at 0 stack (drop at s) ≡ refused 4 at
+    reads-body q n =
+        reads-refused (sym (accept-body at (part s h.start h.next) stack q (sym (ne_eqb _ 0 (λ z. n (omega (arith, z, body_long r)))))))
+
+    -- .. of a block without a body: the next record stands where that would start
+    module _ (z : h.next - h.start ≡ 0) where
+      bare : true ≡ eqb (length (part s h.start h.next)) 0
+      bare = sym (eq-eqb _ 0 (omega (arith, z, body_long r)))
+
+      on : {after : List ℕ} → accept at h.kind (part s h.start h.next) stack ≡ gives after
+          → reads at 0 stack (drop at s) ≡ reads h.start 0 after (drop h.start s)
+      on {after} e = let q : h.next ≡ h.start = omega (arith, z, r.order) in reads_on e ∙ ap (λ (n : ℕ). reads n 0 after (drop n s)) q
+
+      pub reads_open : {b : Block} {after : List ℕ} → h.kind ≡ kind.Start b → opens at (index b) stack ≡ gives after
+          → reads at 0 stack (drop at s) ≡ reads h.start 0 after (drop h.start s)
+      reads_open e g = on (sym (accept-start at (part s h.start h.next) stack e bare) ∙ g)
+
+      pub reads-open : {b : Block} {n p : ℕ} → h.kind ≡ kind.Start b → opens at (index b) stack ≡ refused n p
+          → reads at 0 stack (drop at s) ≡ refused n p
+      reads-open e g = reads-refused (sym (accept-start at (part s h.start h.next) stack e bare) ∙ g)
+
+      pub reads_close : {b : Block} {after : List ℕ} → h.kind ≡ kind.End b → closes at (index b) stack ≡ gives after
+          → reads at 0 stack (drop at s) ≡ reads h.start 0 after (drop h.start s)
+      reads_close e g = on (sym (accept-end at (part s h.start h.next) stack e bare) ∙ g)
+
+      pub reads-close : {b : Block} {n p : ℕ} → h.kind ≡ kind.End b → closes at (index b) stack ≡ refused n p
+          → reads at 0 stack (drop at s) ≡ refused n p
+      reads-close e g = reads-refused (sym (accept-end at (part s h.start h.next) stack e bare) ∙ g)
 
 -- 1 and 8
 

@@ -110,8 +110,8 @@ fn check_share(text: &[u8], s: &Share) -> Result<(), Refusal>
     Ok(())
 }
 
-// Refusals 3, 4, 18, 5, 6, 7 of a record by its kind and its length, where some text is left. `document::accept` has the same arms for blocks; one function
-// of both would need an arm for a text that neither of them has.
+// Refusals 3, 4, 18, 5, 6, 7 of a record by its kind and its length, where some text is left. `document::open_blocks` has the same arms for blocks; one
+// function of both would need an arm for a text that neither of them has.
 // (The length is read in the arms: read once before them, moving back takes 1.08 to 1.13 of the time.)
 fn accept(text: &[u8], s: &Share, blocks: &mut OpenBlocks<MAX_OPEN>) -> Result<(), Refusal>
     ensures { verdict_of result blocks.new ≡ accept_share s.now.place (head_kind s.now.head.now) (size s.now.head.now) text.now blocks.old }
