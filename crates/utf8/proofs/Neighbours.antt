@@ -6,7 +6,7 @@ use Rattle.utf8.proofs.Names.{◌+◌, ◌-◌, ◌<◌, ◌≤◌, not-suc-le-z
 use Rattle.utf8.proofs.Names.{length, get_or, take, drop, drop-cons, drop-length, le-leb, lt-leb}
 use Rattle.utf8.proofs.Names.{lt-ltb, le-ltb, leb-true, leb-false, pick, le_or_lt, and_left, and_right}
 use Rattle.utf8.proofs.Names.{if_true, if_false, not-passed, Range, ◌to◌, within, row_of, never, well_formed, utf8, continues, low, high, Ascii}
-use Rattle.utf8.proofs.Names.{sound_at, beside_at, Tested, and-false, drop-drop, get_or-drop, length-drop}
+use Rattle.utf8.proofs.Names.{AsciiPart, sound_at, beside_at, Tested, and-false, drop-drop, get_or-drop, length-drop}
 use Rattle.base.specs.Choice.{among}
 use Rattle.utf8.specs.InnerNeighbours.{asks, under_way, follows, go_on, beside, sound}
 use Rattle.utf8.proofs.Laws.{tail, begins-never, fits_begins, ascii_run, ascii_part, or_none, any_range}
@@ -376,6 +376,16 @@ module _ (s : List ℕ) (i : ℕ) (g : 3 ≤ i) where
 not-not : (x : Bool) → not (not x) ≡ x
 not-not true = refl
 not-not false = refl
+
+-- .. as the code finds it, up to j
+pub rest_sound_at : (s : List ℕ) (i j : ℕ) → 3 ≤ i → i ≤ j → j ≤ length s → AsciiPart s i j → open_at s i ≡ false → sound_at s j ≡ utf8 (drop i s)
+rest_sound_at s i j h l m p e =
+    let q : i + (j - i) ≡ j = omega arith in
+    let a : Ascii (drop i s) (j - i) = record {
+      room = omega (arith, length-drop i s);
+      each = λ k g. rw (get_or-drop i s k 0) (p.each (i + k) (omega arith) (omega arith));
+    } in
+    sym (rest_sound s i h (j - i) a e ∙ ap (sound_at s) q)
 
 -- where to start: after the first three bytes
 module _ (s : List ℕ) (h : 3 ≤ length s) where

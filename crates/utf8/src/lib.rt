@@ -229,13 +229,21 @@ fn both_ascii(a: u8x16, b: u8x16) -> bool
     (a | b).simd_ge(u8x16::splat(0x80)).to_bitmask() == 0
 }
 
-// Whether 32 bytes of ASCII stand from a on, with no character open before them. By the vectors that `faults` takes: with std's `is_ascii` the check of text
-// that is not ASCII runs 4 % more instructions.
+// Whether 32 bytes from a place on are ASCII. By the vectors that `faults` takes: with std's `is_ascii` the check of text that is not ASCII runs 4 % more
+// instructions.
+fn pair_ascii(s: &[u8], a: usize) -> bool
+    requires { a + 32 ≤ length s.now }
+    ensures { result ≡ true → AsciiPart s.now a (a + 32) }
+{
+    both_ascii(u8x16::from_slice(&s[a..]), u8x16::from_slice(&s[a + 16..]))
+}
+
+// Whether 32 bytes of ASCII stand from a on, with no character open before them.
 fn plain(s: &[u8], a: usize) -> bool
     requires { (3 ≤ a) × (a + 32 ≤ length s.now) }
     ensures { Plain s.now a result }
 {
-    both_ascii(u8x16::from_slice(&s[a..]), u8x16::from_slice(&s[a + 16..])) && !cut_off(s, a)
+    pair_ascii(s, a) && !cut_off(s, a)
 }
 
 // 16 bytes from a place below 16 on end with as many that are 255 as the place says, after zeros.
@@ -363,6 +371,18 @@ fn past_blocks(s: &[u8], from: usize) -> usize
     i
 }
 
+// The same by 32 bytes at a time, as long as there are so many.
+fn past_pairs(s: &[u8], from: usize) -> usize
+    requires { from ≤ length s.now }
+    ensures { (from ≤ result) × (result ≤ length s.now) × AsciiPart s.now from result }
+{
+    let mut i = from;
+    while 32 <= s.len() - i && pair_ascii(s, i) {
+        i += 32;
+    }
+    i
+}
+
 // Whether the last n bytes of s are found to be ASCII by blocks of 16, the last of which may begin before them, so that no loop over single bytes is
 // needed. False tells nothing: s may have fewer than 16 bytes or fewer than n, a byte before the n may not be ASCII, or the n may be 64 or more.
 fn quickly_ascii(s: &[u8], n: usize) -> bool
@@ -391,7 +411,7 @@ pub fn valid_rest(s: &[u8], from: usize) -> bool
     if from < 3 || s.len() < 19 || s.len() < from || cut_off(s, from) {
         return valid_from(rest, 0);
     }
-    blocks(s, from + past_ascii(rest, 0, 64))
+    blocks(s, past_pairs(s, from))
 }
 
 // Whether a byte starts a character: it is none of 0x80 to 0xBF.
