@@ -263,6 +263,8 @@ module _ (s : List ℕ) (at : ℕ) where
       go j false q = absurd (z (e ∙ sym (bare_long j (size (drop at s)) refl (λ y. false≢true (sym q ∙ eq-eqb (size (drop at s)) 0 y)))))
       go j true q =
           let n : size (drop at s) ≡ 0 = eqb-true (size (drop at s)) 0 q in
-          let t : k ≡ little (take 2 (drop (at + 4) s)) = e ∙ sym (bare_here j (size (drop at s)) _ refl n refl) in
-          (j, subst (λ (n : ℕ). Read s at (record { kind = kind_of k; start = at + 6; next = n })) (let p : at + 6 + 0 ≡ at + 6 = omega arith in p)
-          (read_whole s at (kind_of k) (omega arith) (ap kind_of t) 0 (sym n) j (omega arith)))
+          let t : k ≡ little (take 2 (drop (at + 4) s)) = e ∙ sym (bare_here j (size (drop at s)) _ refl n refl) in (
+            j,
+            subst (λ (n : ℕ). Read s at (record { kind = kind_of k; start = at + 6; next = n })) (let p : at + 6 + 0 ≡ at + 6 = omega arith in p)
+                (read_whole s at (kind_of k) (omega arith) (ap kind_of t) 0 (sym n) j (omega arith)),
+          )

@@ -178,15 +178,19 @@ least a b = cond (leb a b) 255 0
 or_least : (a b : ℕ) → bit_or a b < 128 → (a < 128) × (b < 128)
 or_least a b h = (omega (arith, or_add_and a b, and_le_r a b), omega (arith, or_add_and a b, and_le_l a b))
 
+-- lanes of which none is 128 or more
+pub all_low : (v : List ℕ) → length v ≡ 16 → eqb (mask_l (map (top 7) (zip2 least (replicate 16 128) v)) % 2 ^ 64) 0 ≡ true → (k : ℕ) → k < 16
+    → get_or v k 0 < 0x80
+all_low v long e k h =
+    let bits : mask_l (map (top 7) (zip2 least (replicate 16 128) v)) % 2 ^ 64 ≡ mask_l (map (leb 128) v) =
+    ap (λ l. mask_l l % 2 ^ 64) (tops_compared w8 leb (replicate 16 128) v ∙ zip2_splat_left leb 128 16 v long)
+    ∙ mask_l-mod (map (leb 128) v) 64 (omega (arith, length-map v (leb 128), long)) in
+    leb-false 128 (get_or v k 0) (none_set (leb 128) v (sym bits ∙ eqb-true _ 0 e) k (omega (arith, long)))
+
 pub both_low : (v w : List ℕ) → length v ≡ 16 → length w ≡ 16
     → eqb (mask_l (map (top 7) (zip2 least (replicate 16 128) (zip2 bit_or v w))) % 2 ^ 64) 0 ≡ true → (k : ℕ) → k < 16
     → (get_or v k 0 < 0x80) × (get_or w k 0 < 0x80)
 both_low v w lv lw e k h =
-    let z = zip2 bit_or v w in
-    let long : length z ≡ 16 = length-zip2 bit_or v w (lv ∙ sym lw) ∙ lv in
-    let bits : mask_l (map (top 7) (zip2 least (replicate 16 128) z)) % 2 ^ 64 ≡ mask_l (map (leb 128) z) =
-    ap (λ l. mask_l l % 2 ^ 64) (tops_compared w8 leb (replicate 16 128) z ∙ zip2_splat_left leb 128 16 z long)
-    ∙ mask_l-mod (map (leb 128) z) 64 (omega (arith, length-map z (leb 128), long)) in
-    let low = leb-false 128 (get_or z k 0) (none_set (leb 128) z (sym bits ∙ eqb-true _ 0 e) k (omega (arith, long))) in
-    let is : get_or z k 0 ≡ bit_or (get_or v k 0) (get_or w k 0) = get_or-zip2 bit_or v w k 0 0 0 (omega (arith, lv)) (omega (arith, lw)) in
+    let low = all_low (zip2 bit_or v w) (length-zip2 bit_or v w (lv ∙ sym lw) ∙ lv) e k h in
+    let is : get_or (zip2 bit_or v w) k 0 ≡ bit_or (get_or v k 0) (get_or w k 0) = get_or-zip2 bit_or v w k 0 0 0 (omega (arith, lv)) (omega (arith, lw)) in
     or_least (get_or v k 0) (get_or w k 0) (omega (arith, is, low))

@@ -2,7 +2,7 @@
 -- Assumes nothing.
 use Rattle.utf8.proofs.Names.{◌≡◌, refl, ap, sym, ◌∙◌, Bool, true, false, not, ◌||◌, ◌&&◌, and-false, and_assoc, false≢true, ⊎_elim, List, [], ◌∷◌, ℕ}
 use Rattle.utf8.proofs.Names.{zero, suc, ◌+◌, ◌-◌, ◌/◌, ◌<◌, ◌≤◌, suc-le-suc, add-one, not-suc-le-zero, add-zero, arith, leb, leb-zero, leb-false}
-use Rattle.utf8.proofs.Names.{drop-length, drop_of_length-le, length, get_or, take, drop, length-drop}
+use Rattle.utf8.proofs.Names.{length, get_or, take, drop, length-drop}
 use Rattle.utf8.proofs.Names.{le-leb, lt-leb, ne_eqb, drop-cons, when◌then◌else◌, le_or_lt, eq_or_not, and_right, Range, ◌to◌}
 use Rattle.utf8.proofs.Names.{within, continues, table, row_of, well_formed, characters, never, begins, size_of, low, high}
 use Rattle.std.specs.Prelude.{cond}
@@ -231,17 +231,6 @@ one_at s i h l =
 -- a part up to the end
 pub rest_is : (k : ℕ) (t : List ℕ) → take (length t - k) (drop k t) ≡ drop k t
 rest_is k t = take_all (length t - k) (drop k t) (omega (arith, length-drop k t))
-
--- what is left of a text is as much of its end
-pub last_is : (k : ℕ) (t : List ℕ) → drop (length t - length (drop k t)) t ≡ drop k t
-last_is k t =
-    ⊎_elim
-    (λ (h : k ≤ length t). let q : length t - length (drop k t) ≡ k = omega (arith, length-drop k t) in rw q)
-    (λ (h : length t < k).
-    let q : length t - length (drop k t) ≡ length t = omega (arith, length-drop k t) in
-    let over : length t ≤ k = omega arith in
-    rw (q, drop-length t, drop_of_length-le t over))
-    (le_or_lt k (length t))
 
 -- the first byte of a text and the others
 pub first_is : (t : List ℕ) → 1 ≤ length t → get_or t 0 0 ∷ take (length t - 1) (drop 1 t) ≡ t

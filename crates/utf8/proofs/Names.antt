@@ -3,7 +3,7 @@ pub use Prim.Native.Nat.{◌%◌, ◌*◌, ◌+◌, ◌-◌, ◌/◌, ◌<◌, �
 pub use Rattle.base.proofs.Choice.{and_both, and_left, and_right, eq_or_not, if_false, if_true, le_or_lt, not-passed, pick, same_test}
 unfoldable pub use Rattle.base.specs.Choice.{when◌then◌else◌}
 unfoldable pub use Rattle.utf8.specs.InnerNeighbours.{high, low}
-pub use Rattle.utf8.specs.InnerParts.{Ascii, Tested, Plain, Classes, Lanes, beside_at, sound_at}
+pub use Rattle.utf8.specs.InnerParts.{Ascii, AsciiPart, Tested, Plain, Classes, Lanes, beside_at, sound_at}
 pub use Rattle.utf8.specs.Utf8.{Range, Row, ◌to◌, begins, characters, continues, decode, decode_from, emit, encode_all, find, first_of, never, utf8}
 pub use Rattle.utf8.specs.Utf8.{well_formed, within}
 unfoldable pub use Rattle.utf8.specs.Utf8.{bytes, character_at, encode, row_of, scalar, size_of, table}

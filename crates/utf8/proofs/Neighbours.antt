@@ -2,11 +2,11 @@
 -- Then the same from a place on, as the code tests it by blocks.
 -- Assumes nothing.
 use Rattle.utf8.proofs.Names.{◌≡◌, refl, ap, sym, subst₂, ◌∙◌, ⊎_elim, Bool, true, false, not, ◌&&◌, ◌||◌, or-true, false≢true, List, [], ◌∷◌, ℕ, zero, suc}
-use Rattle.utf8.proofs.Names.{◌+◌, ◌-◌, ◌<◌, ◌≤◌, not-suc-le-zero, add-zero, add-one, arith, leb}
+use Rattle.utf8.proofs.Names.{◌+◌, ◌-◌, ◌<◌, ◌≤◌, add-zero, add-one, arith, leb}
 use Rattle.utf8.proofs.Names.{length, get_or, take, drop, drop-cons, drop-length, le-leb, lt-leb}
 use Rattle.utf8.proofs.Names.{lt-ltb, le-ltb, leb-true, leb-false, pick, le_or_lt, and_left, and_right}
 use Rattle.utf8.proofs.Names.{if_true, if_false, not-passed, Range, ◌to◌, within, row_of, never, well_formed, utf8, continues, low, high, Ascii}
-use Rattle.utf8.proofs.Names.{sound_at, beside_at, Tested, and-false, drop-drop, get_or-drop, length-drop}
+use Rattle.utf8.proofs.Names.{AsciiPart, sound_at, beside_at, Tested, and-false, drop-drop, get_or-drop, length-drop}
 use Rattle.base.specs.Choice.{among}
 use Rattle.utf8.specs.InnerNeighbours.{asks, under_way, follows, go_on, beside, sound}
 use Rattle.utf8.proofs.Laws.{tail, begins-never, fits_begins, ascii_run, ascii_part, or_none, any_range}
@@ -310,22 +310,6 @@ module _ (s : List ℕ) where
         (λ (o : k < i). a.each k o) (le_or_lt i k);
   }
 
-  -- the last n bytes, where the last eight of s are ASCII and those of the n before them are too
-  pub ascii_last : (n i m : ℕ) → 8 ≤ length s → n ≤ length s → n ≤ i + 8 → Ascii (drop (length s - n) s) i → m ≡ 8
-      → is_ascii (take m (drop (length s - 8) s)) ≡ true → Ascii (drop (length s - n) s) n
-  ascii_last n i m h l w a e t = record {
-    room = omega (arith, length-drop (length s - n) s);
-    each = λ k g. ⊎_elim
-        (λ (o : length s - 8 ≤ length s - n + k).
-        let q : length s - 8 + (length s - n + k - (length s - 8)) ≡ length s - n + k = omega arith in
-        let x = ascii_part s (length s - 8) 8 m (omega arith) e t (length s - n + k - (length s - 8)) (omega arith) in
-        rw (get_or-drop (length s - n) s k 0) (rw q at x))
-        (λ (o : length s - n + k < length s - 8). a.each k (omega arith)) (le_or_lt (length s - 8) (length s - n + k));
-  }
-
-  pub ascii_none : Ascii s 0
-  ascii_none = record { room = omega arith; each = λ k g. absurd (not-suc-le-zero g) }
-
   pub ascii_rest : (i : ℕ) → Ascii s i → utf8 s ≡ utf8 (drop i s)
   ascii_rest i a =
       let q : 0 + i ≡ i = omega arith in
@@ -376,6 +360,16 @@ module _ (s : List ℕ) (i : ℕ) (g : 3 ≤ i) where
 not-not : (x : Bool) → not (not x) ≡ x
 not-not true = refl
 not-not false = refl
+
+-- .. as the code finds it, up to j
+pub rest_sound_at : (s : List ℕ) (i j : ℕ) → 3 ≤ i → i ≤ j → j ≤ length s → AsciiPart s i j → open_at s i ≡ false → sound_at s j ≡ utf8 (drop i s)
+rest_sound_at s i j h l m p e =
+    let q : i + (j - i) ≡ j = omega arith in
+    let a : Ascii (drop i s) (j - i) = record {
+      room = omega (arith, length-drop i s);
+      each = λ k g. rw (get_or-drop i s k 0) (p.each (i + k) (omega arith) (omega arith));
+    } in
+    sym (rest_sound s i h (j - i) a e ∙ ap (sound_at s) q)
 
 -- where to start: after the first three bytes
 module _ (s : List ℕ) (h : 3 ≤ length s) where

@@ -12,6 +12,10 @@ pub record Ascii (s : List ℕ) (i : ℕ) : Type 0 where
   pub room : i ≤ length s
   pub each : (k : ℕ) → k < i → get_or s k 0 < 0x80
 
+-- the bytes from a up to b are ASCII
+pub record AsciiPart (s : List ℕ) (a b : ℕ) : Type 0 where
+  pub each : (k : ℕ) → a ≤ k → k < b → get_or s k 0 < 0x80
+
 -- the bytes from i on stand beside those before them, of which there are three
 abbrev pub sound_at : List ℕ → ℕ → Bool
 sound_at s i = sound (get_or s (i - 3) 0) (get_or s (i - 2) 0) (get_or s (i - 1) 0) (drop i s)

@@ -7,7 +7,7 @@ ghost use Rattle.std.specs.Prelude.{length, take, drop, map, reverse, eqb, ltb, 
 ghost use Rattle.base.specs.Choice.{when◌then◌else◌, among};
 ghost use Rattle.utf8.specs.Utf8.{◌to◌, utf8, characters, continues, begins, size_of, row_of, character_at};
 ghost use Rattle.utf8.specs.InnerNeighbours.{asks, low, high, beside, follows};
-ghost use Rattle.utf8.specs.InnerParts.{is_ascii, sound_at, Ascii, Tested, Plain, Classes, Lanes, Any};
+ghost use Rattle.utf8.specs.InnerParts.{is_ascii, sound_at, Ascii, AsciiPart, Tested, Plain, Classes, Lanes, Any};
 ghost use Rattle.std.specs.List.{prefix_len};
 ghost use Rattle.std.specs.Simd.Lanes.{mask_l};
 
@@ -229,13 +229,21 @@ fn both_ascii(a: u8x16, b: u8x16) -> bool
     (a | b).simd_ge(u8x16::splat(0x80)).to_bitmask() == 0
 }
 
-// Whether 32 bytes of ASCII stand from a on, with no character open before them. By the vectors that `faults` takes: with std's `is_ascii` the check of text
-// that is not ASCII runs 4 % more instructions.
+// Whether 32 bytes from a place on are ASCII. By the vectors that `faults` takes: with std's `is_ascii` the check of text that is not ASCII runs 4 % more
+// instructions.
+fn pair_ascii(s: &[u8], a: usize) -> bool
+    requires { a + 32 ≤ length s.now }
+    ensures { result ≡ true → AsciiPart s.now a (a + 32) }
+{
+    both_ascii(u8x16::from_slice(&s[a..]), u8x16::from_slice(&s[a + 16..]))
+}
+
+// Whether 32 bytes of ASCII stand from a on, with no character open before them.
 fn plain(s: &[u8], a: usize) -> bool
     requires { (3 ≤ a) × (a + 32 ≤ length s.now) }
     ensures { Plain s.now a result }
 {
-    both_ascii(u8x16::from_slice(&s[a..]), u8x16::from_slice(&s[a + 16..])) && !cut_off(s, a)
+    pair_ascii(s, a) && !cut_off(s, a)
 }
 
 // 16 bytes from a place below 16 on end with as many that are 255 as the place says, after zeros.
@@ -335,20 +343,60 @@ pub fn valid(s: &[u8]) -> bool
     valid_from(s, i)
 }
 
-// Whether the last n bytes of s are found to be ASCII by blocks of eight, the last of which may begin before them, so that no loop over single bytes is
-// needed. False tells nothing: s may have fewer than eight bytes or fewer than n, a byte before the n may not be ASCII, or the n may be 64 or more.
+// Whether all lanes of a vector are ASCII.
+fn all_ascii(v: u8x16) -> bool
+    ensures { result ≡ true → (k : ℕ) → k < 16 → get_or v k 0 < 0x80 }
+{
+    v.simd_ge(u8x16::splat(0x80)).to_bitmask() == 0
+}
+
+// Whether 16 bytes from a place on are ASCII. Not by std's `is_ascii`, which stores where the bytes are, for a function that it may have to call: with it, by
+// eight bytes, the check of a page of options runs 16 % more instructions.
+fn block_ascii(s: &[u8], a: usize) -> bool
+    requires { a + 16 ≤ length s.now }
+    ensures { result ≡ true → AsciiPart s.now a (a + 16) }
+{
+    all_ascii(u8x16::from_slice(&s[a..]))
+}
+
+// Goes on from a place by blocks of 16 while they are ASCII and more than 16 bytes are left, and returns where it stands.
+fn past_blocks(s: &[u8], from: usize) -> usize
+    requires { from ≤ length s.now }
+    ensures { (result ≤ length s.now) × AsciiPart s.now from result }
+{
+    let mut i = from;
+    while 16 < s.len() - i && block_ascii(s, i) {
+        i += 16;
+    }
+    i
+}
+
+// The same by 32 bytes at a time, as long as there are so many.
+fn past_pairs(s: &[u8], from: usize) -> usize
+    requires { from ≤ length s.now }
+    ensures { (from ≤ result) × (result ≤ length s.now) × AsciiPart s.now from result }
+{
+    let mut i = from;
+    while 32 <= s.len() - i && pair_ascii(s, i) {
+        i += 32;
+    }
+    i
+}
+
+// Whether the last n bytes of s are found to be ASCII by blocks of 16, the last of which may begin before them, so that no loop over single bytes is
+// needed. False tells nothing: s may have fewer than 16 bytes or fewer than n, a byte before the n may not be ASCII, or the n may be 64 or more.
 fn quickly_ascii(s: &[u8], n: usize) -> bool
     ensures { result ≡ true → Ascii (drop (length s.now - n) s.now) n }
 {
     let end = s.len();
-    if end < 8 {
+    if end < 16 {
         return false;
     }
-    // a call of its own: with one for both lengths the check of a page of options runs 4.5 % more instructions
-    if n <= 8 {
-        return s[end - 8..].is_ascii();
+    // a call of its own: with one for both lengths the check of a page of options runs more instructions
+    if n <= 16 {
+        return block_ascii(s, end - 16);
     }
-    n < 64 && n <= end && n - past_ascii(&s[end - n..], 0, 8) <= 8 && s[end - 8..].is_ascii()
+    n < 64 && n <= end && end - past_blocks(s, end - n) <= 16 && block_ascii(s, end - 16)
 }
 
 // Whether the last n bytes of s, or all where it has fewer, are well-formed, as `valid` answers for those bytes alone. The bytes before them serve the test of
@@ -361,11 +409,10 @@ pub fn valid_last(s: &[u8], n: usize) -> bool
         return true;
     }
     let from = s.len().saturating_sub(n);
-    let rest = base::get_from(s, from);
     if from < 3 || s.len() < 19 || cut_off(s, from) {
-        return valid_from(rest, 0);
+        return valid_from(&s[from..], 0);
     }
-    blocks(s, from + past_ascii(rest, 0, 64))
+    blocks(s, past_pairs(s, from))
 }
 
 // Whether a byte starts a character: it is none of 0x80 to 0xBF.
