@@ -1,35 +1,58 @@
 -- What a block's start or end pushes, and what it does to capture. Assumes nothing.
 use Rattle.manpage.proofs.Names.{ℕ, ◌≡◌, refl, sym, ap, ◌∙◌, Bool, true, false, false≢true, List, [], eqb, when◌then◌else◌, gives}
 use Rattle.manpage.proofs.Names.{refused, if_true, if_false, bytes, index, Block, Style, Roff, Piece, Composed, roff_of, pushed, stripped}
-use Rattle.manpage.proofs.Names.{pushed_none, Locals, Outcome}
+use Rattle.manpage.proofs.Names.{pushed_none, Locals, Outcome, Result, behind, is_silent, silent, kind_of}
 use Rattle.manpage.proofs.Names.{subsection, heading, started, ended, locals, Follows, is_heading, is_term_ref, opening, closing, closed, opened, shut}
-use Rattle.std.specs.Prelude.{Option, Some, None, is_some}
+use Rattle.std.specs.Prelude.{Option, Some, None, is_some, unwrap_or}
 use Rattle.records.specs.declared.Block.TheVariants as block
 use Rattle.records.specs.declared.Kind.TheVariants as kind
 use Rattle.records.specs.declared.Style.TheVariants as style
 use Rattle.records.specs.contracts.Style.{the_type}
 use Rattle.records.specs.contracts.Block.{the_type as block_type}
 use denote.Enum.Bare.{sameb}
+use Rattle.std.specs.Option.{option_eq}
+use Rattle.std.proofs.Common.{nat_eq}
 
 -- Capture
 
+-- the place behind a record does not change whether capture is on
+pub behind_on : (captured : Option ℕ) (place next : ℕ) → is_some (behind captured place next) ≡ is_some captured
+unfolding behind when◌then◌else◌
+behind_on None place next = refl
+behind_on (Some n) place next = go (eqb n place)
+  where
+    go : (c : Bool) → is_some (when c then Some next else Some n) ≡ true
+    go true = refl
+    go false = refl
+
+-- by the comparison of `behind`
+pub behind_at : (captured : Option ℕ) (place next : ℕ) → true ≡ option_eq nat_eq captured (Some place) → Some next ≡ behind captured place next
+unfolding behind
+behind_at None place next e = absurd (false≢true (sym e))
+behind_at (Some n) place next e = sym (if_true _ _ (sym e))
+
+pub behind-kept : (captured : Option ℕ) (place next : ℕ) → false ≡ option_eq nat_eq captured (Some place) → captured ≡ behind captured place next
+unfolding behind
+behind-kept None place next e = refl
+behind-kept (Some n) place next e = sym (if_false _ _ (sym e))
+
 module _ (b : Block) (captured : Option ℕ) where
-  module _ (from : ℕ) where
-    pub opened-heading : is_heading b ≡ true → Some from ≡ opened b captured from
+  module _ (place next : ℕ) where
+    pub opened-heading : is_heading b ≡ true → behind (Some (unwrap_or captured place)) place next ≡ opened b captured place next
     unfolding opened
     opened-heading e = sym (if_true _ _ e)
 
-    pub opened-other : is_heading b ≡ false → captured ≡ opened b captured from
+    pub opened-other : is_heading b ≡ false → captured ≡ opened b captured place next
     unfolding opened
     opened-other e = sym (if_false _ _ e)
 
     -- whether it is on then, and from where
-    pub opened-on : is_some (opened b captured from) ≡ opening b (is_some captured)
+    pub opened-on : is_some (opened b captured place next) ≡ opening b (is_some captured)
     unfolding opened opening when◌then◌else◌
     opened-on = go (is_heading b)
       where
-        go : (c : Bool) → is_some (when c then Some from else captured) ≡ (when c then true else is_some captured)
-        go true = refl
+        go : (c : Bool) → is_some (when c then behind (Some (unwrap_or captured place)) place next else captured) ≡ (when c then true else is_some captured)
+        go true = behind_on (Some (unwrap_or captured place)) place next
         go false = refl
 
   pub shut-heading : is_heading b ≡ true → None ≡ shut b captured
@@ -100,6 +123,32 @@ module _ (p : ℕ) (kept : List ℕ) (capture : Bool) (m : Roff) where
   ended-nothing block.TermRef e h0 h1 h2 = tt
   ended-nothing block.Meta e h0 h1 h2 = absurd (h2 refl)
   ended-nothing block.Mono e h0 h1 h2 = pushed_none m
+
+-- nothing is pushed, and the locals stay
+abbrev pub nothing : Locals → Result Outcome
+nothing l = gives (record { pushed = []; after = l })
+
+-- so at a silent block, whose end ends no heading
+pub silent-block : (b : Block) → is_silent b ≡ true
+    → (is_heading b ≡ false) × ((p : ℕ) (l : Locals) → (started p b l ≡ nothing l) × (ended p b l ≡ nothing l))
+unfolding started ended
+silent-block block.Header e = absurd (false≢true e)
+silent-block block.Section2 e = absurd (false≢true e)
+silent-block block.Section3 e = absurd (false≢true e)
+silent-block block.Section4 e = absurd (false≢true e)
+silent-block block.ItemTerm e = absurd (false≢true e)
+silent-block block.ItemBody e = absurd (false≢true e)
+silent-block block.DefinitionList e = (refl, λ p l. (refl, refl))
+silent-block block.Block e = absurd (false≢true e)
+silent-block block.InlineBlock e = (refl, λ p l. (refl, refl))
+silent-block block.TermRef e = absurd (false≢true e)
+silent-block block.Meta e = absurd (false≢true e)
+silent-block block.Mono e = (refl, λ p l. (refl, refl))
+
+-- 0 is the number of no silent kind
+pub number_silent : (k : ℕ) → silent (kind_of k) ≡ true → k ≡ 0 → ⊥
+unfolding kind_of when◌then◌else◌
+number_silent k s e = false≢true (ap (λ (n : ℕ). silent (kind_of n)) (sym e) ∙ s)
 
 -- the end of a heading: of Header, and of another
 pub ended-header : (p : ℕ) (l : Locals) (b : Block) → true ≡ sameb block_type b block.Header → ended p b l ≡ heading (bytes "SH") l

@@ -1,10 +1,9 @@
 -- Captured headings: the text between two places of a document, upper-cased, and how it is written. Assumes nothing.
 use Rattle.manpage.proofs.Names.{ℕ, ◌+◌, ◌≤◌, ◌<◌, ◌≡◌, refl, sym, ap, ◌∙◌, Bool, true, false, not, ◌&&◌, false≢true, List, [], ◌∷◌}
 use Rattle.manpage.proofs.Names.{◌++◌, length, drop, get_or, drop_of_length-le, arith, when◌then◌else◌, if_true, if_false, pick, and_left, and_right}
-use Rattle.manpage.proofs.Names.{Token, Record, empty, eqb, ne_eqb, utf8, encode, bytes, Valid, valid_both, upper, upper-none, upper_both, upper_ascii}
+use Rattle.manpage.proofs.Names.{Token, empty, eqb, ne_eqb, utf8, encode, bytes, Valid, valid_both, upper, upper-none, upper_both, upper_ascii}
 use Rattle.manpage.proofs.Names.{upper-empty}
 use Rattle.manpage.proofs.Names.{piece, argument, argument_pieces, ends_heading, record_text, texts_valid, heading_text, ◌||◌}
-use Rattle.records.specs.Listed.{token}
 use Rattle.utf8.proofs.Laws.{one_at}
 use Rattle.upper.specs.Upper.{ascii_upper}
 use Rattle.roff_escape.specs.declared.escape.Escape.TheVariants as mode
@@ -31,34 +30,34 @@ upper-end s i h = ap upper (drop_of_length-le s h) ∙ upper-none
 -- The records of a heading
 
 -- the first of some records, and those after it
-module _ {ts us : List Token} (r : Record) (first : ts ≡ token r ∷ us) where
-  pub heading-ends : ends_heading r.kind ≡ true → heading_text ts ≡ []
+module _ {ts us : List Token} (t : Token) (first : ts ≡ t ∷ us) where
+  pub heading-ends : ends_heading t.kind ≡ true → heading_text ts ≡ []
   unfolding heading_text
   heading-ends e = ap heading_text first ∙ if_true _ _ e
 
-  pub upper-ends : ends_heading r.kind ≡ true → upper (heading_text ts) ≡ []
+  pub upper-ends : ends_heading t.kind ≡ true → upper (heading_text ts) ≡ []
   upper-ends e = ap upper (heading-ends e) ∙ upper-none
 
   -- in UTF-8, as are those after it
   pub valid_after : texts_valid ts ≡ true → texts_valid us ≡ true
   unfolding texts_valid
-  valid_after v = and_right (utf8 (record_text r.kind r.body.now)) _ (sym (ap texts_valid first) ∙ v)
+  valid_after v = and_right (utf8 (record_text t.kind t.body)) _ (sym (ap texts_valid first) ∙ v)
 
   -- its text
-  module _ (x : List ℕ) (told : x ≡ record_text r.kind r.body.now) where
+  module _ (x : List ℕ) (told : x ≡ record_text t.kind t.body) where
     pub valid_own : texts_valid ts ≡ true → Valid x
     unfolding texts_valid
     valid_own v = ap utf8 told ∙ and_left _ (texts_valid us) (sym (ap texts_valid first) ∙ v)
 
-    pub heading_on : ends_heading r.kind ≡ false → heading_text ts ≡ x ++ heading_text us
+    pub heading_on : ends_heading t.kind ≡ false → heading_text ts ≡ x ++ heading_text us
     unfolding heading_text
     heading_on e = ap heading_text first ∙ if_false _ _ e ∙ ap (λ (y : List ℕ). y ++ heading_text us) (sym told)
 
-    pub upper_on : texts_valid ts ≡ true → ends_heading r.kind ≡ false → upper (heading_text ts) ≡ upper x ++ upper (heading_text us)
+    pub upper_on : texts_valid ts ≡ true → ends_heading t.kind ≡ false → upper (heading_text ts) ≡ upper x ++ upper (heading_text us)
     upper_on v e = ap upper (heading_on e) ∙ upper_both x (heading_text us) (valid_own v)
 
     -- whether there is any text
-    pub empty_on : (some : Bool) → ends_heading r.kind ≡ false
+    pub empty_on : (some : Bool) → ends_heading t.kind ≡ false
         → not some && empty (heading_text ts) ≡ not (some || not (eqb (length x) 0)) && empty (heading_text us)
     unfolding empty
     empty_on some e = ap (λ (y : List ℕ). not some && empty y) (heading_on e) ∙ go some x

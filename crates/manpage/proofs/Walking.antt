@@ -1,90 +1,26 @@
 -- The walk over the records: what stands in the room, and the rules run from here on, give the whole. Assumes nothing.
-use Rattle.manpage.proofs.Names.{ℕ, zero, suc, ◌+◌, ◌-◌, ◌≤◌, ◌<◌, ◌≡◌, refl, sym, ap, ap₂, ◌∙◌, subst, Bool, true, false, false≢true, ⊎_elim, List, [], ◌∷◌}
+use Rattle.manpage.proofs.Names.{ℕ, ◌+◌, ◌≤◌, ◌<◌, ◌≡◌, refl, sym, ap, ap₂, ◌∙◌, subst, Bool, true, false, false≢true, ⊎_elim, List, [], ◌∷◌}
 use Rattle.manpage.proofs.Names.{◌++◌}
-use Rattle.manpage.proofs.Names.{length-drop, length-take, drop-drop, drop_of_length-le, take-nil, part_none, pick}
-use Rattle.records.specs.Records.{size as record_size}
+use Rattle.manpage.proofs.Names.{part_none, pick, eqb, eqb-true, Alike, Head, Read, token_of, bare, kind_of, silent, behind}
 use Rattle.manpage.proofs.Names.{append_assoc, append-nil, length, take, drop, length-take-le, arith, part, Result, gives, refused, ◌>>=◌}
-use Rattle.manpage.proofs.Names.{if_true, if_false, le_or_lt, bind_assoc, Token, tokens, tokens_from, token_at, check, Record, Records, left, Kind, Style}
+use Rattle.manpage.proofs.Names.{if_true, if_false, le_or_lt, bind_assoc, Token, tokens, tokens_from, check, Kind, Style}
 use Rattle.manpage.proofs.Names.{Block}
 use Rattle.manpage.proofs.Names.{seen, extended, seen_in, seen-out, walk, Roff, Composed, roff_of, pushed, stripped, preamble, Written}
 use Rattle.manpage.proofs.Names.{escape_all, line_after, writes, begun, pushes, text, pushes-writes, pushed_none, Locals, initial, Outcome, captures}
 use Rattle.manpage.proofs.Names.{font_of, subsection, started, ended, token, State, state, turn, roff_on, roff, locals, Follows, is_heading, is_term_ref}
-use Rattle.manpage.proofs.Names.{ends_heading, record_text, texts_valid, heading_text, opened, opening, shut, closed}
+use Rattle.manpage.proofs.Names.{ends_heading, record_text, texts_valid, heading_text, opened, shut, closed}
 use Rattle.refusal.specs.Answers.{answered}
 use Rattle.refusal.specs.Numbers.{refusal_number, refusal_place}
-use Rattle.records.specs.Listed.{token as listed}
 use Rattle.records.specs.declared.Kind.TheVariants as kind
-use Rattle.records.proofs.Tokens.{tokens_at, tokens-end, next_at}
+use Rattle.records.proofs.Reading.{read_next, bare_read}
 use Rattle.refusal.specs.declared.Refusal.{Refusal}
 use Rattle.std.specs.Prelude.{Result as Answer, Ok, Err, Option, Some, None, is_some, unwrap_or}
 use Rattle.room.proofs.Lents.{past_room}
-use Rattle.renderer.proofs.Leads.{Leads, leads-on, leads-out, leads-refused, leads-end}
+use Rattle.renderer.proofs.Leads.{Leads, leads-on, leads-out, leads-refused, leads-end, leads-same, turned, walk_record, walk_end}
 use Rattle.manpage.specs.InnerParts.{HasBegun, IsSameRoom}
 use Rattle.manpage.proofs.Capturing.{heading-ends, heading_on, valid_after}
 use Rattle.manpage.proofs.Blocks.{started-gives, ended-gives, started-refused, ended-refused, opened-on, opened-heading, opened-other, shut-on, shut-heading}
-use Rattle.manpage.proofs.Blocks.{shut-other}
-
--- Records of a document
-
--- those after the first are those from a later place on
-pub listed_after : (document : List ℕ) (at : ℕ) (t : Token) (us : List Token) → t ∷ us ≡ tokens_from document at → (n : ℕ) × (us ≡ tokens_from document n)
-listed_after document at t us e =
-    ⊎_elim
-    (λ (h : length document ≤ at). let z : ⊥ = omega (arith, ap length (e ∙ tokens-end document at h)) in absurd z)
-    (λ (h : at < length document). (next_at document at, ap (drop 1) (e ∙ tokens_at document at h)))
-    (le_or_lt (length document) at)
-
-take_own : (n : ℕ) (l : List ℕ) → take (length (take n l)) l ≡ take n l
-take_own zero l = refl
-take_own (suc n) [] = refl
-take_own (suc n) (b ∷ l) = ap (λ (x : List ℕ). b ∷ x) (take_own n l)
-
--- a record's body, by its places
-abbrev Placed : List ℕ → Token → Type 0
-Placed document t = (t.start + length t.body ≤ length document) × (part document t.start (t.start + length t.body) ≡ t.body)
-
-placed : (document : List ℕ) (at : ℕ) → at < length document → Placed document (token_at at (drop at document))
-unfolding token_at
-placed document at h =
-    let s = drop at document in
-    let n = record_size s in
-    let body = take n (drop 6 s) in
-    let long = length-drop at document in
-    ⊎_elim
-    (λ (k : at + 6 ≤ length document).
-    let six : length (take 6 s) ≡ 6 = length-take-le 6 s (omega (arith, long)) in
-    let e : at + 6 + length body - (at + 6) ≡ length body = omega arith in (
-      omega (arith, six, length-take n (drop 6 s), length-drop 6 s, long),
-      rw (six, e, ← drop-drop 6 at document) (take_own n (drop 6 s)),
-    ))
-    (λ (k : length document < at + 6).
-    let none : body ≡ [] = ap (take n) (drop_of_length-le s {i = 6} (omega (arith, long))) ∙ take-nil n in
-    let zero : length body ≡ 0 = ap length none in (
-      omega (arith, zero, length-take 6 s, long),
-      part_none document (at + length (take 6 s)) (at + length (take 6 s) + length body) (omega (arith, zero)) ∙ sym none,
-    ))
-    (le_or_lt (at + 6) (length document))
-
-pub placed_first : (document : List ℕ) (at : ℕ) (t : Token) (us : List Token) → t ∷ us ≡ tokens_from document at → Placed document t
-placed_first document at t us e =
-    ⊎_elim
-    (λ (h : length document ≤ at). let z : ⊥ = omega (arith, ap length (e ∙ tokens-end document at h)) in absurd z)
-    (λ (h : at < length document).
-    let q = e ∙ tokens_at document at h in
-    let same : token_at at (drop at document) ≡ t = cc in
-    subst (Placed document) same (placed document at h))
-    (le_or_lt (length document) at)
-
-place_first : (document : List ℕ) (at : ℕ) (t : Token) (us : List Token) → t ∷ us ≡ tokens_from document at → t.place ≡ at
-unfolding token_at
-place_first document at t us e =
-    ⊎_elim
-    (λ (h : length document ≤ at). let z : ⊥ = omega (arith, ap length (e ∙ tokens-end document at h)) in absurd z)
-    (λ (h : at < length document).
-    let q = e ∙ tokens_at document at h in
-    let same : token_at at (drop at document) ≡ t = cc in
-    subst (λ (t : Token). t.place ≡ at) same refl)
-    (le_or_lt (length document) at)
+use Rattle.manpage.proofs.Blocks.{shut-other, behind_on, nothing, silent-block, number_silent}
 
 -- The state
 
@@ -150,81 +86,123 @@ pub whole-refused : (limit : ℕ) (document : List ℕ) (n p : ℕ) → whole li
 unfolding ◌>>=◌
 whole-refused limit document n p e = sym (ap (λ (s : Result State). s >>= λ s. gives s.written.out) e)
 
--- The records from the place on where capture began; while it is off, those that are left.
-abbrev pub since : List ℕ → Option ℕ → List Token → List Token
-since document None ts = ts
-since document (Some at) ts = tokens_from document at
+-- Silent blocks
 
-since_here : (document : List ℕ) (captured : Option ℕ) (at : ℕ) (ts : List Token) → tokens_from document at ≡ ts
-    → tokens_from document (unwrap_or captured at) ≡ since document captured ts
-since_here document None at ts e = e
-since_here document (Some from) at ts e = refl
+silent_kind : (k : Kind) → silent k ≡ true
+    → (ends_heading k ≡ false) × ((x : List ℕ) → [] ≡ record_text k x) × ((p : ℕ) (x : List ℕ) (l : Locals) → token p k x l ≡ nothing l)
+unfolding token
+silent_kind (kind.Text st) e = absurd (false≢true e)
+silent_kind (kind.Start b) e = (refl, λ x. refl, λ p x l. ((silent-block b e).1 p l).0)
+silent_kind (kind.End b) e = ((silent-block b e).0, λ x. refl, λ p x l. ((silent-block b e).1 p l).1)
+silent_kind kind.Unknown e = absurd (false≢true e)
 
--- What is captured before some records: the text from where capture began up to there. From where it began on, text is UTF-8.
-pub record Holds (document : List ℕ) (captured : Option ℕ) (ts : List Token) (kept : List ℕ) : Type 0 where
-  pub valid : texts_valid (since document captured ts) ≡ true
-  pub chain : heading_text (since document captured ts) ≡ kept ++ heading_text ts
+silent_turn : (limit p q : ℕ) (k : Kind) (x : List ℕ) (ts : List Token) (s : State) → silent k ≡ true → turn limit p q k x ts s ≡ gives s
+unfolding turn pushes ◌>>=◌
+silent_turn limit p q k x ts s e =
+    ap (λ (t : Result Outcome). t >>= λ o. pushes limit o.pushed s.written >>= λ w. gives (state o.after w)) ((silent_kind k e).2 p x s.locals)
+
+module _ {document : List ℕ} {at : ℕ} where
+  pub alike_then : {next last : ℕ} → Alike document at next → Alike document next last → Alike document at last
+  alike_then a b = record {
+    walks = λ limit s. a.walks limit s ∙ b.walks limit s;
+    heading = a.heading ∙ b.heading;
+    valid = λ v. b.valid (a.valid v);
+  }
+
+  pub alike_past : {h : Head} → Read document at h → at < length document → silent h.kind ≡ true → Alike document at h.next
+  unfolding ◌>>=◌
+  alike_past {h} r l e =
+      let first = read_next r l in
+      record {
+        walks = λ limit s.
+            walk_record (turn limit) document at h r l s
+            ∙ ap (λ (t : Result State). t >>= walk (turn limit) (tokens_from document h.next))
+            (silent_turn limit at h.start h.kind (part document h.start h.next) (tokens_from document h.next) s e);
+        heading = heading_on _ first [] ((silent_kind h.kind e).1 (part document h.start h.next)) (silent_kind h.kind e).0;
+        valid = valid_after _ first;
+      }
+
+-- past a record whose kind's number stands there without a body
+pub alike_bare : (document : List ℕ) (from at k : ℕ) → k ≡ bare (drop at document) → silent (kind_of k) ≡ true
+    → (from ≤ at) × Alike document from at → (at + 6 ≤ length document) × (from ≤ at + 6) × Alike document from (at + 6)
+alike_bare document from at k e s a =
+    let b = bare_read document at k e (number_silent k s) in
+    (b.0, omega (arith, a.0), alike_then a.1 (alike_past b.1 (omega (arith, b.0)) s))
+
+-- Captured text
+
+-- What is captured before the record at a place: the text from where capture began up to there; while it is off, none. From where it began on, text is
+-- UTF-8.
+pub record Holds (document : List ℕ) (captured : Option ℕ) (at : ℕ) (kept : List ℕ) : Type 0 where
+  pub valid : texts_valid (tokens_from document (unwrap_or captured at)) ≡ true
+  pub chain : heading_text (tokens_from document (unwrap_or captured at)) ≡ kept ++ heading_text (tokens_from document at)
   pub none : is_some captured ≡ false → kept ≡ []
 
-module _ (document : List ℕ) (ts us : List Token) (kept : List ℕ) (ahead : texts_valid us ≡ true) where
-  holds_none : Holds document None us []
+module _ (document : List ℕ) (at next : ℕ) (kept : List ℕ) (ahead : texts_valid (tokens_from document next) ≡ true) where
+  holds_none : Holds document None next []
   holds_none = record { valid = ahead; chain = refl; none = λ z. refl }
 
   -- while capture is off
-  holds_off : (captured : Option ℕ) → is_some captured ≡ false → Holds document captured ts kept → Holds document captured us kept
+  holds_off : (captured : Option ℕ) → is_some captured ≡ false → Holds document captured at kept → Holds document captured next kept
   holds_off (Some x) e h = absurd (false≢true (sym e))
-  holds_off None e h = subst (Holds document None us) (sym (h.none refl)) holds_none
+  holds_off None e h = subst (Holds document None next) (sym (h.none refl)) holds_none
 
   -- after captured text
-  holds_more : (x : List ℕ) (captured : Option ℕ) → is_some captured ≡ true → heading_text ts ≡ x ++ heading_text us
-      → Holds document captured ts kept → Holds document captured us (kept ++ x)
+  holds_more : (x : List ℕ) (captured : Option ℕ) → is_some captured ≡ true
+      → heading_text (tokens_from document at) ≡ x ++ heading_text (tokens_from document next)
+      → Holds document captured at kept → Holds document captured next (kept ++ x)
   holds_more x None e f h = absurd (false≢true e)
   holds_more x (Some from) e f h = record {
     valid = h.valid;
-    chain = h.chain ∙ ap (λ (y : List ℕ). kept ++ y) f ∙ sym (append_assoc kept x (heading_text us));
+    chain = h.chain ∙ ap (λ (y : List ℕ). kept ++ y) f ∙ sym (append_assoc kept x (heading_text (tokens_from document next)));
     none = λ z. absurd (false≢true (sym z));
   }
 
-  module _ (same : heading_text ts ≡ heading_text us) where
-    -- after a record that has no text
-    holds_on : (captured : Option ℕ) → Holds document captured ts kept → Holds document captured us kept
+  module _ (same : heading_text (tokens_from document at) ≡ heading_text (tokens_from document next)) where
+    -- after records that have no text
+    holds_on : (captured : Option ℕ) → Holds document captured at kept → Holds document captured next kept
     holds_on (Some from) h = record { valid = h.valid; chain = h.chain ∙ ap (λ (y : List ℕ). kept ++ y) same; none = h.none }
-    holds_on None h = holds_off None refl h
+    holds_on None h = subst (Holds document None next) (sym (h.none refl)) holds_none
 
-    -- after a heading's start
-    holds_some : (captured : Option ℕ) (at : ℕ) → tokens_from document at ≡ ts → Holds document captured ts kept
-        → Holds document (Some (unwrap_or captured at)) us kept
-    holds_some captured at e h = record {
-      valid = ap texts_valid (since_here document captured at ts e) ∙ h.valid;
-      chain = ap heading_text (since_here document captured at ts e) ∙ h.chain ∙ ap (λ (y : List ℕ). kept ++ y) same;
+    holds_some : (captured : Option ℕ) → Holds document captured at kept → Holds document (Some (unwrap_or captured at)) next kept
+    holds_some captured h = record {
+      valid = h.valid;
+      chain = h.chain ∙ ap (λ (y : List ℕ). kept ++ y) same;
       none = λ z. absurd (false≢true (sym z));
     }
 
--- Before a record.
-pub record On (first : Composed) (document : List ℕ) (m : Roff) (captured : Option ℕ) (records : Records) : Type 0 where
+    -- those that stand before all captured text need not be read again
+    holds_behind : (captured : Option ℕ) → Holds document captured next kept → Holds document (behind captured at next) next kept
+    unfolding behind
+    holds_behind None h = h
+    holds_behind (Some from) h =
+        pick (λ (c : Option ℕ). Holds document c next kept) (eqb from at)
+        (λ e. record {
+          valid = ahead;
+          chain = sym same ∙ ap (λ (n : ℕ). heading_text (tokens_from document n)) (sym (eqb-true from at e)) ∙ h.chain;
+          none = λ z. absurd (false≢true (sym z));
+        })
+        (λ _. h)
+
+-- Before the record at a place.
+pub record On (first : Composed) (document : List ℕ) (m : Roff) (captured : Option ℕ) (at : ℕ) : Type 0 where
   pub same : IsSameRoom first (roff_of m)
-  pub at : ℕ
-  pub among : left records ≡ tokens_from document at
-  pub ahead : texts_valid (left records) ≡ true
+  pub ahead : texts_valid (tokens_from document at) ≡ true
   pub kept : List ℕ
-  pub holds : Holds document captured (left records) kept
-  pub leads : Leads (whole first.payload.text.size document) (walk (turn first.payload.text.size) (left records))
+  pub holds : Holds document captured at kept
+  pub leads : Leads (whole first.payload.text.size document) (walk (turn first.payload.text.size) (tokens_from document at))
       (marked m (locals m.strip kept (is_some captured)))
 
-pub on_start : (document : List ℕ) (m : Roff) (records : Records) → texts_valid (tokens 0 0 document) ≡ true → left records ≡ tokens 0 0 document
-    → HasBegun (roff_of m) → On (roff_of m) document m None records
+pub on_start : (document : List ℕ) (m : Roff) → texts_valid (tokens 0 0 document) ≡ true → HasBegun (roff_of m) → On (roff_of m) document m None 0
 unfolding marked begun writes ◌>>=◌
-on_start document m records v r e =
+on_start document m v e =
     let limit = length m.text.now.room.now in
-    let valid = ap texts_valid r ∙ v in
     record {
       same = record { loan = refl; name = refl; size = refl };
-      at = 0;
-      among = r;
-      ahead = valid;
+      ahead = v;
       kept = [];
-      holds = record { valid = valid; chain = refl; none = λ z. refl };
-      leads = rw (r, ap (λ (v : Composed). v.payload.text.shown) e, ap (λ (v : Composed). v.payload.fresh) e, ap (λ (v : Composed). v.strip) e)
+      holds = record { valid = v; chain = refl; none = λ z. refl };
+      leads = rw (ap (λ (v : Composed). v.payload.text.shown) e, ap (λ (v : Composed). v.payload.fresh) e, ap (λ (v : Composed). v.strip) e)
           (sym (bind_assoc (extended limit preamble []) _ _)
           ∙ bind_assoc (extended limit preamble []) _ (λ w. walk (turn limit) (tokens 0 0 document) (state initial w)));
     }
@@ -236,184 +214,205 @@ token-refused p (kind.Start b) x l e = started-refused p l b e
 token-refused p (kind.End b) x l e = ended-refused p l b e
 token-refused p kind.Unknown x l e = absurd (false≢true e)
 
-opening_off : (b : Block) (on : Bool) → opening b on ≡ false → on ≡ false
-unfolding opening
-opening_off b on = pick (λ (c : Bool). c ≡ false → on ≡ false) (is_heading b) (λ _ e. absurd (false≢true (sym e))) (λ _ e. e)
-
-module _ {start : Composed} {document : List ℕ} {m : Roff} {captured : Option ℕ} {records : Records} (o : On start document m captured records) where
+module _ {start : Composed} {document : List ℕ} {m : Roff} {captured : Option ℕ} {at : ℕ} (o : On start document m captured at) where
   abbrev limit : ℕ
   limit = start.payload.text.size
 
   abbrev here : Locals
   here = locals m.strip o.kept (is_some captured)
 
+  abbrev rest : State → Result State
+  rest = walk (turn limit) (tokens_from document at)
+
   pub refused_13 : seen m.text.now.room.now m.text.now.len ≡ refused 13 0 → refused 13 0 ≡ roff_on limit (tokens 0 0 document)
   refused_13 h =
       whole-refused limit document 13 0
-      (leads-out (whole limit document) (walk (turn limit) (left records)) (marked m here) o.leads 13 0
-      (marked-out m here (past_room m.text.now.room.now m.text.now.len h)))
+      (leads-out (whole limit document) rest (marked m here) o.leads 13 0 (marked-out m here (past_room m.text.now.room.now m.text.now.len h)))
 
-  done_in : left records ≡ [] → m.text.now.len ≤ length m.text.now.room.now
+  done_in : length document ≤ at → m.text.now.len ≤ length m.text.now.room.now
       → seen m.text.now.room.now m.text.now.len ≡ roff_on limit (tokens 0 0 document)
-  unfolding ◌>>=◌ walk
+  unfolding ◌>>=◌
   done_in h i =
       seen_in m.text.now.room.now m.text.now.len i
       ∙ sym (ap (λ (s : Result State). s >>= λ s. gives s.written.out)
-      (sym (leads-end (whole limit document) (walk (turn limit) (left records)) (marked m here) o.leads
-      (λ s. ap (λ (ts : List Token). walk (turn limit) ts s) h))
-      ∙ marked_in m here i))
+      (sym (leads-end (whole limit document) rest (marked m here) o.leads (walk_end (turn limit) document at h)) ∙ marked_in m here i))
 
   -- a text that is longer than the room
   done_out : length m.text.now.room.now < m.text.now.len → seen m.text.now.room.now m.text.now.len ≡ roff_on limit (tokens 0 0 document)
   done_out i = let out = seen-out m.text.now.room.now m.text.now.len i in out ∙ refused_13 out
 
   -- no record is left
-  pub done : left records ≡ [] → seen m.text.now.room.now m.text.now.len ≡ roff_on limit (tokens 0 0 document)
+  pub done : length document ≤ at → seen m.text.now.room.now m.text.now.len ≡ roff_on limit (tokens 0 0 document)
   done h = ⊎_elim (done_in h) done_out (le_or_lt m.text.now.len (length m.text.now.room.now))
 
-  -- at a record
-  module _ (r : Record) (after : Records) (first : left records ≡ listed r ∷ left after) where
-    abbrev turned : State → Result State
-    turned = turn limit r.place r.start r.kind r.body.now (left after)
+  -- past records between which nothing was to be done
+  on_passed : (next : ℕ) → Alike document at next → On start document m captured next
+  on_passed next a =
+      let ahead = a.valid o.ahead in
+      record {
+        same = o.same;
+        ahead = ahead;
+        kept = o.kept;
+        holds = holds_on document at next o.kept ahead a.heading captured o.holds;
+        leads = leads-same (whole limit document) rest (marked m here) o.leads (walk (turn limit) (tokens_from document next)) (a.walks limit);
+      }
 
-    walks : (s : State) → walk (turn limit) (left records) s ≡ (turned s >>= walk (turn limit) (left after))
-    unfolding walk
-    walks s = ap (λ (ts : List Token). walk (turn limit) ts s) first
+  -- records without text from a place up to here, which need not be read again where they stand before all captured text
+  on_behind : (place : ℕ) → heading_text (tokens_from document place) ≡ heading_text (tokens_from document at)
+      → On start document m (behind captured place at) at
+  on_behind place e = record {
+    same = o.same;
+    ahead = o.ahead;
+    kept = o.kept;
+    holds = holds_behind document place at o.kept o.ahead e captured o.holds;
+    leads = subst (λ (c : Bool). Leads (whole limit document) rest (marked m (locals m.strip o.kept c))) (sym (behind_on captured place at)) o.leads;
+  }
 
-    -- its body, by its places
-    pub places : Placed document (listed r)
-    places = placed_first document o.at (listed r) (left after) (sym first ∙ o.among)
+-- At a record
 
-    -- the records from its place on are those that are left
-    from_here : tokens_from document r.place ≡ left records
-    from_here = ap (tokens_from document) (place_first document o.at (listed r) (left after) (sym first ∙ o.among)) ∙ sym o.among
+module _ {start : Composed} {document : List ℕ} {m : Roff} {captured : Option ℕ} {at : ℕ} (o : On start document m captured at)
+    {h : Head} (r : Read document at h) (l : at < length document) where
+  abbrev size : ℕ
+  size = start.payload.text.size
 
-    from_captured : tokens_from document (unwrap_or captured r.place) ≡ since document captured (left records)
-    from_captured = since_here document captured r.place (left records) from_here
+  abbrev now : Locals
+  now = locals m.strip o.kept (is_some captured)
 
-    pub from_valid : texts_valid (tokens_from document (unwrap_or captured r.place)) ≡ true
-    from_valid = ap texts_valid from_captured ∙ o.holds.valid
+  abbrev own : List ℕ
+  own = part document h.start h.next
 
-    pub ahead-on : texts_valid (left after) ≡ true
-    ahead-on = valid_after r first o.ahead
+  abbrev follow : State → Result State
+  follow = turned (turn size) document at h
 
-    -- its token was followed
-    next : (m' : Roff) (captured' : Option ℕ) (kept' : List ℕ) (q : Outcome) → token r.place r.kind r.body.now here ≡ gives q
-        → roff_of m' ≡ stripped q.after.strip (pushed q.pushed (roff_of m)) → q.after.kept ≡ kept' → q.after.capture ≡ is_some captured'
-        → Holds document captured' (left after) kept' → On start document m' captured' after
-    next m' captured' kept' q e w k c h =
-        let tail = listed_after document o.at (listed r) (left after) (sym first ∙ o.among) in
-        record {
-          same = record {
-            loan = ap (λ (v : Composed). v.loan) w ∙ o.same.loan;
-            name = ap (λ (v : Composed). v.payload.text.name) w ∙ o.same.name;
-            size = ap (λ (v : Composed). v.payload.text.size) w ∙ o.same.size;
-          };
-          at = tail.0;
-          among = tail.1;
-          ahead = ahead-on;
-          kept = kept';
-          holds = h;
-          leads = leads-on (whole limit document) (walk (turn limit) (left records)) (marked m here) o.leads
-              turned (walk (turn limit) (left after)) (marked m' _) walks
-              (ap (marked m') (λ i. record { strip = ap (λ (v : Composed). v.strip) w i; kept = sym k i; capture = sym c i })
-              ∙ turn_made limit r.place r.start r.kind r.body.now (left after) here q e m m' o.same.size w);
-        }
+  abbrev after : State → Result State
+  after = walk (turn size) (tokens_from document h.next)
 
-    -- by its kind
-    as_kind : (k : Kind) (v : Result Outcome) → r.kind ≡ k → token r.place k r.body.now here ≡ v → token r.place r.kind r.body.now here ≡ v
-    as_kind k v e q = ap (λ (k : Kind). token r.place k r.body.now here) e ∙ q
+  walks : (s : State) → walk (turn size) (tokens_from document at) s ≡ (follow s >>= after)
+  walks = walk_record (turn size) document at h r l
 
-    -- a record that neither ends a heading nor has text
-    passes : (k : Kind) → r.kind ≡ k → ends_heading k ≡ false → record_text k r.body.now ≡ [] → heading_text (left records) ≡ heading_text (left after)
-    passes k e n t = heading_on r first [] (sym (ap (λ (k : Kind). record_text k r.body.now) e ∙ t)) (ap ends_heading e ∙ n)
+  first : tokens_from document at ≡ token_of document at h ∷ tokens_from document h.next
+  first = read_next r l
 
-    pub on_unknown : r.kind ≡ kind.Unknown → On start document m captured after
-    unfolding token
-    on_unknown e =
-        next m captured o.kept _ (as_kind kind.Unknown _ e refl) (pushed_none m) refl refl
-        (holds_on document (left records) (left after) o.kept ahead-on (passes kind.Unknown e refl refl) captured o.holds)
+  ahead-on : texts_valid (tokens_from document h.next) ≡ true
+  ahead-on = valid_after _ first o.ahead
 
-    pub on_started : {b : Block} (m' : Roff) → r.kind ≡ kind.Start b → is_term_ref (kind.Start b) ≡ false
-        → ((p : ℕ) (kept : List ℕ) (capture : Bool) → Follows (started p b (locals m.strip kept capture)) (roff_of m) (roff_of m'))
-        → On start document m' (opened b captured (unwrap_or captured r.place)) after
-    unfolding token
-    on_started {b} m' e q w =
-        let from = unwrap_or captured r.place in
-        let g = started-gives r.place here b q in
-        let same = passes (kind.Start b) e refl refl in
-        next m' (opened b captured from) o.kept g.0 (as_kind (kind.Start b) (gives g.0) e g.1)
-        (subst (λ (v : Result Outcome). Follows v (roff_of m) (roff_of m')) g.1 (w r.place o.kept (is_some captured)))
-        g.2.keeps (g.2.captures ∙ sym (opened-on b captured from)) (go (is_heading b) refl same)
-      where
-        go : (c : Bool) → is_heading b ≡ c → heading_text (left records) ≡ heading_text (left after)
-            → Holds document (opened b captured (unwrap_or captured r.place)) (left after) o.kept
-        go true h same =
-            subst (λ (q : Option ℕ). Holds document q (left after) o.kept) (opened-heading b captured (unwrap_or captured r.place) h)
-            (holds_some document (left records) (left after) o.kept ahead-on same captured r.place from_here o.holds)
-        go false h same =
-            subst (λ (q : Option ℕ). Holds document q (left after) o.kept) (opened-other b captured (unwrap_or captured r.place) h)
-            (holds_on document (left records) (left after) o.kept ahead-on same captured o.holds)
+  -- its token was followed
+  next : (m' : Roff) (captured' : Option ℕ) (kept' : List ℕ) (q : Outcome) → token at h.kind own now ≡ gives q
+      → roff_of m' ≡ stripped q.after.strip (pushed q.pushed (roff_of m)) → q.after.kept ≡ kept' → q.after.capture ≡ is_some captured'
+      → Holds document captured' h.next kept' → On start document m' captured' h.next
+  next m' captured' kept' q e w k c g = record {
+    same = record {
+      loan = ap (λ (v : Composed). v.loan) w ∙ o.same.loan;
+      name = ap (λ (v : Composed). v.payload.text.name) w ∙ o.same.name;
+      size = ap (λ (v : Composed). v.payload.text.size) w ∙ o.same.size;
+    };
+    ahead = ahead-on;
+    kept = kept';
+    holds = g;
+    leads = leads-on (whole size document) (walk (turn size) (tokens_from document at)) (marked m now) o.leads follow after (marked m' _) walks
+        (ap (marked m') (λ i. record { strip = ap (λ (v : Composed). v.strip) w i; kept = sym k i; capture = sym c i })
+        ∙ turn_made size at h.start h.kind own (tokens_from document h.next) now q e m m' o.same.size w);
+  }
 
-    pub on_ended : {b : Block} (m' : Roff) → r.kind ≡ kind.End b → is_term_ref (kind.End b) ≡ false
-        → ((p : ℕ) (kept : List ℕ) (capture : Bool) → (is_heading b ≡ true → heading_text (tokens_from document (unwrap_or captured r.place)) ≡ kept)
-        → Follows (ended p b (locals m.strip kept capture)) (roff_of m) (roff_of m'))
-        → On start document m' (shut b captured) after
-    unfolding token closed
-    on_ended {b} m' e q w =
-        let g = ended-gives r.place here b q in
-        let all : is_heading b ≡ true → heading_text (tokens_from document (unwrap_or captured r.place)) ≡ o.kept =
-        λ h. ap heading_text from_captured ∙ o.holds.chain ∙ ap (λ (y : List ℕ). o.kept ++ y) (heading-ends r first (ap ends_heading e ∙ h))
-        ∙ append-nil o.kept in
-        next m' (shut b captured) (closed b o.kept) g.0 (as_kind (kind.End b) (gives g.0) e g.1)
-        (subst (λ (v : Result Outcome). Follows v (roff_of m) (roff_of m')) g.1 (w r.place o.kept (is_some captured) all))
-        g.2.keeps (g.2.captures ∙ sym (shut-on b captured)) (go (is_heading b) refl)
-      where
-        go : (c : Bool) → is_heading b ≡ c → Holds document (shut b captured) (left after) (closed b o.kept)
-        go true h =
-            subst (λ (q : Option ℕ). Holds document q (left after) (closed b o.kept)) (shut-heading b captured h)
-            (subst (Holds document None (left after)) (sym (if_true _ _ h)) (holds_none document (left records) (left after) o.kept ahead-on))
-        go false h =
-            subst (λ (q : Option ℕ). Holds document q (left after) (closed b o.kept)) (shut-other b captured h)
-            (subst (Holds document captured (left after)) (sym (if_false _ _ h))
-            (holds_on document (left records) (left after) o.kept ahead-on (passes (kind.End b) e h refl) captured o.holds))
+  -- by its kind
+  as_kind : (k : Kind) (v : Result Outcome) → h.kind ≡ k → token at k own now ≡ v → token at h.kind own now ≡ v
+  as_kind k v e q = ap (λ (k : Kind). token at k own now) e ∙ q
 
-    pub on_text : {st : Style} (m' : Roff) → r.kind ≡ kind.Text st → is_some captured ≡ false
-        → roff_of m' ≡ pushed (subsection st ++ text m.strip (font_of st) (part document r.start (r.start + length r.body.now))) (roff_of m)
-        → On start document m' captured after
-    unfolding token
-    on_text {st} m' e q w =
-        next m' captured o.kept _ (as_kind (kind.Text st) _ e (if_false _ _ q))
-        (w ∙ ap (λ (x : List ℕ). pushed (subsection st ++ text m.strip (font_of st) x) (roff_of m)) places.1)
-        refl refl (holds_off document (left records) (left after) o.kept ahead-on captured q o.holds)
+  -- a record that neither ends a heading nor has text
+  passes : (k : Kind) → h.kind ≡ k → ends_heading k ≡ false → record_text k own ≡ []
+      → heading_text (tokens_from document at) ≡ heading_text (tokens_from document h.next)
+  passes k e n t = heading_on _ first [] (sym (ap (λ (k : Kind). record_text k own) e ∙ t)) (ap ends_heading e ∙ n)
 
-    pub on_captured : {st : Style} → r.kind ≡ kind.Text st → is_some captured ≡ true → On start document m captured after
-    unfolding token captures
-    on_captured {st} e q =
-        next m captured (o.kept ++ r.body.now) _ (as_kind (kind.Text st) _ e (if_true _ _ q)) (pushed_none m) refl refl
-        (holds_more document (left records) (left after) o.kept ahead-on r.body.now captured q
-        (heading_on r first r.body.now (sym (ap (λ (k : Kind). record_text k r.body.now) e)) (ap ends_heading e)) o.holds)
+  pub on_unknown : h.kind ≡ kind.Unknown → On start document m captured h.next
+  unfolding token
+  on_unknown e =
+      next m captured o.kept _ (as_kind kind.Unknown _ e refl) (pushed_none m) refl refl
+      (holds_on document at h.next o.kept ahead-on (passes kind.Unknown e refl refl) captured o.holds)
 
-    -- 11, or 13 where that was met before
-    refused_in : m.text.now.len ≤ length m.text.now.room.now → is_term_ref r.kind ≡ true
-        → (seen m.text.now.room.now m.text.now.len >>= λ x. refused 11 r.place) ≡ roff_on limit (tokens 0 0 document)
-    unfolding turn ◌>>=◌
-    refused_in i e =
-        rw (seen_in m.text.now.room.now m.text.now.len i)
-        (whole-refused limit document 11 r.place
-        (leads-refused (whole limit document) (walk (turn limit) (left records)) (marked m here) o.leads turned (walk (turn limit) (left after)) 11 r.place
-        walks (rw (marked_in m here i, token-refused r.place r.kind r.body.now here e) refl)))
+  -- a silent record, and those after it that are stepped over
+  pub on_silent : (last : ℕ) → silent h.kind ≡ true → Alike document h.next last → On start document m (behind captured at last) last
+  on_silent last e a = let b = alike_then (alike_past r l e) a in on_behind (on_passed o last b) at b.heading
 
-    refused_out : length m.text.now.room.now < m.text.now.len
-        → (seen m.text.now.room.now m.text.now.len >>= λ x. refused 11 r.place) ≡ roff_on limit (tokens 0 0 document)
-    unfolding ◌>>=◌
-    refused_out i =
-        let out = seen-out m.text.now.room.now m.text.now.len i in
-        rw out (refused_13 out)
+  pub on_started : {b : Block} (m' : Roff) → h.kind ≡ kind.Start b → is_term_ref (kind.Start b) ≡ false
+      → ((p : ℕ) (kept : List ℕ) (capture : Bool) → Follows (started p b (locals m.strip kept capture)) (roff_of m) (roff_of m'))
+      → On start document m' (opened b captured at h.next) h.next
+  unfolding token
+  on_started {b} m' e q w =
+      let g = started-gives at now b q in
+      next m' (opened b captured at h.next) o.kept g.0 (as_kind (kind.Start b) (gives g.0) e g.1)
+      (subst (λ (v : Result Outcome). Follows v (roff_of m) (roff_of m')) g.1 (w at o.kept (is_some captured)))
+      g.2.keeps (g.2.captures ∙ sym (opened-on b captured at h.next)) (go (is_heading b) refl (passes (kind.Start b) e refl refl))
+    where
+      go : (c : Bool) → is_heading b ≡ c → heading_text (tokens_from document at) ≡ heading_text (tokens_from document h.next)
+          → Holds document (opened b captured at h.next) h.next o.kept
+      go true i same =
+          subst (λ (q : Option ℕ). Holds document q h.next o.kept) (opened-heading b captured at h.next i)
+          (holds_behind document at h.next o.kept ahead-on same (Some (unwrap_or captured at))
+          (holds_some document at h.next o.kept ahead-on same captured o.holds))
+      go false i same =
+          subst (λ (q : Option ℕ). Holds document q h.next o.kept) (opened-other b captured at h.next i)
+          (holds_on document at h.next o.kept ahead-on same captured o.holds)
 
-    pub refused_11 : is_term_ref r.kind ≡ true
-        → (seen m.text.now.room.now m.text.now.len >>= λ x. refused 11 r.place) ≡ roff_on limit (tokens 0 0 document)
-    refused_11 e = ⊎_elim (λ i. refused_in i e) refused_out (le_or_lt m.text.now.len (length m.text.now.room.now))
+  pub on_ended : {b : Block} (m' : Roff) → h.kind ≡ kind.End b → is_term_ref (kind.End b) ≡ false
+      → ((p : ℕ) (kept : List ℕ) (capture : Bool) → (is_heading b ≡ true → heading_text (tokens_from document (unwrap_or captured at)) ≡ kept)
+      → Follows (ended p b (locals m.strip kept capture)) (roff_of m) (roff_of m'))
+      → On start document m' (shut b captured) h.next
+  unfolding token closed
+  on_ended {b} m' e q w =
+      let g = ended-gives at now b q in
+      let all : is_heading b ≡ true → heading_text (tokens_from document (unwrap_or captured at)) ≡ o.kept =
+      λ i. o.holds.chain ∙ ap (λ (y : List ℕ). o.kept ++ y) (heading-ends _ first (ap ends_heading e ∙ i)) ∙ append-nil o.kept in
+      next m' (shut b captured) (closed b o.kept) g.0 (as_kind (kind.End b) (gives g.0) e g.1)
+      (subst (λ (v : Result Outcome). Follows v (roff_of m) (roff_of m')) g.1 (w at o.kept (is_some captured) all))
+      g.2.keeps (g.2.captures ∙ sym (shut-on b captured)) (go (is_heading b) refl)
+    where
+      go : (c : Bool) → is_heading b ≡ c → Holds document (shut b captured) h.next (closed b o.kept)
+      go true i =
+          subst (λ (q : Option ℕ). Holds document q h.next (closed b o.kept)) (shut-heading b captured i)
+          (subst (Holds document None h.next) (sym (if_true _ _ i)) (holds_none document at h.next o.kept ahead-on))
+      go false i =
+          subst (λ (q : Option ℕ). Holds document q h.next (closed b o.kept)) (shut-other b captured i)
+          (subst (Holds document captured h.next) (sym (if_false _ _ i))
+          (holds_on document at h.next o.kept ahead-on (passes (kind.End b) e i refl) captured o.holds))
+
+  pub on_text : {st : Style} (m' : Roff) → h.kind ≡ kind.Text st → is_some captured ≡ false
+      → roff_of m' ≡ pushed (subsection st ++ text m.strip (font_of st) own) (roff_of m) → On start document m' captured h.next
+  unfolding token
+  on_text {st} m' e q w =
+      next m' captured o.kept _ (as_kind (kind.Text st) _ e (if_false _ _ q)) w refl refl
+      (holds_off document at h.next o.kept ahead-on captured q o.holds)
+
+  pub on_captured : {st : Style} → h.kind ≡ kind.Text st → is_some captured ≡ true → On start document m captured h.next
+  unfolding token captures
+  on_captured {st} e q =
+      next m captured (o.kept ++ own) _ (as_kind (kind.Text st) _ e (if_true _ _ q)) (pushed_none m) refl refl
+      (holds_more document at h.next o.kept ahead-on own captured q
+      (heading_on _ first own (sym (ap (λ (k : Kind). record_text k own) e)) (ap ends_heading e)) o.holds)
+
+  -- .. that is empty
+  pub on_empty : {st : Style} → h.kind ≡ kind.Text st → is_some captured ≡ true → h.start ≡ h.next → On start document m (behind captured at h.next) h.next
+  on_empty {st} e q z =
+      on_behind (on_captured e q) at (passes (kind.Text st) e refl (part_none document h.start h.next (omega (arith, z))))
+
+  -- 11, or 13 where that was met before
+  refused_in : m.text.now.len ≤ length m.text.now.room.now → is_term_ref h.kind ≡ true
+      → (seen m.text.now.room.now m.text.now.len >>= λ x. refused 11 at) ≡ roff_on size (tokens 0 0 document)
+  unfolding turn ◌>>=◌
+  refused_in i e =
+      rw (seen_in m.text.now.room.now m.text.now.len i)
+      (whole-refused size document 11 at
+      (leads-refused (whole size document) (walk (turn size) (tokens_from document at)) (marked m now) o.leads follow after 11 at
+      walks (rw (marked_in m now i, token-refused at h.kind own now e) refl)))
+
+  refused_out : length m.text.now.room.now < m.text.now.len
+      → (seen m.text.now.room.now m.text.now.len >>= λ x. refused 11 at) ≡ roff_on size (tokens 0 0 document)
+  unfolding ◌>>=◌
+  refused_out i =
+      let out = seen-out m.text.now.room.now m.text.now.len i in
+      rw out (refused_13 o out)
+
+  pub refused_11 : is_term_ref h.kind ≡ true → (seen m.text.now.room.now m.text.now.len >>= λ x. refused 11 at) ≡ roff_on size (tokens 0 0 document)
+  refused_11 e = ⊎_elim (λ i. refused_in i e) refused_out (le_or_lt m.text.now.len (length m.text.now.room.now))
 
 -- The document
 

@@ -1,19 +1,21 @@
 -- What the functions inside this crate promise each other; no rule of 01 stands here.
-use Rattle.std.specs.Prelude.{Option, Some, None, ℕ, ◌≤◌, ◌≡◌, Bool, true, false, ◌&&◌, List, [], ◌∷◌, ◌++◌, leb, eqb, length}
+use Rattle.std.specs.Prelude.{Option, Some, None, unwrap_or, ℕ, ◌≤◌, ◌≡◌, Bool, true, false, ◌&&◌, List, [], ◌∷◌, ◌++◌, leb, eqb, length}
 use Rattle.base.specs.Choice.{when◌then◌else◌}
 use Rattle.base.specs.Result.{Result, gives, refused}
 use Rattle.utf8.specs.Utf8.{utf8, bytes}
 use Rattle.upper.specs.Upper.{upper}
-use Rattle.records.specs.Records.{Token, index, is_of}
+use Rattle.records.specs.Records.{Token, tokens_from, index, is_of}
 use Rattle.records.specs.declared.Block.{Block}
+use Rattle.records.specs.declared.Block.TheVariants as block
 use Rattle.records.specs.declared.Kind.{Kind}
 use Rattle.records.specs.declared.Kind.TheVariants as kind
+use Rattle.renderer.specs.Walk.{walk}
 use Rattle.roff_escape.specs.declared.escape.Escape.TheVariants as mode
 use Rattle.roff_escape.specs.Monoid.{Piece, piece}
 use Rattle.roff_escape.specs.Composer.{argument}
 use Rattle.roff_escape.specs.InnerParts.{Composed, begun, with_escaped, pushed, stripped}
 use Rattle.room.specs.Lent.{lent_empty}
-use Rattle.manpage.specs.Roff.{Locals, Outcome}
+use Rattle.manpage.specs.Roff.{Locals, Outcome, State, turn}
 
 -- the argument of a control line, and the space before it
 unfoldable pub argument_pieces : List ℕ → List Piece
@@ -83,13 +85,48 @@ opening b capture = when is_heading b then true else capture
 unfoldable pub closing : Block → Bool → Bool
 closing b capture = when is_heading b then false else capture
 
--- and from which place on, if it is
-unfoldable pub opened : Block → Option ℕ → ℕ → Option ℕ
-opened b captured from = when is_heading b then Some from else captured
+-- From which place on it is, behind the records from a place to another. Where these have no text and stand before all captured text, they need not be read
+-- again.
+unfoldable pub behind : Option ℕ → ℕ → ℕ → Option ℕ
+behind None place next = None
+behind (Some n) place next = when eqb n place then Some next else Some n
 
+-- behind a block's start
+unfoldable pub opened : Block → Option ℕ → ℕ → ℕ → Option ℕ
+opened b captured place next = when is_heading b then behind (Some (unwrap_or captured place)) place next else captured
+
+-- and behind its end
 unfoldable pub shut : Block → Option ℕ → Option ℕ
 shut b captured = when is_heading b then None else captured
 
 -- what is captured after a block's end
 unfoldable pub closed : Block → List ℕ → List ℕ
 closed b kept = when is_heading b then [] else kept
+
+-- the blocks for which nothing is written and nothing changes, neither at their start nor at their end
+abbrev pub is_silent : Block → Bool
+is_silent block.Header = false
+is_silent block.Section2 = false
+is_silent block.Section3 = false
+is_silent block.Section4 = false
+is_silent block.ItemTerm = false
+is_silent block.ItemBody = false
+is_silent block.DefinitionList = true
+is_silent block.Block = false
+is_silent block.InlineBlock = true
+is_silent block.TermRef = false
+is_silent block.Meta = false
+is_silent block.Mono = true
+
+-- the start or the end of one of them
+abbrev pub silent : Kind → Bool
+silent (kind.Text st) = false
+silent (kind.Start b) = is_silent b
+silent (kind.End b) = is_silent b
+silent kind.Unknown = false
+
+-- Between two places of a document nothing stands that is written, captured or not UTF-8: from either of them on the rules do the same.
+pub record Alike (document : List ℕ) (from at : ℕ) : Type 0 where
+  pub walks : (limit : ℕ) (s : State) → walk (turn limit) (tokens_from document from) s ≡ walk (turn limit) (tokens_from document at) s
+  pub heading : heading_text (tokens_from document from) ≡ heading_text (tokens_from document at)
+  pub valid : texts_valid (tokens_from document from) ≡ true → texts_valid (tokens_from document at) ≡ true

@@ -2,12 +2,12 @@
 
 #![tactic(auto)]
 
-ghost use Rattle.std.specs.Prelude.{◌≡◌, Bool, true, false, not, List, ◌++◌, ◌+◌, ℕ, length};
+ghost use Rattle.std.specs.Prelude.{◌≡◌, ◌≤◌, Bool, true, false, not, List, ◌++◌, ◌+◌, ℕ, length};
 ghost use Rattle.base.specs.Bytes.{part};
 ghost use Rattle.base.specs.Result.{measured, ◌>>=◌ as bind};
 ghost use Rattle.utf8.specs.Utf8.{utf8};
 ghost use Rattle.upper.specs.Upper.{upper};
-ghost use Rattle.records.specs.Records.{tokens};
+ghost use Rattle.records.specs.Records.{tokens, kind_of};
 ghost use Rattle.records.specs.declared.Kind.TheVariants as kind;
 ghost use Rattle.renderer.specs.Walk.{empty};
 ghost use Rattle.refusal.specs.Answers.{answered};
@@ -16,7 +16,7 @@ ghost use Rattle.roff_escape.specs.declared.escape.Escape.TheVariants as mode;
 ghost use Rattle.roff_escape.specs.Composer.{control, text};
 ghost use Rattle.roff_escape.specs.InnerParts.{roff_of, with_escaped, pushed};
 ghost use Rattle.manpage.specs.Roff.{font_of, subsection, started, ended, roff_on, roff};
-ghost use Rattle.manpage.specs.InnerParts.{HasBegun, IsSameRoom, argument_pieces, locals, Follows, CasedTo, is_heading, ends_heading, record_text, texts_valid, opened, shut};
+ghost use Rattle.manpage.specs.InnerParts.{HasBegun, IsSameRoom, argument_pieces, locals, Follows, CasedTo, is_heading, ends_heading, record_text, texts_valid, behind, opened, shut, is_silent, silent, Alike};
 
 use document::Accepted;
 use records::{Block, Kind, Record, Records, Style};
@@ -235,12 +235,62 @@ fn ended(m: &mut Roff, b: Block, heading: Heading)
     }
 }
 
-// From which place on text is captured after a block's start, if it is.
-#[tactic(auto, using(crate::proofs::Names::if_true, crate::proofs::Names::if_false), unfolding(crate::specs::InnerParts::opened))]
-fn opens_capture(b: Block, captured: Option<usize>, from: usize) -> Option<usize>
-    ensures { result ≡ opened b captured from }
+// The blocks for which nothing is written and nothing changes, neither at their start nor at their end.
+fn is_silent(b: Block) -> bool
+    ensures { result ≡ is_silent b }
 {
-    if is_heading(b) { Some(from) } else { captured }
+    matches!(b, Block::DefinitionList | Block::InlineBlock | Block::Mono)
+}
+
+// Whether a record is the start or the end of one of them.
+fn is_silent_kind(kind: Kind) -> bool
+    ensures { result ≡ silent kind }
+{
+    match kind {
+        Kind::Start(b) => is_silent(b),
+        Kind::End(b) => is_silent(b),
+        _ => false,
+    }
+}
+
+// Whether a kind's number is that of a start or an end of them.
+fn is_silent_number(k: usize) -> bool
+    ensures { result ≡ true → silent (kind_of k) ≡ true }
+{
+    matches!(k, 0x0106 | 0x0108 | 0x010b | 0x0206 | 0x0208 | 0x020b)
+}
+
+// The place behind the records of such blocks that stand from a place on.
+fn past_silent(document: &[u8], from: usize) -> usize
+    ensures { (from ≤ result) × Alike document.now from result }
+{
+    let mut at = from;
+    while is_silent_number(records::bare_at(document, at)) {
+        at += 6;
+    }
+    at
+}
+
+// From which place on text is captured behind the records from a place to another, which have no text: those that stand before all captured text need not be
+// read again at the heading's end.
+fn behind(captured: Option<usize>, place: usize, next: usize) -> Option<usize>
+    ensures { result ≡ behind captured place next }
+{
+    if captured == Some(place) {
+        Some(next)
+    } else {
+        captured
+    }
+}
+
+// And after a block's start.
+fn opens_capture(b: Block, captured: Option<usize>, place: usize, next: usize) -> Option<usize>
+    ensures { result ≡ opened b captured place next }
+{
+    if is_heading(b) {
+        return behind(Some(captured.unwrap_or(place)), place, next);
+    }
+    captured
 }
 
 // And after a block's end.
@@ -253,6 +303,7 @@ fn ends_capture(b: Block, captured: Option<usize>) -> Option<usize>
 
 // The walk over the records of a document. Text is captured from a place on, or not; a heading's end reads the records from there again. No record is
 // captured by two headings, so each is read twice at most. Whether the room is full is asked before text alone: at each record that took 1.05 of the time.
+// By places and no `for` over `Records`, since the records of silent blocks are stepped over by their bytes.
 fn walk(m: &mut Roff, accepted: &Accepted) -> Result<(), Refusal>
     requires { HasBegun (roff_of m.old) }
     ensures same { IsSameRoom (roff_of m.old) (roff_of m.new) }
@@ -260,11 +311,18 @@ fn walk(m: &mut Roff, accepted: &Accepted) -> Result<(), Refusal>
 {
     let document = accepted.bytes();
     let mut captured: Option<usize> = None;
-    for r in Records::of(document) {
-        let from = captured.unwrap_or(r.place);
+    let mut at: usize = 0;
+    while at < document.len() {
+        let r = records::record_at(document, at);
         // what roff has no form for: refusal 11
         if r.kind.is_of(Block::TermRef) {
-            return Err(renderer::no_form(&*m.text, r.place));
+            return Err(renderer::no_form(&*m.text, at));
+        }
+        if is_silent_kind(r.kind) {
+            let next = past_silent(document, r.next);
+            captured = behind(captured, at, next);
+            at = next;
+            continue;
         }
         match r.kind {
             Kind::Text(style) => {
@@ -272,20 +330,23 @@ fn walk(m: &mut Roff, accepted: &Accepted) -> Result<(), Refusal>
                     if m.text.is_full() {
                         return Err(Refusal::NoRoom);
                     }
-                    put_text(m, style, document, r.start, r.start + r.body.len());
+                    put_text(m, style, document, r.start, r.next);
+                } else if r.start == r.next {
+                    captured = behind(captured, at, r.next);
                 }
             }
             Kind::Start(b) => {
                 started(m, b);
-                captured = opens_capture(b, captured, from);
+                captured = opens_capture(b, captured, at, r.next);
             }
             Kind::End(b) => {
-                let records = Records::from_place(document, from);
+                let records = Records::from_place(document, captured.unwrap_or(at));
                 ended(m, b, Heading { records });
                 captured = ends_capture(b, captured);
             }
             Kind::Unknown => {}
         }
+        at = r.next;
     }
     Ok(())
 }

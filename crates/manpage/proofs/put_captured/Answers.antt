@@ -8,25 +8,24 @@ pub returns-then-ends_heading-clause-text : goal.returns-then-ends_heading-claus
 returns-then-ends_heading-clause-text c =
     let l = c.loop-r in
     let ends = sym c.ends_heading.ensures ∙ c.if-ends_heading.true in
-    sym (left-none _ l.m _ (upper-ends c.in-Some.r c.in-Some.ensures.steps ends)) ∙ l.invariant.0
+    sym (left-none _ l.m _ (upper-ends _ c.in-Some.ensures.steps ends)) ∙ l.invariant.0
 
 pub returns-then-ends_heading-clause-some : goal.returns-then-ends_heading-clause-some
 returns-then-ends_heading-clause-some c =
     let ends = sym c.ends_heading.ensures ∙ c.if-ends_heading.true in
-    captured_all c.loop-r.some _ _ (heading-ends c.in-Some.r c.in-Some.ensures.steps ends) c.loop-r.invariant.1
+    captured_all c.loop-r.some _ _ (heading-ends _ c.in-Some.ensures.steps ends) c.loop-r.invariant.1
 
 pub escape_cased-requires : goal.escape_cased-requires
-escape_cased-requires c = valid_own c.in-Some.r c.in-Some.ensures.steps _ c.text_of-body.ensures c.loop-r.invariant.2
+escape_cased-requires c = valid_own _ c.in-Some.ensures.steps _ c.text_of-body.ensures c.loop-r.invariant.2
 
 pub loop-r-preserved : goal.loop-r-preserved
 loop-r-preserved c =
     let l = c.loop-r in
-    let r = c.in-Some.r in
     let first = c.in-Some.ensures.steps in
     let on = sym c.ends_heading.ensures ∙ c.if-ends_heading.false in (
-      left_more _ _ _ _ _ _ _ _ c.escape_cased.ensures (upper_on r first _ c.text_of-body.ensures l.invariant.2 on) l.invariant.0,
-      rw c.is_empty.ensures (sym (empty_on r first _ c.text_of-body.ensures l.some on) ∙ l.invariant.1),
-      valid_after r first l.invariant.2,
+      left_more _ _ _ _ _ _ _ _ c.escape_cased.ensures (upper_on _ first _ c.text_of-body.ensures l.invariant.2 on) l.invariant.0,
+      rw c.is_empty.ensures (sym (empty_on _ first _ c.text_of-body.ensures l.some on) ∙ l.invariant.1),
+      valid_after _ first l.invariant.2,
     )
 
 pub returns-clause-text : goal.returns-clause-text
