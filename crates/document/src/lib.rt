@@ -111,8 +111,8 @@ impl<const N: usize> OpenBlocks<N> {
 }
 
 // Refusal 7 of a block's start, with the blocks that are open in the first `depth` slots: how many are open after it. (This and the next do what
-// `OpenBlocks::open` and `close` do: with those, so with one struct of the array and the count, the count stays in memory, which costs 3 to 4 % of the check of
-// a page of options.)
+// `OpenBlocks::open` and `close` do: with those, so with one struct of the array and the count, the count stays in memory, and the check of
+// a page of options runs 6 % more instructions.)
 fn after_start(
     blocks: &mut [Block; MAX_OPEN],
     depth: usize,
@@ -150,7 +150,7 @@ fn after_end(
 // that the check of a page of options took 1.45 of the time. A text is tested with what stands before it: its own kind and length, six bytes, are ASCII where
 // it is short, and so it is tested in one piece. After a block's start or end the next record stands where its body would start, since it has none: so the
 // place does not wait for the length that was read. No function of its own for refusals 3 to 7 of a record: with one, whose result is passed on by `?`, the
-// check of a page of options runs 2 % more instructions.
+// check of a page of options runs 3 % more instructions.
 pub fn open_blocks(document: &[u8]) -> Result<OpenBlocks<MAX_OPEN>, Refusal>
     ensures { answered result ≡ open_blocks document.now }
 {

@@ -63,7 +63,7 @@ fn size(s: &[u8]) -> Option<usize>
 }
 
 // Whether each of some bytes is ASCII, for blocks of 64 as `printing` has them: by std's `is_ascii`, which goes by 8, the console runs 0.5 % more
-// instructions and took 3 to 4 % more time. (`past_ascii`, `plain` and `quickly_ascii` take std's: with it the check of a page of options runs 9 to 10 % fewer.)
+// instructions and took 3 to 4 % more time. (`past_ascii` alone takes std's, for texts that are tested by themselves.)
 pub fn is_ascii(s: &[u8]) -> bool
     ensures { result ≡ is_ascii s.now }
 {
@@ -229,7 +229,7 @@ fn both_ascii(a: u8x16, b: u8x16) -> bool
     (a | b).simd_ge(u8x16::splat(0x80)).to_bitmask() == 0
 }
 
-// Whether 32 bytes from a place on are ASCII. By the vectors that `faults` takes: with std's `is_ascii` the check of text that is not ASCII runs 4 % more
+// Whether 32 bytes from a place on are ASCII. By vectors, as `block_ascii` below: with std's `is_ascii` the check of text that is not ASCII runs 25 % more
 // instructions.
 fn pair_ascii(s: &[u8], a: usize) -> bool
     requires { a + 32 ≤ length s.now }
@@ -392,7 +392,7 @@ fn quickly_ascii(s: &[u8], n: usize) -> bool
     if end < 16 {
         return false;
     }
-    // a call of its own: with one for both lengths the check of a page of options runs more instructions
+    // a call of its own: with one for both lengths the check of a page of options runs 1.5 % more instructions
     if n <= 16 {
         return block_ascii(s, end - 16);
     }
@@ -401,7 +401,7 @@ fn quickly_ascii(s: &[u8], n: usize) -> bool
 
 // Whether the last n bytes of s, or all where it has fewer, are well-formed, as `valid` answers for those bytes alone. The bytes before them serve the test of
 // short texts: by `valid` the check of a page of options takes 1.1 to 1.5 of the time. A number of bytes and no place: with a place, from which the length is
-// to be told again, the check of a page of options runs 11 % more instructions.
+// to be told again, the check of a page of options runs 8 % more instructions.
 pub fn valid_last(s: &[u8], n: usize) -> bool
     ensures { result ≡ utf8 (drop (length s.now - n) s.now) }
 {
