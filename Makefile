@@ -22,10 +22,10 @@ compare:
 	@set -e; oracle=$$(tools/link); $$oracle compare --seed $(SEED) --cases $(N)
 
 bench:
-	@set -e; oracle=$$(tools/link); $$oracle bench --bar $(BAR) --allowed $(ALLOWED) samples/options-2k.doc samples/options-8k.doc samples/options-30k.doc samples/prose.doc samples/nonascii.doc
+	@set -e; oracle=$$(tools/link); links=$$(tools/links); $$oracle bench --links $$links --bar $(BAR) --allowed $(ALLOWED) samples/options-2k.doc samples/options-8k.doc samples/options-30k.doc samples/prose.doc samples/nonascii.doc
 
 growth:
-	@set -e; oracle=$$(tools/link); $$oracle growth --bar $(BAR) --allowed $(ALLOWED) samples/options-30k.doc
+	@set -e; oracle=$$(tools/link); links=$$(tools/links); $$oracle growth --links $$links --bar $(BAR) --allowed $(ALLOWED) samples/options-30k.doc
 
 fuzz:
 	@tools/fuzz $(SECONDS)

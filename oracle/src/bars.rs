@@ -63,21 +63,14 @@ const fn allowed(call: &'static str, page: &'static str, most: f64) -> Allowed {
 
 /// Why they are over their bars: docs/DECISIONS.md, 'Bars that are not met'. The figures are 6 to 10 parts in 100 above the most that was measured.
 const ALLOWED: &[Allowed] = &[
-    allowed("console, room 65,536", "options-2k.doc", 0.68),
-    allowed(DRAFT, "options-2k.doc", 1.3),
     allowed(DRAFT, "options-8k.doc", 1.7),
     allowed(DRAFT, "options-30k.doc", 1.85),
-    allowed(DRAFT, "nonascii.doc", 2.15),
-    allowed("roff", "pairs of DefinitionList", 6.9),
-    allowed("roff", "pairs of InlineBlock", 6.9),
-    allowed("roff", "pairs of Mono", 6.9),
-    allowed("roff", "InlineBlocks 32 deep", 7.3),
-    allowed("roff", "Section4 32 deep, empty texts", 5.0),
-    allowed("roff", "a heading of empty texts", 6.0),
-    allowed("roff", "a heading of blocks", 10.2),
-    allowed("html", "texts of an empty line, cut", 3.75),
-    allowed("html", "texts cut at a paragraph", 3.7),
-    allowed("html", "ampersands", 3.4),
+    allowed(DRAFT, "nonascii.doc", 1.95),
+    allowed("roff", "pairs of DefinitionList", 4.5),
+    allowed("roff", "pairs of InlineBlock", 4.5),
+    allowed("roff", "pairs of Mono", 4.5),
+    allowed("roff", "InlineBlocks 32 deep", 4.5),
+    allowed("roff", "a heading of blocks", 4.3),
 ];
 
 /// By which figures rows are judged: the bars, or what is allowed where there is such a figure.
@@ -261,7 +254,7 @@ mod tests {
     fn allowed_on_the_worst_pages() {
         assert!(worst_faults(&row("roff", "a page", 2_000), By::Allowed).is_empty());
         assert_eq!(worst_faults(&row("roff", "a page", 2_001), By::Allowed).len(), 1);
-        let long = Row { bytes: 10_000, ..row("roff", "a heading of blocks", 10_200) };
+        let long = Row { bytes: 10_000, ..row("roff", "a heading of blocks", 4_300) };
         assert!(worst_faults(&long, By::Allowed).is_empty());
         assert_eq!(worst_faults(&long, By::Bars).len(), 1);
     }

@@ -5,6 +5,8 @@
 //! allocates.
 
 use std::hint::black_box;
+use std::path::PathBuf;
+use std::process::{Command, Stdio};
 
 use crate::bars::{self, Faults, Row};
 use crate::buffer::{Color, Token};
@@ -27,8 +29,7 @@ const MARKDOWN: Renderer = Renderer::Markdown { full: true };
 const SPAN: u128 = 40_000_000;
 const GROWTH_SPAN: u128 = 20_000_000;
 const WORST_SPAN: u128 = 15_000_000;
-const SITTINGS: usize = 8;
-const WORST_SITTINGS: usize = 4;
+pub const SITTINGS: usize = 8;
 
 /// Calls of `write` that are timed as one.
 const WRITES: usize = 64;
@@ -275,7 +276,7 @@ fn read(document: &[u8]) -> Option<(Doc, Vec<Record<'_>>)> {
 
 /// Rows in the order in which they were first measured.
 #[derive(Default)]
-struct Table {
+pub struct Table {
     rows: Vec<Row>,
 }
 
@@ -316,9 +317,66 @@ fn cells(row: &Row) -> String {
     format!("{call:<24} {page:<30} {bytes:>6} {port:>9} {rust:>9} {ratio:>6.2}")
 }
 
+/// This program linked several times, its functions in another order each time, which share the sittings out. Where a
+/// function stands makes it faster or slower on some processors, by 25 parts in 100 and more, on both sides; of several
+/// orders the best counts, as of several sittings.
+pub struct Links {
+    pub programs: Vec<PathBuf>,
+    /// The command, and the documents.
+    pub words: Vec<String>,
+}
+
+impl Links {
+    /// The two tables of a command.
+    fn tables(&self) -> [Table; 2] {
+        let mut tables = [Table::default(), Table::default()];
+        let sittings = SITTINGS.div_ceil(self.programs.len()).to_string();
+        for program in &self.programs {
+            eprintln!("{}, {sittings} sittings", program.display());
+            let run = Command::new(program)
+                .args(&self.words)
+                .args(["--sittings", &sittings])
+                .stderr(Stdio::null())
+                .output()
+                .unwrap_or_else(|error| panic!("{}: {error}", program.display()));
+            assert!(run.status.success(), "{}: {}", program.display(), run.status);
+            let rows = String::from_utf8(run.stdout).expect("rows are text");
+            for line in rows.lines() {
+                let (number, row) = read_row(line).unwrap_or_else(|| panic!("no row: {line}"));
+                tables[number].row(&row.call, &row.page, row.bytes, Some(row.times));
+            }
+        }
+        tables
+    }
+}
+
+/// A row and its table's number, as `read_row` takes them.
+fn plain_row(number: usize, row: &Row) -> String {
+    let Row { call, page, bytes, times } = row;
+    format!("{number}\t{call}\t{page}\t{bytes}\t{}\t{}", times.port, times.rust)
+}
+
+fn read_row(line: &str) -> Option<(usize, Row)> {
+    let cells: Vec<&str> = line.split('\t').collect();
+    let &[number, call, page, bytes, port, rust] = &cells[..] else { return None };
+    let times = Times { port: port.parse().ok()?, rust: rust.parse().ok()? };
+    let row = Row { call: call.into(), page: page.into(), bytes: bytes.parse().ok()?, times };
+    Some((number.parse().ok().filter(|&number| number < 2)?, row))
+}
+
+/// The rows of a command's tables, for `Links`.
+pub fn print_plain(tables: &[Table; 2]) {
+    for (number, table) in tables.iter().enumerate() {
+        for row in &table.rows {
+            println!("{}", plain_row(number, row));
+        }
+    }
+}
+
 /// What the times are.
 fn head() {
-    println!("ns of processor time of a call, port and Rust in turn; a tenth of the rounds took less, the best of several sittings.");
+    println!("ns of processor time of a call, port and Rust in turn; a tenth of the rounds took less, the best of several sittings,");
+    println!("which links of this program share, its functions in another order in each.");
     println!("The port checks the document and clears its room each time. Bytes are those of the stored document");
 }
 
@@ -327,12 +385,12 @@ pub fn accepts(document: &[u8]) -> bool {
     read(document).is_some()
 }
 
-/// Rendering and building of the pages given; prints the worst ratios, and says what is over its bar.
-pub fn five_pages(pages: &[(String, Vec<u8>)]) -> Faults {
+/// Rendering and building of the pages given, in so many sittings.
+pub fn five_tables(pages: &[(String, Vec<u8>)], sittings: usize) -> [Table; 2] {
     keep_memory();
     let (mut rendering, mut building) = (Table::default(), Table::default());
-    for sitting in 1..=SITTINGS {
-        eprintln!("sitting {sitting} of {SITTINGS}");
+    for sitting in 1..=sittings {
+        eprintln!("sitting {sitting} of {sittings}");
         for (name, document) in pages {
             page_rows(&mut rendering, name, document);
         }
@@ -345,6 +403,12 @@ pub fn five_pages(pages: &[(String, Vec<u8>)]) -> Faults {
             building_rows(&mut building, name, document);
         }
     }
+    [rendering, building]
+}
+
+/// Rendering and building of the pages given; prints the worst ratios, and says what is over its bar.
+pub fn five_pages(pages: &[(String, Vec<u8>)], links: Option<&Links>) -> Faults {
+    let [rendering, building] = links.map_or_else(|| five_tables(pages, SITTINGS), Links::tables);
     head();
     println!("where the Rust has no such call, what is timed in its place stands in brackets; tabstop: beside the port's check");
     rendering.print();
@@ -570,14 +634,12 @@ fn cut(records: &[Record], size: usize) -> Vec<u8> {
     bytes
 }
 
-/// How times grow with pages of 1 to 32 KB that are made of one document's records; `None` where it
-/// is refused or empty.
-pub fn growth(name: &str, document: &[u8]) -> Option<()> {
+/// Pages of 1 to 32 KB that are made of one document's records, in so many sittings; `None` where it is refused or empty.
+fn grown(name: &str, document: &[u8], sittings: usize) -> Option<Table> {
     let (_, records) = read(document).filter(|(_, records)| !records.is_empty())?;
-    keep_memory();
     let mut table = Table::default();
-    for sitting in 1..=SITTINGS {
-        eprintln!("pages that grow, sitting {sitting} of {SITTINGS}");
+    for sitting in 1..=sittings {
+        eprintln!("pages that grow, sitting {sitting} of {sittings}");
         for (what, measure) in GROWN {
             for power in 10..=15 {
                 let page = cut(&records, 1 << power);
@@ -587,9 +649,36 @@ pub fn growth(name: &str, document: &[u8]) -> Option<()> {
             }
         }
     }
+    Some(table)
+}
+
+/// Pages that grow, in so many sittings, and the worst pages, in half as many.
+pub fn growth_tables(name: &str, document: &[u8], sittings: usize) -> Option<[Table; 2]> {
+    keep_memory();
+    let grown = grown(name, document, sittings)?;
+    let mut worst = Table::default();
+    for sitting in 1..=sittings.div_ceil(2) {
+        eprintln!("worst pages, sitting {sitting} of {}", sittings.div_ceil(2));
+        for page in PAGES {
+            worst_rows(&mut worst, page);
+        }
+    }
+    Some([grown, worst])
+}
+
+/// How times grow with pages of 1 to 32 KB that are made of one document's records, and each renderer on each of the worst
+/// pages: prints the worst figures, and says what is over its bar. `None` where the document is refused or empty.
+pub fn growth(name: &str, document: &[u8], links: Option<&Links>) -> Option<Faults> {
+    let [grown, worst] = match links {
+        None => growth_tables(name, document, SITTINGS)?,
+        Some(links) => links.tables(),
+    };
     head();
-    table.print_each();
-    Some(())
+    grown.print_each();
+    println!();
+    println!("pages of nearly 32 KB on which a renderer works hardest for each byte; what it refuses is left out");
+    worst.print_each();
+    Some(bars::worst_pages(&worst.rows))
 }
 
 /// A measurement of a page, with its document for the Rust and its records.
@@ -623,22 +712,6 @@ fn renderers(full: bool) -> [(&'static str, Renderer); 7] {
     ]
 }
 
-/// Each renderer on each of the worst pages; prints the worst figures, and says what is over its bar.
-pub fn worst_pages() -> Faults {
-    keep_memory();
-    let mut table = Table::default();
-    for sitting in 1..=WORST_SITTINGS {
-        eprintln!("worst pages, sitting {sitting} of {WORST_SITTINGS}");
-        for page in PAGES {
-            worst_rows(&mut table, page);
-        }
-    }
-    println!();
-    println!("pages of nearly 32 KB on which a renderer works hardest for each byte; what it refuses is left out");
-    table.print_each();
-    bars::worst_pages(&table.rows)
-}
-
 fn worst_rows(table: &mut Table, page: &worst::Page) {
     let document = page.document();
     assert_eq!(port(Call::Check, &document, &mut []), 0, "{}: refused", page.name);
@@ -652,6 +725,22 @@ fn worst_rows(table: &mut Table, page: &worst::Page) {
 #[cfg(test)]
 mod tests {
     use super::*;
+
+    /// What a link prints of a row is read as that row; other lines are none.
+    #[test]
+    fn rows_of_links() {
+        let times = Times { port: 633, rust: 997 };
+        let row = Row { call: "a (b: c)".into(), page: "p, 1 KB".into(), bytes: 2_078, times };
+        let line = plain_row(1, &row);
+        let (number, read) = read_row(&line).unwrap();
+        assert_eq!((number, plain_row(number, &read)), (1, line.clone()));
+        assert_eq!((read.bytes, read.times.port, read.times.rust), (2_078, 633, 997));
+        for other in
+            ["", "1\ta\tb\t1\t2", "2\ta\tb\t1\t2\t3", "1\ta\tb\t1\t2\tx", "1\ta\tb\t1\t2\t3\t4"]
+        {
+            assert!(read_row(other).is_none(), "{other}");
+        }
+    }
 
     #[test]
     fn long_notes_are_a_document() {

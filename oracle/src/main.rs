@@ -4,7 +4,7 @@ use std::io::{self, Read, Write};
 use std::process::ExitCode;
 
 use oracle::bars::Faults;
-use oracle::bench;
+use oracle::bench::{self, Links};
 use oracle::cases::{answer, list, pattern, Answer, Call, Case};
 use oracle::figures;
 use oracle::generate::{self, Limits, Subject};
@@ -25,8 +25,8 @@ usage: oracle answer console|html|html_strict|markdown|roff
        oracle compare --seed S --cases N [--only SUBJECT,..]
        oracle selfcheck --seed S --cases N [--only SUBJECT,..]
        oracle reach --seed S --cases N
-       oracle bench [--bar 0|1] [--allowed 0|1] DOCUMENT..
-       oracle growth [--bar 0|1] [--allowed 0|1] DOCUMENT
+       oracle bench [--bar 0|1] [--allowed 0|1] [--links FOLDER | --sittings N] DOCUMENT..
+       oracle growth [--bar 0|1] [--allowed 0|1] [--links FOLDER | --sittings N] DOCUMENT
        oracle drafts --seed S --cases N
        oracle notes < notes > document
        oracle bundle DOCUMENT.. > bundle
@@ -126,8 +126,10 @@ fn main() -> ExitCode {
             }
             "selfcheck" => Arguments::read(arguments, &["seed", "cases", "only"])
                 .and_then(|a| run_selfcheck(&a)),
-            "bench" => Arguments::read(arguments, &["bar", "allowed"]).and_then(|a| run_bench(&a)),
-            "growth" => Arguments::read(arguments, &["bar", "allowed"]).and_then(|a| run_growth(&a)),
+            "bench" => Arguments::read(arguments, &["bar", "allowed", "links", "sittings"])
+                .and_then(|a| run_bench(&a)),
+            "growth" => Arguments::read(arguments, &["bar", "allowed", "links", "sittings"])
+                .and_then(|a| run_growth(&a)),
             "drafts" => Arguments::read(arguments, &["seed", "cases"]).and_then(|a| run_drafts(&a)),
             "bundle" => Ok(run_bundle(arguments)),
             "figures" => Arguments::read(arguments, &[]).and_then(|a| run_figures(&a)),
@@ -236,10 +238,34 @@ fn asked(arguments: &Arguments) -> Parsed<(bool, bool)> {
     Ok((arguments.flag("bar", false)?, arguments.flag("allowed", false)?))
 }
 
+/// The links of this program in a folder, for a command and its documents.
+fn links(arguments: &Arguments, command: &str) -> Parsed<Option<Links>> {
+    let Some(folder) = arguments.value("links") else { return Ok(None) };
+    let unread = |error: io::Error| format!("--links {folder}: {error}");
+    let mut programs = Vec::new();
+    for entry in std::fs::read_dir(folder).map_err(unread)? {
+        programs.push(entry.map_err(unread)?.path());
+    }
+    programs.sort();
+    if programs.is_empty() {
+        return Err(format!("--links {folder}: no program there"));
+    }
+    let words = std::iter::once(command.to_string()).chain(arguments.operands.clone()).collect();
+    Ok(Some(Links { programs, words }))
+}
+
+/// In how many sittings another link of this program wants its rows.
+fn sittings(arguments: &Arguments) -> Parsed<Option<usize>> {
+    let Some(count) = arguments.value("sittings") else { return Ok(None) };
+    let count = count.parse().ok().filter(|count| (1..=1_000).contains(count));
+    count.map(Some).ok_or("--sittings: not a number of 1 to 1,000".into())
+}
+
 /// Times of the port and of the Rust on stored documents: rendering, then building. With `--bar 1` it fails
 /// where one is over its bar, with `--allowed 1` where one is over what is allowed.
 fn run_bench(arguments: &Arguments) -> Parsed<ExitCode> {
     let asked = asked(arguments)?;
+    let (sittings, links) = (sittings(arguments)?, links(arguments, "bench")?);
     let mut pages = Vec::new();
     let read = |path: &String| {
         timed(path, |name, document| {
@@ -247,7 +273,11 @@ fn run_bench(arguments: &Arguments) -> Parsed<ExitCode> {
         })
     };
     let refused = arguments.operands.iter().map(read).filter(|read| !read).count();
-    let faults = bench::five_pages(&pages);
+    if let Some(sittings) = sittings {
+        bench::print_plain(&bench::five_tables(&pages, sittings));
+        return Ok(status(refused == 0));
+    }
+    let faults = bench::five_pages(&pages, links.as_ref());
     Ok(status(barred(asked, &faults) && refused == 0))
 }
 
@@ -255,8 +285,19 @@ fn run_bench(arguments: &Arguments) -> Parsed<ExitCode> {
 /// it fails where one of these is over its bar, with `--allowed 1` where one is over what is allowed.
 fn run_growth(arguments: &Arguments) -> Parsed<ExitCode> {
     let asked = asked(arguments)?;
-    let fine = timed(arguments.operand()?, bench::growth);
-    Ok(status(barred(asked, &bench::worst_pages()) && fine))
+    let (sittings, links) = (sittings(arguments)?, links(arguments, "growth")?);
+    let mut fine = true;
+    let read = timed(arguments.operand()?, |name, document| match sittings {
+        Some(sittings) => {
+            bench::growth_tables(name, document, sittings).map(|it| bench::print_plain(&it))
+        }
+        None => {
+            let faults = bench::growth(name, document, links.as_ref())?;
+            fine = barred(asked, &faults);
+            Some(())
+        }
+    });
+    Ok(status(read && fine))
 }
 
 /// Random sequences of builder calls, by a draft and without one.
