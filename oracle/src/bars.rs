@@ -63,13 +63,15 @@ const fn allowed(call: &'static str, page: &'static str, most: f64) -> Allowed {
 
 /// Why they are over their bars: docs/DECISIONS.md, 'Bars that are not met'. The figures are 6 to 10 parts in 100 above the most that was measured.
 const ALLOWED: &[Allowed] = &[
+    allowed("console, room 65,536", "options-2k.doc", 0.69),
+    allowed(DRAFT, "options-2k.doc", 1.3),
     allowed(DRAFT, "options-8k.doc", 1.7),
     allowed(DRAFT, "options-30k.doc", 1.85),
     allowed(DRAFT, "nonascii.doc", 1.95),
-    allowed("roff", "pairs of DefinitionList", 4.5),
-    allowed("roff", "pairs of InlineBlock", 4.5),
-    allowed("roff", "pairs of Mono", 4.5),
-    allowed("roff", "InlineBlocks 32 deep", 4.5),
+    allowed("roff", "pairs of DefinitionList", 4.9),
+    allowed("roff", "pairs of InlineBlock", 4.9),
+    allowed("roff", "pairs of Mono", 4.9),
+    allowed("roff", "InlineBlocks 32 deep", 4.9),
     allowed("roff", "a heading of blocks", 4.3),
 ];
 

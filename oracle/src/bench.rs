@@ -30,6 +30,8 @@ const SPAN: u128 = 40_000_000;
 const GROWTH_SPAN: u128 = 20_000_000;
 const WORST_SPAN: u128 = 15_000_000;
 pub const SITTINGS: usize = 8;
+/// In each of several links at least so many.
+const LINK_SITTINGS: usize = 2;
 
 /// Calls of `write` that are timed as one.
 const WRITES: usize = 64;
@@ -330,7 +332,7 @@ impl Links {
     /// The two tables of a command.
     fn tables(&self) -> [Table; 2] {
         let mut tables = [Table::default(), Table::default()];
-        let sittings = SITTINGS.div_ceil(self.programs.len()).to_string();
+        let sittings = SITTINGS.div_ceil(self.programs.len()).max(LINK_SITTINGS).to_string();
         for program in &self.programs {
             eprintln!("{}, {sittings} sittings", program.display());
             let run = Command::new(program)
