@@ -68,6 +68,7 @@ const ALLOWED: &[Allowed] = &[
     allowed(DRAFT, "options-8k.doc", 1.7),
     allowed(DRAFT, "options-30k.doc", 1.85),
     allowed(DRAFT, "nonascii.doc", 1.95),
+    allowed("draft (rust: from_utf8)", "options-8k.doc", 1.07),
     allowed("roff", "pairs of DefinitionList", 4.9),
     allowed("roff", "pairs of InlineBlock", 4.9),
     allowed("roff", "pairs of Mono", 4.9),
