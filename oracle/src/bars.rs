@@ -63,6 +63,7 @@ const fn allowed(call: &'static str, page: &'static str, most: f64) -> Allowed {
 
 /// Why they are over their bars: docs/DECISIONS.md, 'Bars that are not met'. The figures are 6 to 10 parts in 100 above the most that was measured.
 const ALLOWED: &[Allowed] = &[
+    allowed("console, room as needed", "nonascii.doc", 0.55),
     allowed("console, room 65,536", "options-2k.doc", 0.69),
     allowed(DRAFT, "options-2k.doc", 1.3),
     allowed(DRAFT, "options-8k.doc", 1.7),
