@@ -4,9 +4,10 @@
 #![tactic(auto)]
 
 ghost use Rattle.std.specs.Prelude.{◌≡◌, true, [], ◌++◌, ◌+◌, ◌-◌, ◌≤◌, ◌<◌, length, drop};
+ghost use Rattle.std.specs.List.{list_any};
 ghost use Rattle.base.specs.Result.{gives, measured};
 ghost use Rattle.utf8.specs.Utf8.{utf8};
-ghost use Rattle.splitter.specs.Split.{line};
+ghost use Rattle.splitter.specs.Split.{is_line_end, line};
 ghost use Rattle.document.specs.Document.{reads, max_bytes, max_open};
 ghost use Rattle.records.specs.Stored.{text, start};
 ghost use Rattle.records.specs.declared.Style.TheVariants as style;
@@ -56,11 +57,25 @@ fn too_deep(document: &[u8], from: usize, depth: usize) -> Option<usize>
     None
 }
 
-// How many bytes stand before the first `\n`.
+// Whether a `\n` stands in some bytes.
+fn has_line_end(s: &[u8]) -> bool
+    ensures { result ≡ list_any is_line_end s.now }
+{
+    base::any(s, |b| b == b'\n')
+}
+
+// How many bytes stand before the first `\n`. Blocks of 64 without one are passed over whole, since 16 of their bytes are tested at a time.
 fn line_length(body: &[u8]) -> usize
     ensures { result ≡ length (line body.now) }
 {
-    body.iter().position(|b| *b == b'\n').unwrap_or(body.len())
+    let (blocks, _) = body.as_chunks::<64>();
+    let passed = blocks
+        .iter()
+        .position(|b| has_line_end(b))
+        .unwrap_or(blocks.len());
+    let from = passed * 64;
+    let rest = &body[from..];
+    from + rest.iter().position(|b| *b == b'\n').unwrap_or(rest.len())
 }
 
 // InlineBlock's start, and text as Emphasis.

@@ -114,7 +114,7 @@ fn put_body(
 {
     let mut chunks = splitter_iter::split(body);
     // words and then a chunk at a time: a `for` over the chunks would lend them to the loop alone, and words move their cursor
-    loop {
+    'chunks: loop {
         chunks.cursor.at = console_words::put_words(page, margin, &chunks, tail, set);
         // At a body's end the splitter is not asked: so the console takes 0.97 to 0.99 of its time.
         if body.len() <= chunks.cursor.at {
@@ -125,9 +125,10 @@ fn put_body(
         };
         put_piece(page, margin, start, body, piece, set)?;
         if renderer::ends_body(piece, set.full) {
-            return Ok(());
+            break 'chunks;
         }
     }
+    Ok(())
 }
 
 // The walk over the records of an accepted document.

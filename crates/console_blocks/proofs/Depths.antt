@@ -1,8 +1,12 @@
 -- The margins: the innermost, one more, one less, and how deep they lie. Assumes nothing.
-use Rattle.console_blocks.proofs.Names.{List, [], ◌∷◌, ℕ, ◌+◌, ◌≤◌, arith, take, top, pushed}
+use Rattle.console_blocks.proofs.Names.{List, [], ◌∷◌, ℕ, ◌+◌, ◌≤◌, ◌≡◌, ◌∙◌, ap, arith, length, take, top, pushed}
 use mathlib.Core.List.{◌++◌}
-use Prim.Native.Nat.{zero, suc}
-use lib.ListN.{get_or}
+use mathlib.Core.Path.{sym}
+use native.Mathlib.Numerals.{add-one}
+use Prim.Native.Nat.{◌<◌, zero, suc}
+use lib.ListN.{get_or, set}
+use lib.Seq.{take-suc}
+use Rattle.std.proofs.lemmas.List.{take_more_set}
 use Rattle.base.specs.Stack.{popped}
 use Rattle.console_blocks.specs.InnerDepth.{Shallow}
 
@@ -38,3 +42,10 @@ unfolding pushed
 push_shallow n more k v margins s l h =
     let t = top_shallow n margins s in
     record { each = more_low k v margins (omega arith) (λ i. omega (arith, s.each i)) }
+
+-- a margin of a list that is put in its place goes on with the list
+pub copied : (columns kept : List ℕ) (i : ℕ) → i < length columns → i < length kept → take i columns ≡ take i kept
+    → take (i + 1) (set columns i (get_or kept i 0)) ≡ take (i + 1) kept
+copied columns kept i c k e =
+    let more : take (i + 1) kept ≡ take i kept ++ get_or kept i 0 ∷ [] = rw (add-one) (take-suc kept i 0 k) in
+    take_more_set columns i (get_or kept i 0) c ∙ ap (λ (xs : List ℕ). xs ++ get_or kept i 0 ∷ []) e ∙ sym more

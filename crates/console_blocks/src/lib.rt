@@ -2,14 +2,14 @@
 
 #![tactic(auto)]
 
-ghost use Rattle.std.specs.Prelude.{◌≡◌, List, [], ℕ, ◌+◌, ◌≤◌, ◌<◌, ◌^◌, length};
+ghost use Rattle.std.specs.Prelude.{◌≡◌, List, [], ℕ, ◌+◌, ◌≤◌, ◌<◌, ◌^◌, length, take};
 ghost use Rattle.base.specs.Stack.{top, pushed, popped};
 ghost use Rattle.console_rules.specs.Console.{tick, started as started_by, ended as ended_by};
 ghost use Rattle.console_chunks.specs.InnerShown.{page_of, ruled, Fits64};
 ghost use Rattle.console_blocks.specs.InnerDepth.{Shallow, Startable, Moved};
 
 use console_chunks::Page;
-use console_rules::Columns;
+use console_rules::{Bytes, Columns};
 use records::Block;
 use std::marker::Model;
 
@@ -42,6 +42,18 @@ impl<const N: usize> Margins<N> {
             columns: [0; N],
             count: 0,
         }
+    }
+
+    // Those of a list, whatever they are; of more than there are slots for, the first ones.
+    pub fn of(kept: &[usize]) -> Margins<N>
+        ensures { result ≡ take N kept.now }
+    {
+        let mut columns = [0; N];
+        let count = kept.len().min(N);
+        for i in 0..count {
+            columns[i] = kept[i];
+        }
+        Margins { columns, count }
     }
 
     // The innermost; none is 0.
@@ -79,7 +91,7 @@ fn put_tick(page: &mut Page)
     ensures result_after { Fits64 (page.old.lay.column.0 + 1) → (kept : List ℕ) → page_of page.new kept ≡ ruled tick (page_of page.old kept) }
     ensures moved { Moved page.old.lay page.new.lay }
 {
-    page.len = room::put(page.room, page.len, b'`');
+    page.len = Bytes(room::put(page.room, page.len.0, b'`'));
     page.lay.column = console_chunks::plus(page.lay.column, Columns(1));
 }
 

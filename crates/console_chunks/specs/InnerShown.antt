@@ -22,7 +22,7 @@ sheet v kept lay = record { name = v.name; size = v.size; state = v.shown >>= λ
 
 -- the text of a page
 abbrev pub text_in : Page → Lent
-text_in p = lent p.room.ghost_name p.room.now p.len
+text_in p = lent p.room.ghost_name p.room.now p.len.0
 
 abbrev pub page_of : Page → List ℕ → Sheet
 page_of p kept = sheet (text_in p) kept p.lay

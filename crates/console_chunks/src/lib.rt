@@ -24,7 +24,7 @@ use refusal::Refusal;
 #[derive(Drop)]
 pub struct Page<'a> {
     pub room: &'a mut [u8],
-    pub len: usize,
+    pub len: Bytes,
     pub lay: Lay,
 }
 
@@ -88,7 +88,7 @@ impl<'a> Page<'a> {
     {
         Page {
             room,
-            len: 0,
+            len: Bytes(0),
             lay: Lay::default(),
         }
     }
@@ -98,14 +98,14 @@ impl<'a> Page<'a> {
         ensures full { result ≡ true → (text_in self.now).shown ≡ refused 13 0 }
         ensures given { result ≡ false → Given (text_in self.now).shown }
     {
-        self.room.len() < self.len
+        self.room.len() < self.len.0
     }
 
     // Whether nothing is written; free where the text is longer than the room.
     pub fn is_empty(&self) -> bool
         ensures { (o : List ℕ) → (text_in self.now).shown ≡ gives o → result ≡ is_empty o }
     {
-        self.len == 0
+        self.len.0 == 0
     }
 
     // Whether a line end is due.
@@ -119,7 +119,7 @@ impl<'a> Page<'a> {
     fn ends_with(&self, tail: &[u8]) -> bool
         ensures { (o : List ℕ) → (text_in self.now).shown ≡ gives o → result ≡ ends_with tail.now o }
     {
-        room::ends_with(self.room, self.len, tail)
+        room::ends_with(self.room, self.len.0, tail)
     }
 
     // A line end, at once.
@@ -127,7 +127,7 @@ impl<'a> Page<'a> {
         ensures by_index { (kept : List ℕ) → page_of self.new kept ≡ ruled line_end (page_of self.old kept) }
         ensures near { Near 0 self.old.lay self.new.lay }
     {
-        self.len = room::put(self.room, self.len, b'\n');
+        self.len = Bytes(room::put(self.room, self.len.0, b'\n'));
         self.lay.column = Columns(0);
     }
 
@@ -147,7 +147,7 @@ impl<'a> Page<'a> {
         ensures near { Near 0 self.old.lay self.new.lay }
     {
         if self.lay.blank && !self.ends_with(b"\n\n") {
-            self.len = room::put(self.room, self.len, b'\n');
+            self.len = Bytes(room::put(self.room, self.len.0, b'\n'));
         }
     }
 
@@ -157,7 +157,8 @@ impl<'a> Page<'a> {
         ensures near { Near margin.0 self.old.lay self.new.lay }
     {
         let column = self.lay.column;
-        self.len = room::put_spaces(self.room, self.len, missing_to(margin, column).0);
+        let missing = missing_to(margin, column).0;
+        self.len = Bytes(room::put_spaces(self.room, self.len.0, missing));
         self.lay.column = Columns(column.0.max(margin.0));
     }
 
@@ -168,7 +169,7 @@ impl<'a> Page<'a> {
     {
         if self.lay.gutter && MAX_TABSTOP <= self.lay.column.0 && padded.0 < 2 {
             let more = 2 - padded.0;
-            self.len = room::put_spaces(self.room, self.len, more);
+            self.len = Bytes(room::put_spaces(self.room, self.len.0, more));
             self.lay.column = plus(self.lay.column, Columns(more));
         }
     }
@@ -178,7 +179,7 @@ impl<'a> Page<'a> {
         ensures result_after { Fits64 (self.old.lay.column.0 + width.0) → (kept : List ℕ) → page_of self.new kept ≡ ruled (λ n. place n text.now width.0) (page_of self.old kept) }
         ensures near { Near width.0 self.old.lay self.new.lay }
     {
-        self.len = room::put_all(self.room, self.len, text);
+        self.len = Bytes(room::put_all(self.room, self.len.0, text));
         self.lay = Lay {
             column: plus(self.lay.column, width),
             newline: false,
@@ -212,7 +213,7 @@ impl<'a> Page<'a> {
         ensures near { Near 0 self.old.lay self.new.lay }
     {
         let room = &mut *self.room;
-        self.len = room::trim_end(room, self.len);
+        self.len = Bytes(room::trim_end(room, self.len.0));
         self.line_end();
     }
 
@@ -258,7 +259,7 @@ impl<'a> Page<'a> {
         ensures { (kept : List ℕ) → page_of self.new kept ≡ ruled finish (page_of self.old kept) }
     {
         if self.line_is_due() {
-            self.len = room::put(self.room, self.len, b'\n');
+            self.len = Bytes(room::put(self.room, self.len.0, b'\n'));
         }
     }
 
@@ -267,6 +268,6 @@ impl<'a> Page<'a> {
         ensures { seen self.exit.0.now result ≡ (text_in self.entry).shown }
     {
         let Page { room, len, lay } = self;
-        len
+        len.0
     }
 }

@@ -9,7 +9,7 @@ ghost use Rattle.console_chunks.specs.InnerShown.{text_in};
 ghost use Rattle.console_words.specs.InnerAdvance.{LineAdvance, Some, Ahead, Moves};
 
 use console_chunks::Page;
-use console_rules::{Columns, Settings};
+use console_rules::{Bytes, Columns, Settings};
 use splitter::Code;
 use splitter_iter::Splitter;
 
@@ -30,10 +30,10 @@ fn fill_line(page: &mut Page, chunks: &Splitter, tail: &[u8], set: Settings) -> 
         if set.width <= column || tail[at] == b'\n' {
             break;
         }
-        let len = page.len;
+        let len = page.len.0;
         let room = &mut *page.room;
         let run = words::copy_run(&mut room[len..], &tail[at..], end - at, set.width - column);
-        page.len = len + run.len;
+        page.len = Bytes(len + run.len);
         page.lay.column = Columns(column + run.width);
         at += run.len;
         if run.width == run.len {

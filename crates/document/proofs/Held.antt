@@ -1,5 +1,6 @@
 -- The open blocks as an array of blocks holds them, by their indices. Assumes nothing.
-use Rattle.document.proofs.Names.{ℕ, ◌+◌, ◌-◌, ◌≤◌, ◌<◌, ◌≡◌, sym, ap, ◌∙◌, List, length, take, set, get_or, length-take-le, arith, le_or_lt}
+use Rattle.document.proofs.Names.{ℕ, ◌+◌, ◌-◌, ◌≤◌, ◌<◌, ◌≡◌, min, sym, ap, ◌∙◌, List, length, take, set, get_or, length-take, length-take-le}
+use Rattle.document.proofs.Names.{take_all, arith, le_or_lt}
 use Rattle.document.proofs.Names.{push-take, pop_take, index, Block}
 use Rattle.document.proofs.Opening.{innermost-none, innermost-last}
 use Rattle.base.specs.Stack.{top, pushed, popped}
@@ -59,3 +60,17 @@ module _ (blocks : List Block) (depth : ℕ) (h : depth ≤ length blocks) where
       ∙ ap (λ (n : ℕ). get_or (take depth blocks) (n - 1) b.now) (sym k)
       ∙ get_or_from_slice_get (take depth blocks) (length (take depth blocks) - 1) x.now b.now (sym e) in
       ap (λ (y : Block). sameb the_type y b.now) (sym g) ∙ held_at b.now b.now (omega (arith, l))
+
+-- more of them may be said to be open than there are slots: then all that there are
+module _ (blocks : List Block) (depth : ℕ) where
+  pub held_count : length (take depth (map index blocks)) ≡ min depth (length blocks)
+  held_count = omega (arith, length-take depth (map index blocks), length-map blocks index)
+
+  pub held_all : (n : ℕ) → n ≡ min depth (length blocks) → take n (map index blocks) ≡ take depth (map index blocks)
+  held_all n e =
+      ⊎_elim
+      (λ (l : depth ≤ length blocks). ap (λ (k : ℕ). take k (map index blocks)) (let z : n ≡ depth = omega (arith, e, l) in z))
+      (λ (l : length blocks < depth).
+      let m = length-map blocks index in
+      take_all n (map index blocks) (omega (arith, e, l, m)) ∙ sym (take_all depth (map index blocks) (omega (arith, l, m))))
+      (le_or_lt depth (length blocks))

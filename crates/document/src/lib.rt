@@ -2,7 +2,7 @@
 
 #![tactic(auto)]
 
-ghost use Rattle.std.specs.Prelude.{◌≡◌, [], ◌<◌, ◌≤◌, ◌&&◌, leb, eqb, length, OnOk, OnErr, take, map};
+ghost use Rattle.std.specs.Prelude.{◌≡◌, [], ◌+◌, ◌<◌, ◌≤◌, ◌&&◌, leb, eqb, length, OnOk, OnErr, IfOk, MatchResult, min, take, map, set};
 ghost use Rattle.base.specs.Result.{gives};
 ghost use Rattle.base.specs.Stack.{top, pushed, popped};
 ghost use Rattle.refusal.specs.Answers.{answered};
@@ -110,17 +110,17 @@ impl<const N: usize> OpenBlocks<N> {
     }
 }
 
-// Refusal 7 of a block's start, with the blocks that are open in the first `depth` slots: how many are open after it. (This and the next do what
-// `OpenBlocks::open` and `close` do: with those, so with one struct of the array and the count, the count stays in memory, and the check of
-// a page of options runs 6 % more instructions.)
-fn after_start(
+// Refusal 7 of a block's start, with the blocks that are open in the first `depth` slots, or in all where it says more: how many are open after it. (This and
+// `close_block` do what `OpenBlocks::open` and `close` do, for who keeps the slots and the count apart: with those, so with one struct of the array and
+// the count, the count stays in memory, and the check of a page of options runs 6 % more instructions.)
+pub fn open_block(
     blocks: &mut [Block; MAX_OPEN],
     depth: usize,
     b: Block,
     at: usize,
 ) -> Result<usize, Refusal>
-    requires { depth ≤ max_open }
     ensures counted { Counted (opens at (index b) (take depth (map index blocks.old))) blocks.new result }
+    ensures written { MatchResult result (λ d. (d ≡ depth + 1) × (blocks.new ≡ set blocks.old depth b)) (λ r. blocks.new ≡ blocks.old) }
     ensures long { length blocks.new ≡ max_open }
 {
     if MAX_OPEN <= depth {
@@ -130,20 +130,35 @@ fn after_start(
     Ok(depth + 1)
 }
 
-// Refusal 6 of a block's end, in the same way.
-fn after_end(
+// Refusal 6 of a block's end, where no more count than there are slots.
+fn close_top(
     blocks: &[Block; MAX_OPEN],
     depth: usize,
     b: Block,
     at: usize,
 ) -> Result<usize, Refusal>
     requires { depth ≤ max_open }
-    ensures { Counted (closes at (index b) (take depth (map index blocks.now))) blocks.now result }
+    ensures counted { Counted (closes at (index b) (take depth (map index blocks.now))) blocks.now result }
+    ensures fewer { IfOk result (λ d. d + 1 ≡ depth) }
 {
     if depth == 0 || blocks[depth - 1] != b {
         return Err(Refusal::WrongEnd(at));
     }
     Ok(depth - 1)
+}
+
+// Refusal 6 of a block's end, in the same way as `open_block`. (The check of a document, which knows that no more count than there are slots, calls
+// `close_top`: by this, so by the lesser of two numbers, the check of a page of options runs 4 % more instructions.)
+pub fn close_block(
+    blocks: &[Block; MAX_OPEN],
+    depth: usize,
+    b: Block,
+    at: usize,
+) -> Result<usize, Refusal>
+    ensures counted { Counted (closes at (index b) (take depth (map index blocks.now))) blocks.now result }
+    ensures fewer { IfOk result (λ d. d + 1 ≡ min depth max_open) }
+{
+    close_top(blocks, depth.min(MAX_OPEN), b, at)
 }
 
 // Refusals 2 to 7 of a document, in one pass, and its blocks that are left open. No `for` over `Records`, which tests again what `fits_at` has tested: with
@@ -170,11 +185,11 @@ pub fn open_blocks(document: &[u8]) -> Result<OpenBlocks<MAX_OPEN>, Refusal>
             }
             Kind::Text(_) => at = h.next,
             Kind::Start(b) if size == 0 => {
-                depth = after_start(&mut blocks, depth, b, at)?;
+                depth = open_block(&mut blocks, depth, b, at)?;
                 at = h.start;
             }
             Kind::End(b) if size == 0 => {
-                depth = after_end(&blocks, depth, b, at)?;
+                depth = close_top(&blocks, depth, b, at)?;
                 at = h.start;
             }
             Kind::Start(_) | Kind::End(_) => return Err(Refusal::BlockWithBody(at)),

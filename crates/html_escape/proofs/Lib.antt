@@ -1,2 +1,3 @@
 mod Names
 pub mod Escapes
+pub mod Entities

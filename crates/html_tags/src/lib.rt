@@ -98,7 +98,7 @@ pub fn meet_meta(t: &mut Text, st: &mut Style, at: usize) -> Refusal
     ensures style { st.new ≡ style.Text }
 {
     change_style(t, st, Style::Text);
-    renderer::no_form(t, at)
+    renderer::no_form_in(t, at)
 }
 
 // A chunk that does not end the walk of its body. It has places and no text, since the C interface gives places (`next_chunk`).

@@ -3,7 +3,7 @@ use Rattle.joined_check.proofs.Names.{ℕ, ◌+◌, ◌-◌, ◌≤◌, ◌<◌,
 use mathlib.Core.Bool.{true, false}
 use mathlib.Core.List.{List, [], ◌∷◌}
 use lib.Dec.{leb, ltb}
-use lib.ListN.{drop}
+use lib.ListN.{drop, length-drop}
 use lib.Seq.{take_all}
 use borrow.Author.Tests.{le-leb, lt-leb, le-ltb, lt-ltb, ltb-false, eq-eqb, ne_eqb}
 use Rattle.base.specs.Bytes.{part}
@@ -89,10 +89,20 @@ module _ (j : List ℕ) where
   heads-by e = rw e (refl, refl)
 
   -- the first of them, and the others
-  pub left_part : (at : ℕ) → at < length j → {h : List ℕ} → h ≡ part j at (at + 6) → heads_from j at ≡ h ∷ heads_from j (at + 6)
-  left_part at l e =
-      heads_next j at l ∙ ap (λ (k : ℕ). take k (drop at j) ∷ heads_from j (at + 6)) (let z : 6 ≡ at + 6 - at = omega arith in z)
-      ∙ ap (λ (h : List ℕ). h ∷ heads_from j (at + 6)) (sym e)
+  left_first : (at : ℕ) → at < length j → {h : List ℕ} → h ≡ take 6 (drop at j) → heads_from j at ≡ h ∷ heads_from j (at + 6)
+  left_first at l e = heads_next j at l ∙ ap (λ (h : List ℕ). h ∷ heads_from j (at + 6)) (sym e)
+
+  -- .. all that is left, where that is under six bytes, or else the first six of it
+  module _ (at : ℕ) (l : at < length j) where
+    all_left : take (length j - at) (drop at j) ≡ drop at j
+    all_left = take_all (length j - at) (drop at j) (omega (arith, length-drop at j))
+
+    pub left_short : {h : List ℕ} → h ≡ take (length j - at) (drop at j) → length (take (length j - at) (drop at j)) < 6
+        → heads_from j at ≡ h ∷ heads_from j (at + 6)
+    left_short e s = left_first at l (e ∙ all_left ∙ sym (take_all 6 (drop at j) (omega (arith, s, ap length all_left))))
+
+    pub left_six : {h : List ℕ} → h ≡ take 6 (take (length j - at) (drop at j)) → heads_from j at ≡ h ∷ heads_from j (at + 6)
+    left_six e = left_first at l (e ∙ ap (take 6) all_left)
 
 -- The loop over the records, where some text is left and some blocks are open: a record at p, and the records after it
 

@@ -6,7 +6,7 @@
 ghost use Rattle.std.specs.Prelude.{◌≡◌, true, false, ◌+◌, ◌≤◌, length};
 ghost use Rattle.base.specs.Result.{gives, measured, ◌>>=◌ as bind};
 ghost use Rattle.refusal.specs.Answers.{answered};
-ghost use Rattle.renderer.specs.Rendered.{standing, filled};
+ghost use Rattle.renderer.specs.Rendered.{filled};
 ghost use Rattle.any_renderer.specs.InnerRenders.{too_wide};
 ghost use Rattle.joined_rules.specs.Joined.{short_joined, whole_text};
 ghost use Rattle.joined_render_rules.specs.Render.{joined_console, joined_html, joined_markdown, joined_roff};
@@ -26,21 +26,28 @@ fn through(
 ) -> Result<usize, Refusal>
     requires { (bind (short_joined joined.now) whole_text ≡ gives joined.now) × (too_wide asked ≡ false) × (length joined.now ≤ length buffer.old + 4) }
     ensures answer { answered result ≡ measured (renders_joined asked (length room.old) joined.now) }
-    ensures text { standing room.new result ≡ renders_joined asked (length room.old) joined.now }
+    ensures room { room.new ≡ filled (length room.old) (renders_joined asked (length room.old) joined.now) }
 {
-    let n = joined::unjoin(joined, buffer)?;
-    let answer = any_renderer::render_any(&buffer[..n], asked, room);
-    joined_places::placed(joined, answer)
+    match joined::unjoin(joined, buffer) {
+        Ok(n) => {
+            let answer = any_renderer::render_any(&buffer[..n], asked, room);
+            joined_places::placed(joined, answer)
+        }
+        Err(a) => renderer::cleared(Err(a), room),
+    }
 }
 
-// What is asked for of a joined form, or its refusal: 1, 17, 9, then the rest.
-fn rendered(joined: &[u8], asked: Asked, room: &mut [u8]) -> Result<usize, Refusal>
+// What is asked for of a joined form, or its refusal: 1, 17, 9, then the rest. The room is 0 beyond the text, and all 0 after a refusal. (No `?`: where the
+// renderer was called it has cleared the room, and cleared here once more a room of 65,536 bytes costs a short form as much as its text.)
+fn render(joined: &[u8], asked: Asked, room: &mut [u8]) -> Result<usize, Refusal>
     ensures answer { answered result ≡ measured (renders_joined asked (length room.old) joined.now) }
-    ensures text { standing room.new result ≡ renders_joined asked (length room.old) joined.now }
+    ensures room { room.new ≡ filled (length room.old) (renders_joined asked (length room.old) joined.now) }
 {
-    joined_check::check_text(joined)?;
+    if let Err(a) = joined_check::check_text(joined) {
+        return renderer::cleared(Err(a), room);
+    }
     if any_renderer::too_wide(asked) {
-        return Err(Refusal::TooWide);
+        return renderer::cleared(Err(Refusal::TooWide), room);
     }
     let n = joined.len() - 4;
     // Arrays, since the library has no heap; two of them, since zeros for the large one would cost a page of 2 KB a tenth of its time.
@@ -50,14 +57,6 @@ fn rendered(joined: &[u8], asked: Asked, room: &mut [u8]) -> Result<usize, Refus
     }
     let mut buffer: [u8; MAX_BYTES] = [0; MAX_BYTES];
     through(joined, asked, &mut buffer[..n], room)
-}
-
-// The same; the room is 0 beyond the text, and all 0 after a refusal.
-fn render(joined: &[u8], asked: Asked, room: &mut [u8]) -> Result<usize, Refusal>
-    ensures answer { answered result ≡ measured (renders_joined asked (length room.old) joined.now) }
-    ensures room { room.new ≡ filled (length room.old) (renders_joined asked (length room.old) joined.now) }
-{
-    renderer::cleared(rendered(joined, asked, room), room)
 }
 
 // The console text of a joined form. As with a document the room is 0 beyond the text, and all 0 after a refusal; so with the others.

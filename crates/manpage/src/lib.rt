@@ -302,8 +302,8 @@ fn ends_capture(b: Block, captured: Option<usize>) -> Option<usize>
 }
 
 // The walk over the records of a document. Text is captured from a place on, or not; a heading's end reads the records from there again. No record is
-// captured by two headings, so each is read twice at most. Whether the room is full is asked before text alone: at each record that took 1.05 of the time.
-// By places and no `for` over `Records`, since the records of silent blocks are stepped over by their bytes.
+// captured by two headings, so each is read twice at most. Whether the room is full is asked before text and at a heading's end alone: at each record that
+// took 1.05 of the time. By places and no `for` over `Records`, since the records of silent blocks are stepped over by their bytes.
 fn walk(m: &mut Roff, accepted: &Accepted) -> Result<(), Refusal>
     requires { HasBegun (roff_of m.old) }
     ensures same { IsSameRoom (roff_of m.old) (roff_of m.new) }
@@ -316,7 +316,7 @@ fn walk(m: &mut Roff, accepted: &Accepted) -> Result<(), Refusal>
         let r = records::record_at(document, at);
         // what roff has no form for: refusal 11
         if r.kind.is_of(Block::TermRef) {
-            return Err(renderer::no_form(&*m.text, at));
+            return Err(renderer::no_form_in(&*m.text, at));
         }
         if is_silent_kind(r.kind) {
             let next = past_silent(document, r.next);
@@ -340,6 +340,10 @@ fn walk(m: &mut Roff, accepted: &Accepted) -> Result<(), Refusal>
                 captured = opens_capture(b, captured, at, r.next);
             }
             Kind::End(b) => {
+                // Of a heading all text is read, cased and written here: not into a room that is full.
+                if is_heading(b) && m.text.is_full() {
+                    return Err(Refusal::NoRoom);
+                }
                 let records = Records::from_place(document, captured.unwrap_or(at));
                 ended(m, b, Heading { records });
                 captured = ends_capture(b, captured);

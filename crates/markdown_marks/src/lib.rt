@@ -109,7 +109,7 @@ pub fn meet_meta(t: &mut Text, st: Style, at: usize) -> Refusal
     ensures { refusal_of result ≡ bind (text_of t.old).shown (λ x. bind (closed (text_of t.old).size st x) (λ _. refused 11 at)) }
 {
     change_to_markdown_style(t, st, Style::Text);
-    renderer::no_form(t, at)
+    renderer::no_form_in(t, at)
 }
 
 // Whether the first of some records is the end of a term.

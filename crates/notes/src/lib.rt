@@ -3,6 +3,7 @@
 #![tactic(auto)]
 
 ghost use Rattle.std.specs.Prelude.{◌≡◌, true, [], ◌||◌, not, length};
+ghost use Rattle.splitter.specs.Split.{line};
 ghost use Rattle.base.specs.Bytes.{starts_with};
 ghost use Rattle.base.specs.Result.{measured};
 ghost use Rattle.room.specs.Lent.{text_of, with_bytes};
@@ -29,18 +30,17 @@ fn is_blank(s: &[u8]) -> bool
     other.is_none_or(|b| *b == b'\n')
 }
 
-// Whether it becomes a Header, and an ItemBody. Two functions: one with the mark as a parameter is `base::starts_with` itself, which would have each mark
-// stand at two places.
+// Whether it becomes a Header, and an ItemBody. By patterns: `base::starts_with`, which tests at any place, costs more on short lines.
 fn is_header(s: &[u8]) -> bool
     ensures { result ≡ starts_with header_mark s.now }
 {
-    base::starts_with(s, 0, b"# ")
+    matches!(s, [b'#', b' ', ..])
 }
 
 fn is_item(s: &[u8]) -> bool
     ensures { result ≡ starts_with item_mark s.now }
 {
-    base::starts_with(s, 0, b"- ")
+    matches!(s, [b'-', b' ', ..])
 }
 
 // Whether it has no marker and is more than spaces.
@@ -57,16 +57,47 @@ fn is_last(rest: &[u8], one: bool) -> bool
     one || !is_ordinary(rest)
 }
 
-// How long the text is that stands first. (By a place, of which the byte, what follows it and the answer are told; an iterator would give the byte alone.)
+// How many bytes the line that stands first has: blocks of 16 without a line end are passed over whole, then the bytes before the first line end of the
+// next block, or what is left byte by byte.
+fn long_line_length(s: &[u8]) -> usize
+    ensures { result ≡ length (line s.now) }
+{
+    let mut len: usize = 0;
+    while let Some(block) = s[len..].first_chunk::<16>() {
+        let n = utf8::front(block, b'\n', b'\n', 16).len;
+        if n < 16 {
+            return len + n;
+        }
+        len += 16;
+    }
+    let last = &s[len..];
+    len + last.iter().position(|b| *b == b'\n').unwrap_or(last.len())
+}
+
+// The same. A line of no byte or of one is told by a test of its first two bytes, since a page of such lines takes longer by blocks.
+fn line_length(s: &[u8]) -> usize
+    ensures { result ≡ length (line s.now) }
+{
+    match s {
+        [b'\n', ..] => 0,
+        [_, b'\n', ..] => 1,
+        _ => long_line_length(s),
+    }
+}
+
+// How long the text is that stands first. The loop goes from line end to line end: only there may a text end.
 fn text_length(s: &[u8], one: bool) -> usize
     ensures { Ends s.now one result }
 {
-    for i in 0..s.len() {
-        if s[i] == b'\n' && is_last(base::get_from(s, i + 1), one) {
-            return i;
+    let mut len = line_length(s);
+    while len < s.len() {
+        let rest = &s[len + 1..];
+        if is_last(rest, one) {
+            return len;
         }
+        len += 1 + line_length(rest);
     }
-    s.len()
+    len
 }
 
 // What stands behind the line that stands first.

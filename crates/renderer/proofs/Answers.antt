@@ -25,6 +25,10 @@ module _ (s : Result (List ℕ)) (at : ℕ) where
   unfolding ◌>>=◌
   eleven_full e = rw e
 
+  pub eleven_there : {o : List ℕ} → s ≡ gives o → eleven ≡ (s >>= λ _. eleven)
+  unfolding ◌>>=◌
+  eleven_there e = rw e
+
   pub eleven_given : Given s → eleven ≡ (s >>= λ _. eleven)
   unfolding ◌>>=◌
   eleven_given g = go s g

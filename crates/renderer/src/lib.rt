@@ -51,13 +51,20 @@ pub fn finish(t: Text) -> Result<usize, Refusal>
     answer(room, len)
 }
 
-// Refusal 11 at a place, unless 13 was met before.
-pub fn no_form(t: &Text, at: usize) -> Refusal
-    ensures { refusal_of result ≡ bind (text_of t.now).shown (λ _. refused 11 at) }
+// Refusal 11 at a place, unless 13 was met before. (The room and the length apart: who may only read a room has no `Text`, which lends it to be written.)
+pub fn no_form(room: &[u8], len: usize, at: usize) -> Refusal
+    ensures { refusal_of result ≡ bind (seen room.now len) (λ _. refused 11 at) }
 {
-    if t.is_full() {
+    if room.len() < len {
         Refusal::NoRoom
     } else {
         Refusal::NoForm(at)
     }
+}
+
+// The same after a text.
+pub fn no_form_in(t: &Text, at: usize) -> Refusal
+    ensures { refusal_of result ≡ bind (text_of t.now).shown (λ _. refused 11 at) }
+{
+    no_form(&*t.room, t.len, at)
 }

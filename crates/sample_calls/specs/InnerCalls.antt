@@ -1,5 +1,6 @@
 -- A call of the list of samples, whose first lines tell its form, beside the wanted answer. No rule of 01 stands here.
-use Rattle.std.specs.Prelude.{ℕ, Bool, true, false, ◌&&◌, List, leb, eqb, drop}
+use Rattle.std.specs.Prelude.{ℕ, Bool, true, false, ◌&&◌, List, [], leb, eqb, drop, Result as Answer, Ok, Err}
+use Rattle.base.specs.Bytes.{part}
 use Rattle.base.specs.Choice.{when◌then◌else◌}
 use Rattle.base.specs.Result as answer
 use Rattle.document.specs.Document.{check}
@@ -9,6 +10,7 @@ use Rattle.html_rules.specs.Html.{html}
 use Rattle.html_rules.specs.Markdown.{markdown}
 use Rattle.manpage.specs.Roff.{roff}
 use Rattle.compared.specs.InnerCompared.{is_answer}
+use Rattle.compared.specs.declared.Refused.{Refused}
 use Rattle.sample_calls.specs.declared.Call.{Call}
 use Rattle.sample_calls.specs.declared.Call.TheVariants as call
 
@@ -49,7 +51,12 @@ letter_of call.Roff = 0x72
 unfoldable pub wanted_text : ℕ → List ℕ → List ℕ
 wanted_text letter text = when eqb letter 0x72 then text else drop 35 text
 
--- .. or '! 10 60 the wanted refusal and its place'
+-- .. as many first bytes of a text as were put there, or '! 10 60 the wanted refusal and its place'; no refusal has the number 0: nothing is to be written
+abbrev pub wanted_in : Answer ℕ Refused → List ℕ → answer.Result (List ℕ)
+wanted_in (Ok n) text = answer.gives (part text 0 n)
+wanted_in (Err w) text = when eqb w.number 0 then answer.gives [] else answer.refused w.number w.place
+
+-- .. for a call
 abbrev pub wanted_of : ℕ → answer.Result (List ℕ) → answer.Result (List ℕ)
 wanted_of letter (answer.gives text) = answer.gives (wanted_text letter text)
 wanted_of letter (answer.refused k p) = answer.refused k p

@@ -11,7 +11,7 @@ ghost use Rattle.renderer.specs.Rendered.{filled};
 ghost use Rattle.room.specs.Room.{seen, extended};
 ghost use Rattle.roff_escape.specs.Escape.{preamble};
 ghost use Rattle.sample_lines.specs.InnerLines.{text_from};
-ghost use Rattle.sample_calls.specs.InnerCalls.{by_letter, letter_of, is_call, wanted_text, is_wanted, agrees};
+ghost use Rattle.sample_calls.specs.InnerCalls.{by_letter, letter_of, is_call, wanted_text, is_wanted, wanted_in, agrees};
 
 use compared::Refused;
 use console_rules::{Measure, Settings};
@@ -123,6 +123,22 @@ fn is_wanted(
     compared::is_rendered(answer, room, wanted.map(|text| wanted_text(call, text)))
 }
 
+// What is wanted: the first bytes of a text, so many, or a refusal. One with the number 0 is none: an empty text is wanted then.
+#[tactic(auto, unfolding(crate::proofs::Names::choose))]
+fn wanted_in<'a>(wanted: Result<usize, Refused>, text: &'a [u8]) -> Result<&'a [u8], Refused>
+    ensures { asked result ≡ wanted_in wanted text.now }
+{
+    match wanted {
+        Ok(size) => Ok(base::get(text, 0, size)),
+        Err(w) => {
+            if w.number == 0 {
+                return Ok(&text[..0]);
+            }
+            Err(w)
+        }
+    }
+}
+
 // Whether a letter stands for a call that answers as wanted, a text that begins with the preamble or a refusal, in a room of so many bytes, 512 at most.
 // (An array: no heap is used, as in the library.)
 #[tactic(auto, using(crate::proofs::Calls::agrees_no))]
@@ -131,9 +147,10 @@ pub fn agrees(
     width: usize,
     size: usize,
     document: &[u8],
-    wanted: Result<&[u8], Refused>,
+    wanted: Result<usize, Refused>,
+    text: &[u8],
 ) -> bool
-    ensures { result ≡ agrees letter width size document.now (asked wanted.entry) }
+    ensures { result ≡ agrees letter width size document.now (wanted_in wanted text.now) }
 {
     let Some(call) = call_of(letter) else {
         return false;
@@ -142,5 +159,6 @@ pub fn agrees(
         return false;
     }
     let mut space = [0xA5u8; 512];
+    let wanted = wanted_in(wanted, text);
     is_wanted(call, width, document, wanted, &mut space[..size])
 }

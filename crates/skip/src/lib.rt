@@ -66,27 +66,49 @@ impl Skip {
         self.depth > 0
     }
 
-    // A paragraph with `full` off.
-    pub fn enable(&mut self)
-        ensures { self.new ≡ skip_paragraph self.old }
+    // By value: a paragraph with `full` off.
+    pub fn started(self) -> Skip
+        ensures { result ≡ skip_paragraph self }
     {
-        self.depth = 1;
+        Skip { depth: 1 }
     }
 
     // The start of an InlineBlock.
-    pub fn push(&mut self)
-        ensures { self.new ≡ new_if_fits self.old (skip_start block.InlineBlock self.old) }
+    pub fn pushed(self) -> Skip
+        ensures { result ≡ new_if_fits self (skip_start block.InlineBlock self) }
     {
         if self.depth > 0 {
-            self.depth = self.depth.saturating_add(1);
+            let depth = self.depth.saturating_add(1);
+            return Skip { depth };
         }
+        self
     }
 
     // The end of an InlineBlock.
+    pub fn popped(self) -> Skip
+        ensures { result ≡ skip_end block.InlineBlock self }
+    {
+        let depth = self.depth.saturating_sub(1);
+        Skip { depth }
+    }
+
+    // Lent, as in the source: each is one assignment.
+    pub fn enable(&mut self)
+        ensures { self.new ≡ skip_paragraph self.old }
+    {
+        *self = self.started();
+    }
+
+    pub fn push(&mut self)
+        ensures { self.new ≡ new_if_fits self.old (skip_start block.InlineBlock self.old) }
+    {
+        *self = self.pushed();
+    }
+
     pub fn pop(&mut self)
         ensures { self.new ≡ skip_end block.InlineBlock self.old }
     {
-        self.depth = self.depth.saturating_sub(1);
+        *self = self.popped();
     }
 
     // The start of a block. It and `end` are two, as `push` and `pop` in the source are: one function would have to be told which of the two to call.

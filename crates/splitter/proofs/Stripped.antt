@@ -1,7 +1,7 @@
 -- What the slice's `starts_with` says, and what prefix stripping hands back. Assumes nothing.
 use Rattle.base.proofs.Prefix.{eqb_turned}
-use Rattle.splitter.proofs.Names.{ℕ, ◌≡◌, refl, sym, ◌∙◌, Bool, true, false, List, [], ◌∷◌, eqb, length, take, drop}
-use Rattle.splitter.proofs.Names.{when◌then◌else◌, starts_with, stripped}
+use Rattle.splitter.proofs.Names.{ℕ, ◌≤◌, ◌<◌, ◌≡◌, refl, sym, ap, ◌∙◌, Bool, true, false, List, [], ◌∷◌, eqb, length, take, drop, length-drop, arith}
+use Rattle.splitter.proofs.Names.{when◌then◌else◌, starts_with, starts-length, stripped}
 use Rattle.std.specs.List.{starts_with as library}
 use lib.Pointwise.{pointwise}
 
@@ -35,3 +35,23 @@ module _ (prefix text : List ℕ) where
   pub stripped-not : starts_with prefix text ≡ false → stripped prefix text ≡ text
   unfolding stripped when◌then◌else◌
   stripped-not e = rw e
+
+  -- the part that is handed back is shorter than the text exactly where the prefix is there
+  module _ (tail : List ℕ) (e : tail ≡ stripped prefix text) where
+    module _ (h : length tail < length text) where
+      pub shorter_starts : starts_with prefix text ≡ true
+      shorter_starts = go (starts_with prefix text) refl
+        where
+          go : (t : Bool) → starts_with prefix text ≡ t → starts_with prefix text ≡ true
+          go true f = f
+          go false f = absurd (omega (arith, ap length (e ∙ stripped-not f)))
+
+      pub shorter_drop : tail ≡ drop (length prefix) text
+      shorter_drop = e ∙ stripped_there shorter_starts
+
+    pub whole-starts-not : 1 ≤ length prefix → length text ≤ length tail → starts_with prefix text ≡ false
+    whole-starts-not n h = go (starts_with prefix text) refl
+      where
+        go : (t : Bool) → starts_with prefix text ≡ t → starts_with prefix text ≡ false
+        go false f = f
+        go true f = absurd (omega (arith, ap length (e ∙ stripped_there f), length-drop (length prefix) text, starts-length prefix text f))

@@ -184,7 +184,8 @@ fn ticked(body: &[u8], at: usize, last: bool) -> (Piece, Cursor)
     found(line, next, Code::Rest)
 }
 
-// The text after a prefix, all of it if the prefix isn't there. (No Option: 01 asks for a function of this form, docs/RULES.md; the step uses the slice's.)
+// The text after a prefix, all of it if the prefix isn't there. (No Option: 01 asks for a function of this form, docs/RULES.md. A prefix of some bytes was
+// there if the part is shorter than the text, as `plain` tests for the source's `if let Some(tail)`.)
 pub fn strip_prefix<'a>(text: &'a [u8], prefix: &[u8]) -> &'a [u8]
     ensures { result.now ≡ stripped prefix.now text.now }
 {
@@ -224,7 +225,8 @@ fn plain(body: &[u8], at: usize) -> (Piece, Cursor)
     ensures { result ≡ answer at (step code.No (drop at body.now)) }
 {
     let input = &body[at..];
-    if let Some(tail) = input.strip_prefix(b"\n".as_slice()) {
+    let tail = strip_prefix(input, b"\n");
+    if tail.len() < input.len() {
         return after_line_end(body, at, tail);
     }
     if input.starts_with(b" ") {

@@ -12,7 +12,7 @@ ghost use Rattle.splitter_iter.specs.InnerStruct.{splitter as splitter_at, left,
 use splitter::{Cursor, Piece};
 
 // A body, and the place in it up to which chunks were taken.
-#[derive(Drop)]
+#[derive(Clone, Copy)]
 pub struct Splitter<'a> {
     pub input: &'a [u8],
     pub cursor: Cursor,

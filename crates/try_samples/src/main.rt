@@ -54,10 +54,15 @@ impl<'a, W: Write> State<'a, W> {
 
     // Whether the call of a letter answers as wanted.
     fn agrees(&self, letter: u8) -> bool {
-        let text = &*self.text;
-        let wanted = self.wanted.map(|size| base::get(text, 0, size));
         let document = written(&self.document);
-        sample_calls::agrees(letter, self.width, self.room, document, wanted)
+        sample_calls::agrees(
+            letter,
+            self.width,
+            self.room,
+            document,
+            self.wanted,
+            &*self.text,
+        )
     }
 
     // The line `>`: a call for each letter.

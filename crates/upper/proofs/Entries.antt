@@ -1,7 +1,8 @@
 -- The code's table has the entries of the rules' table, and what the library's search answers there. Assumes nothing.
 use Rattle.upper.proofs.Names.{◌≡◌, refl, sym, ap, ◌∙◌, ⊎_elim, Bool, true, false, ◌&&◌, false≢true, List, [], ◌∷◌, ℕ, ◌<◌, ◌≤◌, arith, le_or_lt}
 use Rattle.upper.proofs.Names.{eqb, eqb-true, and_left, and_right, map, length, get_or, get_or-map, length-map, Entry, ◌becomes◌, table, from, to, maps_to}
-use Rattle.upper.proofs.Names.{characters_of}
+use Rattle.upper.proofs.Names.{characters_of, ascending}
+use mathlib.Core.Path.{subst}
 use Rattle.std.specs.Prelude.{Ok, Err}
 use Rattle.std.specs.Ordering.{nat_cmp, ordering_index}
 use Rattle.std.specs.List.Sorted.{IsBinarySearchResult, IsNonDecreasingBy}
@@ -36,6 +37,10 @@ entry e = e.0 becomes characters_of e.1
 pub entries : map entry TABLE ≡ table
 unfolding table
 entries = refl
+
+-- its characters ascend, in the whole table that is searched
+pub from_ascends : ascending (map from (map entry TABLE)) ≡ true
+from_ascends = subst (λ (es : List Entry). ascending (map from es) ≡ true) (sym entries) (in_order_lem table whole)
 
 abbrev pub past : ℕ × Mapped
 past = (0, mapped.One 0)

@@ -5,8 +5,8 @@ use Rattle.console.proofs.put_body.Given as goal
 -- Invariant: what stands on the page, and the chunks of the body from the cursor on, give what all chunks give (Writing).
 -- What falls: the bytes of the body after the cursor.
 
-abbrev pub invariant-loop-chunks : goal.invariant-loop-chunks
-invariant-loop-chunks l = Writing l.set l.body l.margin.0 l.start l.initial.page l.page l.chunks.cursor × (l.chunks.input.now ≡ l.body)
+abbrev pub invariant-chunks : goal.invariant-chunks
+invariant-chunks l = Writing l.set l.body l.margin.0 l.start l.initial.page l.page l.chunks.cursor × (l.chunks.input.now ≡ l.body)
 
-abbrev pub decreases-loop-chunks : goal.decreases-loop-chunks
-decreases-loop-chunks l = length l.body + 1 - l.chunks.cursor.at
+abbrev pub decreases-chunks : goal.decreases-chunks
+decreases-chunks l = length l.body + 1 - l.chunks.cursor.at

@@ -9,4 +9,4 @@ returns-clause-result_after c =
     let p = c.args.page.now in
     λ fits kept.
     put_there (text_in p) kept p.lay _ _ (0x60 ∷ []) (λ l. with_column (l.column.0 + 1) l)
-    (ap (λ (n : ℕ). with_column n p.lay) (c.plus-page.ensures.result_value fits)) (room_put _ _ _ _ _ _ c.put-page.auto.room c.put-page.ensures)
+    (ap (λ (n : ℕ). with_column n p.lay) (c.plus-page.ensures.result_value fits)) (room_put _ _ _ _ _ _ c.put.auto.room c.put.ensures)

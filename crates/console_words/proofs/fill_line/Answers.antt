@@ -12,11 +12,11 @@ use Rattle.console_words.proofs.Advance.{run_on}
 use Rattle.console_words.proofs.fill_line.Goals as goal
 
 pub slice_bounds-copy_run-count : goal.slice_bounds-copy_run-count
-slice_bounds-copy_run-count c = given_in _ c.loop-at.page.len c.loop-at.invariant.0.there.inside
+slice_bounds-copy_run-count c = given_in _ c.loop-at.page.len.0 c.loop-at.invariant.0.there.inside
 
 pub slice_bounds-copy_run-start : goal.slice_bounds-copy_run-start
 slice_bounds-copy_run-start c =
-    let h = given_in _ c.loop-at.page.len c.loop-at.invariant.0.there.inside in
+    let h = given_in _ c.loop-at.page.len.0 c.loop-at.invariant.0.there.inside in
     search rules
 
 -- where the body ends
@@ -49,7 +49,7 @@ returns-then-run c =
     let l = c.loop-at in
     record {
       words =
-          run_on _ _ _ _ _ _ _ l.page.len _ l.at l.invariant.0 (given_in _ l.page.len l.invariant.0.there.inside) (inside d) _ r.new.free (left d) r.auto.free
+          run_on _ _ _ _ _ _ _ l.page.len.0 _ l.at l.invariant.0 (given_in _ l.page.len.0 l.invariant.0.there.inside) (inside d) _ r.new.free (left d) r.auto.free
           _ r.result.len r.result.width r.ensures (omega (arith, c.if-set-column.false));
       lay = ap (with_column (l.page.lay.column.0 + r.result.width)) l.invariant.1;
     }
@@ -59,7 +59,7 @@ loop-at-preserved c =
     let d = (goal.at.loop-at-preserved c).After-copy_run-run in
     let r = c.copy_run-run in
     let l = c.loop-at in (
-      run_on _ _ _ _ _ _ _ l.page.len _ l.at l.invariant.0 (given_in _ l.page.len l.invariant.0.there.inside) (inside d) _ r.new.free (left d) r.auto.free
+      run_on _ _ _ _ _ _ _ l.page.len.0 _ l.at l.invariant.0 (given_in _ l.page.len.0 l.invariant.0.there.inside) (inside d) _ r.new.free (left d) r.auto.free
           _ r.result.len r.result.width r.ensures (omega (arith, c.if-set-column.false)),
       ap (with_column (l.page.lay.column.0 + r.result.width)) l.invariant.1,
     )

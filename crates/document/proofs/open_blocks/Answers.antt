@@ -55,14 +55,14 @@ loop-at-preserved-then-size-eq0 c =
     let fit = sym c.if-not-fits_at.ensures in
     let q = c.in_ok-depth-in-Start.ensures.counted in
     let on = reads_open (c.args.document.now) l.at _ c.loop-at-test.true (c.whole_at-h.ensures fit) fit c.if-size-eq0.true c.in-Start.is q.1 in
-    (c.after_start.ensures.long, q.0, sym on ∙ l.invariant.2)
+    (c.open_block.ensures.long, q.0, sym on ∙ l.invariant.2)
 
 pub returns-in_err-depth-in-End : goal.returns-in_err-depth-in-End
 returns-in_err-depth-in-End c =
     let l = c.loop-at in
     let fit = sym c.if-not-fits_at.ensures in
     let no = reads-close (c.args.document.now) l.at _ c.loop-at-test.true (c.whole_at-h.ensures fit) fit c.if-size-eq0-2.true c.in-End.is
-    c.in_err-depth-in-End.ensures in
+    c.in_err-depth-in-End.ensures.counted in
     let p = err_from_is_err_and c.from_residual-in_err-depth-in-End.result c.from_residual-in_err-depth-in-End.ensures.1 in
     rw (p.1, p.2) (sym (sym l.invariant.2 ∙ no))
 
@@ -70,7 +70,7 @@ pub loop-at-preserved : goal.loop-at-preserved
 loop-at-preserved c =
     let l = c.loop-at in
     let fit = sym c.if-not-fits_at.ensures in
-    let q = c.in_ok-depth-in-End.ensures in
+    let q = c.in_ok-depth-in-End.ensures.counted in
     let on = reads_close (c.args.document.now) l.at _ c.loop-at-test.true (c.whole_at-h.ensures fit) fit c.if-size-eq0-2.true c.in-End.is q.1 in
     (l.invariant.0, q.0, sym on ∙ l.invariant.2)
 

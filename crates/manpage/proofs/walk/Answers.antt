@@ -11,6 +11,11 @@ unfolding ◌>>=◌
 returns-then-is_full-clause-text c =
     rw (← c.bytes-document.ensures.same) (refused_13 c.loop-at.invariant (c.is_full.ensures.full c.if-is_full.true))
 
+pub returns-then-is_full-2-clause-text : goal.returns-then-is_full-2-clause-text
+unfolding ◌>>=◌
+returns-then-is_full-2-clause-text c =
+    rw (← c.bytes-document.ensures.same) (refused_13 c.loop-at.invariant (c.is_full-then-is_heading.ensures.full c.if-is_full-2.true))
+
 pub returns-clause-text : goal.returns-clause-text
 unfolding ◌>>=◌
 returns-clause-text c = rw (← c.bytes-document.ensures.same) (done c.loop-at.invariant c.loop-at-test.false)
@@ -19,7 +24,7 @@ pub returns-then-is_of-clause-text : goal.returns-then-is_of-clause-text
 unfolding ◌>>=◌
 returns-then-is_of-clause-text c =
     rw (← c.bytes-document.ensures.same)
-    (c.no_form.ensures ∙ refused_11 c.loop-at.invariant c.record_at-r.ensures c.loop-at-test.true (sym c.is_of.ensures ∙ c.if-is_of.true))
+    (c.no_form_in.ensures ∙ refused_11 c.loop-at.invariant c.record_at-r.ensures c.loop-at-test.true (sym c.is_of.ensures ∙ c.if-is_of.true))
 
 pub loop-at-preserved-then-is_silent_kind : goal.loop-at-preserved-then-is_silent_kind
 loop-at-preserved-then-is_silent_kind c =
@@ -47,8 +52,8 @@ loop-at-preserved-in-Start c =
     rw c.opens_capture-captured.ensures
     (on_started c.loop-at.invariant c.record_at-r.ensures c.loop-at-test.true c.started.new.m c.in-Start.is n c.started.ensures)
 
-pub loop-at-preserved-in-End : goal.loop-at-preserved-in-End
-loop-at-preserved-in-End c =
+pub loop-at-preserved-else-is_heading : goal.loop-at-preserved-else-is_heading
+loop-at-preserved-else-is_heading c =
     let n = sym (ap is_term_ref c.in-End.is) ∙ sym c.is_of.ensures ∙ c.if-is_of.false in
     let told = rw (c.from_place-records.ensures, c.unwrap_or.ensures) at c.ended.ensures in
     rw c.ends_capture-captured.ensures

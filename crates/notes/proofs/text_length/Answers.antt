@@ -1,24 +1,40 @@
-use Rattle.notes.proofs.Names.{◌≡◌, ◌∙◌, ℕ, arith, length, subst, sym}
-use Rattle.notes.specs.InnerParts.{Ends}
-use Rattle.notes.proofs.Scans.{going_feed, going_byte, ends_over, ends_feed}
-use Rattle.notes.proofs.text_length.Goals.{else-s-i-eq10-via-then-s-i-eq10+else-is_last, else-s-i-eq10-via-else-s-i-eq10}
+use Rattle.notes.proofs.Names.{sym, ◌+◌, ◌≤◌, ◌∙◌, arith, rules, length}
+use Rattle.notes.proofs.Scans.{AtEnd, rest_is, at_first, at_next, at_last, at_all}
+use Rattle.notes.proofs.text_length.Goals.{After-line_length}
 use Rattle.notes.proofs.text_length.Goals as goal
+
+-- where the next line ends
+next : (c : After-line_length) → AtEnd c.args.s.now c.args.one (c.loop-len.len + (1 + c.line_length.result))
+next c =
+    let s = c.args.s.now in
+    let l = c.loop-len in
+    let e = rest_is s (l.len + 1) in
+    at_next s c.args.one l.len l.invariant c.line_length.result (omega arith) (rw e at (sym c.is_last.ensures ∙ c.if-is_last.false))
+    (rw e at c.line_length.ensures)
+
+pub loop-len-init : goal.loop-len-init
+loop-len-init c = at_first _ _ _ c.line_length-len.ensures
 
 pub returns-then-is_last : goal.returns-then-is_last
 returns-then-is_last c =
-    ends_feed _ _ _ c.loop-i.invariant (omega arith) c.if-s-i-eq10.true (rw (← c.get_from.ensures) (sym c.is_last.ensures ∙ c.if-is_last.true))
+    let s = c.args.s.now in
+    let i = c.loop-len.len in
+    at_last s c.args.one i c.loop-len.invariant (omega arith) (rw (rest_is s (i + 1)) at (sym c.is_last.ensures ∙ c.if-is_last.true))
 
-pub loop-i-preserved : goal.loop-i-preserved
-loop-i-preserved c =
-    let i = c.loop-i.invariant in
-    elim c.else-s-i-eq10.branch [
-      | else-s-i-eq10-via-then-s-i-eq10+else-is_last w ↦
-          going_feed _ _ _ i (omega arith) w.if-s-i-eq10.true (rw (← w.get_from.ensures) (sym w.is_last.ensures ∙ w.if-is_last.false))
-      | else-s-i-eq10-via-else-s-i-eq10 w ↦ going_byte _ _ _ i (omega arith) w.if-s-i-eq10.false
-    ]
+pub overflow_add-len : goal.overflow_add-len
+overflow_add-len c =
+    let a = next (goal.at.overflow_add-len c).After-line_length in
+    let f : c.loop-len.len + (1 + c.line_length.result) ≤ length c.args.s.now = a.going.inside in
+    search rules
+
+pub overflow_add-len-in-loop-len : goal.overflow_add-len-in-loop-len
+overflow_add-len-in-loop-len c =
+    let a = next (goal.at.overflow_add-len-in-loop-len c).After-line_length in
+    let f : c.loop-len.len + (1 + c.line_length.result) ≤ length c.args.s.now = a.going.inside in
+    search rules
+
+pub loop-len-preserved : goal.loop-len-preserved
+loop-len-preserved c = next (goal.at.loop-len-preserved c).After-line_length
 
 pub returns : goal.returns
-returns c =
-    let a = c.args in
-    let e : c.loop-i.i ≡ length (a.s.now) = omega arith in
-    subst (λ (n : ℕ). Ends (a.s.now) a.one n) e (ends_over (a.s.now) a.one c.loop-i.i c.loop-i.invariant (omega arith))
+returns c = at_all c.args.s.now c.args.one c.loop-len.len c.loop-len.invariant (omega arith)

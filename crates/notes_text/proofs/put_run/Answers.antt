@@ -1,8 +1,14 @@
 use Rattle.notes_text.proofs.Names.{refl, sym, ap, ◌∙◌, ℕ, List}
 use Rattle.room.specs.Lent.{text_of, with_bytes}
 use Rattle.room.proofs.Lents.{with_none}
-use Rattle.notes_text.proofs.Runs.{styles_differ, styles-same, first-bytes, after-first, ran_pair, ran_span, ran_other, ran_end}
+use Rattle.notes_text.proofs.Runs.{styles_differ, styles-same, first-bytes, after-first, last_rest, ran_pair, ran_span, ran_other, ran_end}
 use Rattle.notes_text.proofs.put_run.Goals as goal
+
+pub paired-requires : goal.paired-requires
+paired-requires c = last_rest c.in-Some.ensures.cases.0 (c.loop-first.invariant.last _ c.requires)
+
+pub run_length-n-requires : goal.run_length-n-requires
+run_length-n-requires c = last_rest c.in-Some.ensures.cases.0 (c.loop-first.invariant.last _ c.requires)
 
 pub loop-first-preserved-then-paired : goal.loop-first-preserved-then-paired
 loop-first-preserved-then-paired c = ran_pair c.loop-first.invariant c.in-Some.ensures.cases.0 _ refl refl (sym c.paired.ensures ∙ c.if-paired.true)
@@ -17,7 +23,7 @@ returns-then-run-literal c =
 
 pub loop-first-preserved : goal.loop-first-preserved
 loop-first-preserved c =
-    let n = c.next_tick-n in
+    let n = c.run_length-n in
     let e = c.in-Some.ensures.cases.0 in
     ran_span c.loop-first.invariant e (sym c.paired.ensures ∙ c.if-paired.false) (styles-same _ _ c.if-run-literal.false) n.result n.ensures
     _ (after-first e n.result) refl _

@@ -1,8 +1,14 @@
 use Rattle.notes_text.proofs.Names.{refl, sym, ◌∙◌}
 use Rattle.notes_rules.specs.Notes.{text_records}
 use Rattle.room.proofs.Lents.{with_none}
-use Rattle.notes_text.proofs.Runs.{run_less, leaves_pair, leaves_run, leaves_none}
+use Rattle.notes_text.proofs.Runs.{last_rest, run_less, leaves_pair, leaves_run, leaves_none}
 use Rattle.notes_text.proofs.put_text.Goals as goal
+
+pub paired-requires : goal.paired-requires
+paired-requires c = last_rest c.in-Some.ensures.cases.0 (c.loop-first.invariant.last _ c.after_last-after.ensures)
+
+pub put_record-left-requires : goal.put_record-left-requires
+put_record-left-requires c = c.loop-first.invariant.last _ c.after_last-after.ensures
 
 pub loop-first-preserved-then-paired : goal.loop-first-preserved-then-paired
 loop-first-preserved-then-paired c = leaves_pair c.loop-first.invariant c.in-Some.ensures.cases.0 _ refl refl (sym c.paired.ensures ∙ c.if-paired.true)

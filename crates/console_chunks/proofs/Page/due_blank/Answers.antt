@@ -9,7 +9,7 @@ pub returns-then-not-ends_with-clause-by_index : goal.returns-then-not-ends_with
 returns-then-not-ends_with-clause-by_index c =
     let p = c.args.self.now in
     λ kept.
-    put_there (text_in p) kept p.lay _ p.lay (0x0A ∷ []) (λ l. l) refl (room_put _ _ _ _ _ _ c.put-self.auto.room c.put-self.ensures)
+    put_there (text_in p) kept p.lay _ p.lay (0x0A ∷ []) (λ l. l) refl (room_put _ _ _ _ _ _ c.put.auto.room c.put.ensures)
     ∙ agree (text_in p) kept p.lay _ _
     (λ o e. sym (blank_due _ _ c.if-self.true (sym (c.ends_with.ensures o e) ∙ c.if-not-ends_with.true)))
 

@@ -8,4 +8,4 @@ pub returns : goal.returns
 returns c =
     λ o e.
     let p = c.args.self.now in
-    c.ends_with.ensures ∙ ap (ends_with (c.args.tail.now)) (seen_given _ p.room.ghost_name p.room.now o p.len refl e).1
+    c.ends_with.ensures ∙ ap (ends_with (c.args.tail.now)) (seen_given _ p.room.ghost_name p.room.now o p.len.0 refl e).1

@@ -8,7 +8,7 @@ pub returns-then-line_is_due : goal.returns-then-line_is_due
 returns-then-line_is_due c =
     let p = c.args.self.now in
     λ kept.
-    put_there (text_in p) kept p.lay _ p.lay (0x0A ∷ []) (λ l. l) refl (room_put _ _ _ _ _ _ c.put-self.auto.room c.put-self.ensures)
+    put_there (text_in p) kept p.lay _ p.lay (0x0A ∷ []) (λ l. l) refl (room_put _ _ _ _ _ _ c.put.auto.room c.put.ensures)
     ∙ last_due (text_in p) kept p.lay (sym c.line_is_due.ensures ∙ c.if-line_is_due.true)
 
 pub returns-else-line_is_due : goal.returns-else-line_is_due

@@ -7,4 +7,4 @@ pub returns-clause-by_index : goal.returns-clause-by_index
 unfolding line_end
 returns-clause-by_index c =
     let p = c.args.self.now in
-    λ kept. put_there (text_in p) kept p.lay _ _ (0x0A ∷ []) (with_column 0) refl (room_put _ _ _ _ _ _ c.put-self.auto.room c.put-self.ensures)
+    λ kept. put_there (text_in p) kept p.lay _ _ (0x0A ∷ []) (with_column 0) refl (room_put _ _ _ _ _ _ c.put.auto.room c.put.ensures)

@@ -14,7 +14,7 @@ returns-then-padded-lt2-clause-result_after c =
     λ fits kept.
     put_there (text_in p) kept p.lay _ _ (replicate (2 - n) 0x20)
     (λ l. with_column (l.column.0 + (2 - n)) l) (ap (λ k. with_column k p.lay) (q (omega arith)))
-    (room_put _ _ _ _ _ _ c.put_spaces-self.auto.room c.put_spaces-self.ensures)
+    (room_put _ _ _ _ _ _ c.put_spaces.auto.room c.put_spaces.ensures)
     ∙ agree (text_in p) kept p.lay _ _
     (λ o e. sym (gap_due _ _ n c.if-self.true c.if-self-ge-MAX_TABSTOP.true c.if-padded-lt2.true))
 

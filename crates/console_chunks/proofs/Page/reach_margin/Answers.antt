@@ -8,8 +8,8 @@ unfolding reach
 returns-clause-by_index c =
     let p = c.args.self.now in
     let m = c.args.margin.0 in
-    let s = c.put_spaces-self in
-    let z = c.missing_to.ensures in
+    let s = c.put_spaces in
+    let z = c.missing_to-missing.ensures in
     let x = c.max.ensures in
     λ kept.
     put_there (text_in p) kept p.lay _ _ (replicate (m - p.lay.column.0) 0x20)
