@@ -74,6 +74,10 @@ fn walk(
                 // a line and then a chunk at a time: by chunks alone it took 1.7 to 2 times as long
                 'chunks: loop {
                     chunks.cursor.at = html_lines::put_line(&mut t, &chunks, strict);
+                    // at a body's end the splitter is not asked, as in `console::put_body`
+                    if chunks.input.len() <= chunks.cursor.at {
+                        break 'chunks;
+                    }
                     let Some((piece, _)) = chunks.next() else {
                         break 'chunks;
                     };

@@ -20,7 +20,7 @@ pub use borrow.Author.Rules.{rules}
 pub use borrow.Author.Tests.{le-leb, leb-true, lt-leb}
 pub use lib.Dec.{leb}
 pub use lib.ListN.{drop, length, length-append, length-drop, length-take, take, take-append-drop}
-pub use lib.Seq.{drop_at, drop-drop, length-take-le, take_at, take-append-add}
+pub use lib.Seq.{drop_at, drop-drop, length-take-le, take_all, take_at, take-append-add}
 pub use mathlib.Core.List.{List, [], ◌++◌, ◌∷◌, append_assoc}
 pub use mathlib.Core.Logic.{⊎_elim}
 pub use mathlib.Core.Path.{◌∙◌, ◌≡◌, ap, ap₂, refl, subst, sym}

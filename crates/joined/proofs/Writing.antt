@@ -1,7 +1,7 @@
 -- Bytes that are written one part after another into a room, and the parts of both forms. Assumes nothing.
 use Rattle.joined.proofs.Names.{ℕ, zero, suc, ◌+◌, ◌-◌, ◌≤◌, ◌≡◌, refl, sym, ap, ◌∙◌, subst, List, [], ◌∷◌, ◌++◌, length, take, drop}
-use Rattle.joined.proofs.Names.{length-take, length-drop, drop-drop, take_at, take-append-drop, arith, part, gives, size, token_at, tokens, joined, Token}
-use Rattle.joined.proofs.Names.{little_bytes, cut, heads_of, heads_in, unjoined, check_joined, concat}
+use Rattle.joined.proofs.Names.{length-take, length-drop, drop-drop, take_all, take_at, take-append-drop, arith, part, gives, size}
+use Rattle.joined.proofs.Names.{token_at, tokens, joined, Token, little_bytes, cut, heads_of, heads_in, unjoined, check_joined, concat}
 use Rattle.room.specs.Lent.{Lent, text_of, with_bytes}
 use Rattle.room.specs.declared.Text.{Text}
 use Rattle.room.proofs.Lents.{with_bytes_twice, with_none}
@@ -115,15 +115,16 @@ module _ {j text h : List ℕ} {old t : Lent} {hs rest : List (List ℕ)} (w : S
   first = shared_first (subst (Shared text) e w.shared)
 
   module _ {n : ℕ} (f : n ≡ size h) where
-    -- its first bytes and its share are written
-    pub sharing_more : {x y : List ℕ} (one two : Lent) → one ≡ with_bytes h t → two ≡ with_bytes x one → x ≡ take n text → y ≡ drop n text
+    -- its first six bytes and its share are written
+    pub sharing_more : {x y : List ℕ} (one two : Lent) → one ≡ with_bytes (take 6 h) t → two ≡ with_bytes x one → x ≡ take n text → y ≡ drop n text
         → Sharing j old y rest two
     unfolding records
     sharing_more one two a b g k = rw (k, f) (record {
       shared = first.2;
       putting = putting_more (records (drop (size h) text) rest) two
-          (putting_more (take (size h) text ++ records (drop (size h) text) rest) one w.putting (ap (records text) e) refl a) refl
-          (g ∙ ap (λ (m : ℕ). take m text) f) b;
+          (putting_more (take (size h) text ++ records (drop (size h) text) rest) one w.putting (ap (records text) e)
+          (take_all 6 h (omega (arith, first.0))) a)
+          refl (g ∙ ap (λ (m : ℕ). take m text) f) b;
     })
 
 -- no record is left

@@ -1,5 +1,5 @@
 -- Bytes that others start with, and the text that is just one space. Assumes nothing.
-use Rattle.splitter.proofs.Names.{ℕ, ◌≡◌, refl, sym, ap, ◌∙◌, Bool, true, false, ◌||◌, false≢true, List, [], ◌∷◌, eqb, length, take, drop}
+use Rattle.splitter.proofs.Names.{ℕ, ◌≡◌, refl, sym, ap, ◌∙◌, Bool, true, false, ◌||◌, ◌&&◌, false≢true, List, [], ◌∷◌, eqb, length, take, drop}
 use Rattle.splitter.proofs.Names.{take-append_seam, eq-eqb, eqb-true, starts_with, pick, and_left, and_both, starts-split, before, is_line_end_or_space}
 use Rattle.splitter.proofs.Names.{word, is_space}
 
@@ -10,6 +10,16 @@ pub starts-head : (x : ℕ) (xs s : List ℕ) → starts_with (x ∷ xs) s ≡ t
 unfolding starts_with
 starts-head x xs [] e = e
 starts-head x xs (b ∷ s) e = and_both (and_left (eqb b x) (starts_with xs s) e) refl
+
+-- what does not start with a byte starts with no more after it
+pub starts-other : (x : ℕ) (xs s : List ℕ) → starts_with (x ∷ []) s ≡ false → starts_with (x ∷ xs) s ≡ false
+unfolding starts_with
+starts-other x xs [] n = n
+starts-other x xs (b ∷ s) n = go (eqb b x) n
+  where
+    go : (t : Bool) → t && true ≡ false → t && starts_with xs s ≡ false
+    go true f = absurd (false≢true (sym f))
+    go false f = f
 
 -- what stands before the first byte that passes a test
 pub before-starts : (stop : ℕ → Bool) (s : List ℕ) → starts_with (before stop s) s ≡ true

@@ -49,8 +49,8 @@ returns-then-run c =
     let l = c.loop-at in
     record {
       words =
-          run_on _ _ _ _ _ _ _ l.page.len.0 _ l.at l.invariant.0 (given_in _ l.page.len.0 l.invariant.0.there.inside) (inside d) _ r.new.free (left d) r.auto.free
-          _ r.result.len r.result.width r.ensures (omega (arith, c.if-set-column.false));
+          run_on _ _ _ _ _ _ _ l.page.len.0 _ l.at l.invariant.0 (given_in _ l.page.len.0 l.invariant.0.there.inside) (inside d)
+          _ r.new.free (left d) r.auto.free _ r.result.len r.result.width r.ensures (omega (arith, c.if-set-column.false));
       lay = ap (with_column (l.page.lay.column.0 + r.result.width)) l.invariant.1;
     }
 
@@ -59,7 +59,7 @@ loop-at-preserved c =
     let d = (goal.at.loop-at-preserved c).After-copy_run-run in
     let r = c.copy_run-run in
     let l = c.loop-at in (
-      run_on _ _ _ _ _ _ _ l.page.len.0 _ l.at l.invariant.0 (given_in _ l.page.len.0 l.invariant.0.there.inside) (inside d) _ r.new.free (left d) r.auto.free
-          _ r.result.len r.result.width r.ensures (omega (arith, c.if-set-column.false)),
+      run_on _ _ _ _ _ _ _ l.page.len.0 _ l.at l.invariant.0 (given_in _ l.page.len.0 l.invariant.0.there.inside) (inside d)
+          _ r.new.free (left d) r.auto.free _ r.result.len r.result.width r.ensures (omega (arith, c.if-set-column.false)),
       ap (with_column (l.page.lay.column.0 + r.result.width)) l.invariant.1,
     )

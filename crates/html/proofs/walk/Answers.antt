@@ -2,6 +2,7 @@ use Rattle.html.proofs.Names.{◌≡◌, refl, sym, ◌∙◌, ap, arith, rules,
 use Rattle.room.specs.Lent.{Lent}
 use Rattle.room.proofs.Lents.{same_room}
 use Rattle.renderer.specs.Rendered.{standing}
+use Rattle.splitter.proofs.Steps.{first-none, placed-done}
 use Rattle.splitter_iter.proofs.Left.{took_next, none_next}
 use Rattle.html.proofs.Walked.{default-plain, on-start, on_full, on-end, on-entered, on-left, on_meta, on_named, body_own}
 use Rattle.html.proofs.Walked.{on_hidden, on-body, body-done, body-stopped, body-line, body-on}
@@ -66,7 +67,14 @@ chunks-smaller c =
     let n = took_next _ _ _ c.next-in-chunks.ensures.steps _ _ c.in-Some-next.is in
     rw n.1 (omega (arith, n.0.further, n.0.short, c.put_line-chunks.ensures.place))
 
--- the body's end: no chunk is left
+-- the body's end is reached by a line
+pub records-preserved-then-chunks : goal.records-preserved-then-chunks
+records-preserved-then-chunks c =
+    let i = body-line _ _ _ _ _ _ c.chunks.invariant c.put_line-chunks.new.t _ c.put_line-chunks.ensures.place c.put_line-chunks.ensures.text in
+    on_named (body-done _ _ _ _ _ _ i (placed-done _ _ (sym (first-none _ _ c.if-chunks.true))))
+    ((same_room _ _ _ _ c.change_style.ensures.text).0 ∙ c.records.invariant.same.0)
+
+-- no chunk is left
 pub records-preserved : goal.records-preserved
 records-preserved c =
     let i = body-line _ _ _ _ _ _ c.chunks.invariant c.put_line-chunks.new.t _ c.put_line-chunks.ensures.place c.put_line-chunks.ensures.text in

@@ -40,7 +40,7 @@ returns-in_err-check_share-in-Text c =
     let no = sym (share-text c.in-Some.s.place _ l.text.now stack c.in-Text.is)
     ∙ verdict_refused stack (c.check_share.ensures stack) c.in_err-check_share-in-Text.was in
     rw (p.1, p.2)
-    (sym (left-refused (length c.args.joined.now) l.s-iterator.at _ l.text.now stack s.0 s.1.0 c.if-s-lt6.false refl c.kind.ensures no)
+    (sym (left-refused (length c.args.joined.now) l.s-iterator.at _ l.text.now stack s.0 s.1.0 c.if-s-lt6.false c.size-size.ensures.0 c.kind.ensures no)
     ∙ l.invariant.1)
 
 pub slice_bounds-text-count : goal.slice_bounds-text-count
@@ -49,7 +49,7 @@ slice_bounds-text-count c =
     let stack = take l.depth (map index l.blocks) in
     let on = sym (share-text c.in-Some.s.place _ l.text.now stack c.in-Text.is)
     ∙ verdict_gives stack (c.check_share.ensures stack) c.in_ok-check_share-in-Text.was in
-    omega (arith, share_fits c.in-Some.s.place _ _ l.text.now stack on, c.size.ensures.0)
+    share_fits c.in-Some.s.place _ _ l.text.now stack on
 
 pub slice_bounds-text-start : goal.slice_bounds-text-start
 slice_bounds-text-start c =
@@ -57,7 +57,7 @@ slice_bounds-text-start c =
     let stack = take l.depth (map index l.blocks) in
     let on = sym (share-text c.in-Some.s.place _ l.text.now stack c.in-Text.is)
     ∙ verdict_gives stack (c.check_share.ensures stack) c.in_ok-check_share-in-Text.was in
-    omega (arith, share_fits c.in-Some.s.place _ _ l.text.now stack on, c.size.ensures.0)
+    share_fits c.in-Some.s.place _ _ l.text.now stack on
 
 pub loop-s-preserved-in-Text-1 : goal.loop-s-preserved-in-Text-1
 loop-s-preserved-in-Text-1 c =
@@ -66,11 +66,11 @@ loop-s-preserved-in-Text-1 c =
     let stack = take l.depth (map index l.blocks) in
     let on = sym (share-text c.in-Some.s.place _ l.text.now stack c.in-Text.is)
     ∙ verdict_gives stack (c.check_share.ensures stack) c.in_ok-check_share-in-Text.was in
-    let n = c.size.result in
+    let n = c.size-size.result in
     let rest = take_all (length l.text.now - n) (drop n l.text.now) (omega (arith, length-drop n l.text.now)) in (
       l.invariant.0,
-      rw (rest, c.size.ensures.0)
-          (sym (left-next (length c.args.joined.now) l.s-iterator.at _ l.text.now stack s.0 s.1.0 c.if-s-lt6.false refl c.kind.ensures on s.1.1)
+      rw rest
+          (sym (left-next (length c.args.joined.now) l.s-iterator.at _ l.text.now stack s.0 s.1.0 c.if-s-lt6.false c.size-size.ensures.0 c.kind.ensures on s.1.1)
           ∙ l.invariant.1),
     )
 

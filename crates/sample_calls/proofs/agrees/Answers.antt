@@ -12,6 +12,7 @@ pub returns : goal.returns
 returns c =
     let a = c.args in
     let w = wanted_in a.wanted a.text.now in
-    c.is_wanted.ensures ∙ ap (is_wanted (letter_of c.in-Some.call) a.width _ a.document.now) c.wanted_in-wanted.ensures ∙ ap (λ (n : ℕ). is_wanted (letter_of c.in-Some.call) a.width n a.document.now w) (part_length a.size _ refl c.if-size-gt512.false)
+    c.is_wanted.ensures ∙ ap (is_wanted (letter_of c.in-Some.call) a.width _ a.document.now) c.wanted_in-wanted.ensures
+    ∙ ap (λ (n : ℕ). is_wanted (letter_of c.in-Some.call) a.width n a.document.now w) (part_length a.size _ refl c.if-size-gt512.false)
     ∙ ap (λ (l : ℕ). is_wanted l a.width a.size a.document.now w) (sym c.in-Some.ensures.0)
     ∙ agrees-by a.letter a.width a.size a.document.now w c.in-Some.ensures.1 c.if-size-gt512.false
