@@ -35,6 +35,20 @@ module _ (c : ℕ) where
   hyphen_byte e false true = rw e
   hyphen_byte e false false = rw e
 
+  -- a backslash
+  pub backslash_byte : c ≡ 0x5C → (strip start : Bool) → escape_byte (text_mode strip) start c ≡ 0x5C ∷ 0x5C ∷ []
+  unfolding escape_byte special_byte guard backslash replaced bytes encode when◌then◌else◌
+  backslash_byte e true true = rw e
+  backslash_byte e true false = rw e
+  backslash_byte e false true = rw e
+  backslash_byte e false false = rw e
+
+  -- an apostrophe within a line
+  pub apostrophe_byte : c ≡ 0x27 → (strip start : Bool) → start ≡ false → escape_byte (text_mode strip) start c ≡ 0x5C ∷ 0x2A ∷ 0x28 ∷ 0x41 ∷ 0x71 ∷ []
+  unfolding escape_byte special_byte guard backslash replaced bytes encode when◌then◌else◌
+  apostrophe_byte e true start f = rw (e, f)
+  apostrophe_byte e false start f = rw (e, f)
+
   module _ (p : plain c ≡ true) where
     -- a plain byte is none of the four
     not-one : (k : ℕ) → plain k ≡ false → c ≡ k → ⊥

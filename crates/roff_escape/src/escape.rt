@@ -199,6 +199,15 @@ fn put_text_byte(t: &mut Text, strip: bool, start: bool, c: u8)
         t.put_all(b"\\-");
         return;
     }
+    // the other two that are escaped within a line, each in one write
+    if c == b'\\' {
+        t.put_all(b"\\\\");
+        return;
+    }
+    if !start && c == b'\'' {
+        t.put_all(b"\\*(Aq");
+        return;
+    }
     let ends = if strip { b' ' } else { b'\n' };
     put_special(t, ends, start, c);
 }
