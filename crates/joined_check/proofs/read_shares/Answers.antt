@@ -67,10 +67,11 @@ loop-s-preserved-in-Text-1 c =
     let on = sym (share-text c.in-Some.s.place _ l.text.now stack c.in-Text.is)
     ∙ verdict_gives stack (c.check_share.ensures stack) c.in_ok-check_share-in-Text.was in
     let n = c.size-size.result in
-    let rest = take_all (length l.text.now - n) (drop n l.text.now) (omega (arith, length-drop n l.text.now)) in (
+    let rest = take_all (length l.text.now - n) (drop n l.text.now) (omega (arith, length-drop n l.text.now)) in
+    let share = c.size-size.ensures.0 in (
       l.invariant.0,
       rw rest
-          (sym (left-next (length c.args.joined.now) l.s-iterator.at _ l.text.now stack s.0 s.1.0 c.if-s-lt6.false c.size-size.ensures.0 c.kind.ensures on s.1.1)
+          (sym (left-next (length c.args.joined.now) l.s-iterator.at _ l.text.now stack s.0 s.1.0 c.if-s-lt6.false share c.kind.ensures on s.1.1)
           ∙ l.invariant.1),
     )
 
