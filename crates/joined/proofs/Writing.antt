@@ -115,17 +115,21 @@ module _ {j text h : List ℕ} {old t : Lent} {hs rest : List (List ℕ)} (w : S
   first = shared_first (subst (Shared text) e w.shared)
 
   module _ {n : ℕ} (f : n ≡ size h) where
-    -- its first six bytes and its share are written
-    pub sharing_more : {x y : List ℕ} (one two : Lent) → one ≡ with_bytes (take 6 h) t → two ≡ with_bytes x one → x ≡ take n text → y ≡ drop n text
+    -- its first bytes and its share are written
+    pub sharing_more : {x y : List ℕ} (one two : Lent) → one ≡ with_bytes h t → two ≡ with_bytes x one → x ≡ take n text → y ≡ drop n text
         → Sharing j old y rest two
     unfolding records
     sharing_more one two a b g k = rw (k, f) (record {
       shared = first.2;
       putting = putting_more (records (drop (size h) text) rest) two
-          (putting_more (take (size h) text ++ records (drop (size h) text) rest) one w.putting (ap (records text) e)
-          (take_all 6 h (omega (arith, first.0))) a)
-          refl (g ∙ ap (λ (m : ℕ). take m text) f) b;
+          (putting_more (take (size h) text ++ records (drop (size h) text) rest) one w.putting (ap (records text) e) refl a) refl
+          (g ∙ ap (λ (m : ℕ). take m text) f) b;
     })
+
+    -- .. where its first six bytes are written, which are all that it has
+    pub sharing_more_six : {x y : List ℕ} (one two : Lent) → one ≡ with_bytes (take 6 h) t → two ≡ with_bytes x one → x ≡ take n text → y ≡ drop n text
+        → Sharing j old y rest two
+    sharing_more_six one two a = sharing_more one two (a ∙ ap (λ (l : List ℕ). with_bytes l t) (take_all 6 h (omega (arith, first.0))))
 
 -- no record is left
 pub sharing_done : {j text : List ℕ} {old : Lent} {hs : List (List ℕ)} (t : Text) → Sharing j old text hs (text_of t) → hs ≡ []

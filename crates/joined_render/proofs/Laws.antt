@@ -143,10 +143,22 @@ module _ (room : ℕ) (j : List ℕ) where
 
 -- Answers
 
+-- a refusal: the answer, and what stands in the room
+pub refused_both : {x : Result (List ℕ)} {n p : ℕ} → x ≡ refused n p → (◌≡◌ {A = Result ℕ} (refused n p) (measured x)) × (refused n p ≡ x)
+refused_both g = (ap measured (sym g), sym g)
+
 -- a refusal that is handed on: the answer, and the room
-pub refused_both : (room new : List ℕ) {x : Result (List ℕ)} {a : Refusal} {r : Answer ℕ Refusal} → x ≡ refused (refusal_number a) (refusal_place a) → r ≡ Err a
-    → new ≡ filled (length room) (standing room (Err a)) → (answered r ≡ measured x) × (new ≡ filled (length room) x)
-refused_both room new g e f = (ap answered e ∙ ap measured (sym g), f ∙ ap (filled (length room)) (sym g))
+pub refused_filled : (room new : List ℕ) {x : Result (List ℕ)} {a : Refusal} {r : Answer ℕ Refusal} → x ≡ refused (refusal_number a) (refusal_place a)
+    → r ≡ Err a → new ≡ filled (length room) (standing room (Err a)) → (answered r ≡ measured x) × (new ≡ filled (length room) x)
+refused_filled room new g e f = (ap answered e ∙ (refused_both g).0, f ∙ ap (filled (length room)) (refused_both g).1)
+
+-- what was answered, and left in the room, is what stands there
+standing-filled : (room : ℕ) (new : List ℕ) (m : Answer ℕ Refusal) (x : Result (List ℕ)) → answered m ≡ measured x → new ≡ filled room x → standing new m ≡ x
+unfolding padded
+standing-filled room new (Ok k) (gives t) e f = ap gives (ap (take k) f ∙ take_at t _ k (sym (gives_same e)))
+standing-filled room new (Ok k) (refused n p) e f = absurd (refused-gives (sym e))
+standing-filled room new (Err a) (gives t) e f = absurd (refused-gives e)
+standing-filled room new (Err a) (refused n p) e f = same-refusal e
 
 relocated-measured : (back : ℕ → ℕ → ℕ) (r : Result (List ℕ)) → relocated back (measured r) ≡ measured (relocated back r)
 relocated-measured back (gives x) = refl
@@ -156,14 +168,22 @@ relocated-filled : (back : ℕ → ℕ → ℕ) (room : ℕ) (r : Result (List �
 relocated-filled back room (gives x) = refl
 relocated-filled back room (refused n p) = refl
 
--- the document was rendered, and its answer got the place in the joined form
-pub rendered_both : (a : Asked) (room : ℕ) (j doc new : List ℕ) (m r : Answer ℕ Refusal) → check_joined j ≡ gives [] → doc ≡ unjoined j
+-- the document was rendered, and its answer got the place in the joined form: the answer, and the room
+pub rendered_filled : (a : Asked) (room : ℕ) (j doc new : List ℕ) (m r : Answer ℕ Refusal) → check_joined j ≡ gives [] → doc ≡ unjoined j
     → answered r ≡ measured (renders a room doc) → new ≡ filled room (renders a room doc) → answered m ≡ relocated (back_in j) (answered r)
     → (answered m ≡ measured (renders_joined a room j)) × (new ≡ filled room (renders_joined a room j))
-rendered_both a room j doc new m r e d f g q =
+rendered_filled a room j doc new m r e d f g q =
     let k : renders_joined a room j ≡ relocated (back_in j) (renders a room doc) =
     joined-renders room j e a ∙ ap (λ (x : List ℕ). relocated (back_in j) (renders a room x)) (sym d)
     in
     let answer = q ∙ ap (relocated (back_in j)) f ∙ relocated-measured (back_in j) (renders a room doc) ∙ ap measured (sym k) in
     let left = g ∙ sym (relocated-filled (back_in j) room (renders a room doc)) ∙ ap (filled room) (sym k) in
     (answer, left)
+
+-- .. the answer, and what stands in the room
+pub rendered_both : (a : Asked) (room : ℕ) (j doc new : List ℕ) (m r : Answer ℕ Refusal) → check_joined j ≡ gives [] → doc ≡ unjoined j
+    → answered r ≡ measured (renders a room doc) → new ≡ filled room (renders a room doc) → answered m ≡ relocated (back_in j) (answered r)
+    → (answered m ≡ measured (renders_joined a room j)) × (standing new m ≡ renders_joined a room j)
+rendered_both a room j doc new m r e d f g q =
+    let told = rendered_filled a room j doc new m r e d f g q in
+    (told.0, standing-filled room new m (renders_joined a room j) told.0 told.1)

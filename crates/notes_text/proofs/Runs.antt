@@ -8,7 +8,7 @@ use Rattle.room.specs.Lent.{Lent, with_bytes}
 use Rattle.room.proofs.Lents.{with_both}
 use Rattle.notes_rules.specs.Notes.{Styled, styled_as, Stretch, stretch, grown, stretches, records}
 use Rattle.notes_text.specs.declared.Run.{Run}
-use Rattle.notes_text.specs.InnerParts.{Last}
+use Rattle.notes_text.specs.InnerParts.{Last, RunsLast}
 use Rattle.notes_text.proofs.Ticks.{last_behind}
 use lib.Seq.{take_all}
 use Rattle.notes_rules.proofs.Texts.{styled-pair, styled_byte}
@@ -128,10 +128,6 @@ module _ (b : ℕ) (x : List ℕ) (w : Bool) where
 none-left : (x : List ℕ) → length x ≡ 0 → x ≡ []
 none-left x e = drop_of_length-le x {i = 0} (omega arith)
 
--- the last backtick, where a byte stands first
-pub last_rest : {s x : List ℕ} {b n : ℕ} → s ≡ b ∷ x → Last s n → Last x n
-last_rest {s} {x} {b} {n} c l = last_behind {s = b ∷ x} 1 (rw c at l)
-
 -- A run that is written
 
 -- So many bytes of style l were written, after which those that lead what is left follow.
@@ -139,7 +135,6 @@ pub record Ran (s : List ℕ) (l : Bool) (old new : Lent) (r : Run) : Type 0 whe
   pub text : with_bytes (lead l (styled r.within r.rest.now)) new ≡ with_bytes (lead l (styled l s)) old
   pub rest : behind l (styled r.within r.rest.now) ≡ behind l (styled l s)
   pub moved : length r.rest.now + length (lead l (styled l s)) ≤ length s + length (lead l (styled r.within r.rest.now))
-  pub last : (n : ℕ) → Last s n → Last r.rest.now n
 
 module _ {s : List ℕ} {l : Bool} {old new : Lent} {r : Run} (g : Ran s l old new r) where
   module _ {b : ℕ} {x : List ℕ} (c : r.rest.now ≡ b ∷ x) where
@@ -150,7 +145,6 @@ module _ {s : List ℕ} {l : Bool} {old new : Lent} {r : Run} (g : Ran s l old n
           text = ap (λ (ms : List Styled). with_bytes (lead l ms) new) (sym p) ∙ g.text;
           rest = ap (behind l) (sym p) ∙ g.rest;
           moved = omega (arith, g.moved, ap (λ (ms : List Styled). length (lead l ms)) p, ap length c, ap length i);
-          last = λ n h. rw i (last_rest c (g.last n h));
         }
 
     pub ran_span : Pair b x r.within ≡ false → r.within ≡ l → (n : ℕ) → Tick x n → (q : Run) → q.rest.now ≡ drop n x → q.within ≡ r.within
@@ -165,14 +159,13 @@ module _ {s : List ℕ} {l : Bool} {old new : Lent} {r : Run} (g : Ran s l old n
           text = with_both new next (with_bytes y next) (b ∷ take n x) y v refl ∙ ap (λ (z : List ℕ). with_bytes z new) (sym f) ∙ g.text;
           rest = sym h ∙ g.rest;
           moved = omega (arith, g.moved, m, ap length c, ap length i, length-drop n x, t.inside);
-          last = λ k a. rw i (last_behind n (last_rest c (g.last k a)));
         }
 
   ran_done : with_bytes [] new ≡ new → lead l (styled r.within r.rest.now) ≡ [] → behind l (styled r.within r.rest.now) ≡ styled r.within r.rest.now
       → (new ≡ with_bytes (lead l (styled l s)) old) × Runs s l r
   ran_done z e f = (
     sym z ∙ ap (λ (y : List ℕ). with_bytes y new) (sym e) ∙ g.text,
-    record { rest = sym f ∙ g.rest; moved = omega (arith, g.moved, ap length e); last = g.last },
+    record { rest = sym f ∙ g.rest; moved = omega (arith, g.moved, ap length e) },
   )
 
   pub ran_other : {b : ℕ} {x : List ℕ} → with_bytes [] new ≡ new → r.rest.now ≡ b ∷ x → Pair b x r.within ≡ false → (r.within ≡ l → ⊥)
@@ -182,6 +175,36 @@ module _ {s : List ℕ} {l : Bool} {old new : Lent} {r : Run} (g : Ran s l old n
   pub ran_end : with_bytes [] new ≡ new → length r.rest.now ≡ 0 → (new ≡ with_bytes (lead l (styled l s)) old) × Runs s l r
   unfolding lead behind styled
   ran_end z e = let n = none-left r.rest.now e in ran_done z (rw n refl) (rw n refl)
+
+-- .. where the last backtick stays
+
+-- the last backtick, where a byte stands first
+pub last_rest : {s x : List ℕ} {b n : ℕ} → s ≡ b ∷ x → Last s n → Last x n
+last_rest {s} {x} {b} {n} c l = last_behind {s = b ∷ x} 1 (rw c at l)
+
+pub record RanLast (s : List ℕ) (l : Bool) (old new : Lent) (r : Run) : Type 0 where
+  pub ran : Ran s l old new r
+  pub last : (n : ℕ) → Last s n → Last r.rest.now n
+
+module _ {s : List ℕ} {l : Bool} {old new : Lent} {r : Run} (g : RanLast s l old new r) where
+  module _ {b : ℕ} {x : List ℕ} (c : r.rest.now ≡ b ∷ x) where
+    pub ran_pair_last : (q : Run) → q.rest.now ≡ x → q.within ≡ not r.within → Pair b x r.within ≡ true → RanLast s l old new q
+    ran_pair_last q i j e = record { ran = ran_pair g.ran c q i j e; last = λ n h. rw i (last_rest c (g.last n h)) }
+
+    pub ran_span_last : Pair b x r.within ≡ false → r.within ≡ l → (n : ℕ) → Tick x n → (q : Run) → q.rest.now ≡ drop n x → q.within ≡ r.within
+        → (next : Lent) → next ≡ with_bytes (b ∷ take n x) new → RanLast s l old next q
+    ran_span_last p e n t q i j next v =
+        record { ran = ran_span g.ran c p e n t q i j next v; last = λ k a. rw i (last_behind n (last_rest c (g.last k a))) }
+
+  runs_last : (new ≡ with_bytes (lead l (styled l s)) old) × Runs s l r → (new ≡ with_bytes (lead l (styled l s)) old) × RunsLast s l r
+  runs_last h = (h.0, record { runs = h.1; last = g.last })
+
+  pub ran_other_last : {b : ℕ} {x : List ℕ} → with_bytes [] new ≡ new → r.rest.now ≡ b ∷ x → Pair b x r.within ≡ false → (r.within ≡ l → ⊥)
+      → (new ≡ with_bytes (lead l (styled l s)) old) × RunsLast s l r
+  ran_other_last z c p n = runs_last (ran_other g.ran z c p n)
+
+  pub ran_end_last : with_bytes [] new ≡ new → length r.rest.now ≡ 0 → (new ≡ with_bytes (lead l (styled l s)) old) × RunsLast s l r
+  ran_end_last z e = runs_last (ran_end g.ran z e)
 
 -- The records of a text
 
@@ -240,7 +263,6 @@ module _ (b : ℕ) (y : List ℕ) (w : Bool) (p : Pair b y w ≡ false) (r : Run
 
 pub record Leaves (s : List ℕ) (old new : Lent) (r : Run) : Type 0 where
   pub text : with_bytes (records_of r.rest.now r.within) new ≡ with_bytes (records_of s false) old
-  pub last : (n : ℕ) → Last s n → Last r.rest.now n
 
 module _ {s : List ℕ} {old new : Lent} {r : Run} (l : Leaves s old new r) where
   module _ {b : ℕ} {x : List ℕ} (c : r.rest.now ≡ b ∷ x) where
@@ -248,7 +270,7 @@ module _ {s : List ℕ} {old new : Lent} {r : Run} (l : Leaves s old new r) wher
     leaves_pair q i j e =
         let p : records_of r.rest.now r.within ≡ records_of q.rest.now q.within =
         rw (c, i, j) (ap (λ (ms : List Styled). records (stretches ms)) (pair-on b x r.within e)) in
-        record { text = ap (λ (y : List ℕ). with_bytes y new) (sym p) ∙ l.text; last = λ n h. rw i (last_rest c (l.last n h)) }
+        record { text = ap (λ (y : List ℕ). with_bytes y new) (sym p) ∙ l.text }
 
     pub leaves_run : Pair b x r.within ≡ false → (q : Run) → Runs r.rest.now r.within q → (next : Lent)
         → next ≡ with_bytes (run_record r.within (lead r.within (styled r.within r.rest.now))) new → Leaves s old next q
@@ -257,7 +279,6 @@ module _ {s : List ℕ} {old new : Lent} {r : Run} (l : Leaves s old new r) wher
         rw c (records_run b x r.within p q (rw c at h)) in
         record {
           text = with_both new next (with_bytes (records_of q.rest.now q.within) next) _ _ e refl ∙ ap (λ (y : List ℕ). with_bytes y new) (sym f) ∙ l.text;
-          last = λ n a. h.last n (l.last n a);
         }
 
     pub run_less : Pair b x r.within ≡ false → (q : Run) → Runs r.rest.now r.within q → length q.rest.now < length r.rest.now
@@ -267,3 +288,17 @@ module _ {s : List ℕ} {old new : Lent} {r : Run} (l : Leaves s old new r) wher
   leaves_none z e =
       let n = ap (λ (x : List ℕ). records_of x r.within) (none-left r.rest.now e) ∙ records-none r.within in
       sym z ∙ ap (λ (y : List ℕ). with_bytes y new) (sym n) ∙ l.text
+
+-- .. where the last backtick stays
+
+pub record LeavesLast (s : List ℕ) (old new : Lent) (r : Run) : Type 0 where
+  pub leaves : Leaves s old new r
+  pub last : (n : ℕ) → Last s n → Last r.rest.now n
+
+module _ {s : List ℕ} {old new : Lent} {r : Run} (l : LeavesLast s old new r) {b : ℕ} {x : List ℕ} (c : r.rest.now ≡ b ∷ x) where
+  pub leaves_pair_last : (q : Run) → q.rest.now ≡ x → q.within ≡ not r.within → Pair b x r.within ≡ true → LeavesLast s old new q
+  leaves_pair_last q i j e = record { leaves = leaves_pair l.leaves c q i j e; last = λ n h. rw i (last_rest c (l.last n h)) }
+
+  pub leaves_run_last : Pair b x r.within ≡ false → (q : Run) → RunsLast r.rest.now r.within q → (next : Lent)
+      → next ≡ with_bytes (run_record r.within (lead r.within (styled r.within r.rest.now))) new → LeavesLast s old next q
+  leaves_run_last p q h next e = record { leaves = leaves_run l.leaves c p q h.runs next e; last = λ n a. h.last n (l.last n a) }

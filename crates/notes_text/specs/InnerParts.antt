@@ -31,11 +31,14 @@ unfoldable pub behind : Bool → List Styled → List Styled
 behind l [] = []
 behind l (m ∷ ms) = when beq l m.literal then behind l ms else m ∷ ms
 
--- the bytes of one style that stand first, where a pair is open if that style is Literal, were passed over: the others follow, and the
--- last backtick stays
+-- the bytes of one style that stand first, where a pair is open if that style is Literal, were passed over: the others follow
 pub record Runs (s : List ℕ) (within : Bool) (r : Run) : Type 0 where
   pub rest : styled r.within r.rest.now ≡ behind within (styled within s)
   pub moved : length r.rest.now + length (lead within (styled within s)) ≤ length s
+
+-- .. and the last backtick stays
+pub record RunsLast (s : List ℕ) (within : Bool) (r : Run) : Type 0 where
+  pub runs : Runs s within r
   pub last : (n : ℕ) → Last s n → Last r.rest.now n
 
 -- the record of some bytes in the style of a stretch

@@ -147,6 +147,28 @@ pub fn agrees(
     width: usize,
     size: usize,
     document: &[u8],
+    wanted: Result<&[u8], Refused>,
+) -> bool
+    ensures { result ≡ agrees letter width size document.now (asked wanted.entry) }
+{
+    let Some(call) = call_of(letter) else {
+        return false;
+    };
+    if 512 < size {
+        return false;
+    }
+    let mut space = [0xA5u8; 512];
+    is_wanted(call, width, document, wanted, &mut space[..size])
+}
+
+// The same, where a wanted text is told by its length, and is the first bytes, so many, of `text`. (`agrees` does not follow from it: there a refusal with the
+// number 0 is wanted as such, which no call answers; here an empty text is wanted then.)
+#[tactic(auto, using(crate::proofs::Calls::agrees_no))]
+pub fn agrees_in(
+    letter: u8,
+    width: usize,
+    size: usize,
+    document: &[u8],
     wanted: Result<usize, Refused>,
     text: &[u8],
 ) -> bool
@@ -159,6 +181,50 @@ pub fn agrees(
         return false;
     }
     let mut space = [0xA5u8; 512];
-    let wanted = wanted_in(wanted, text);
-    is_wanted(call, width, document, wanted, &mut space[..size])
+    let first = wanted_in(wanted, text);
+    is_wanted(call, width, document, first, &mut space[..size])
+}
+
+#[cfg(test)]
+mod tests {
+    use super::*;
+
+    // The document of the text `a b`, as 01 stores it: length 3, kind 1.
+    const DOCUMENT: &[u8] = b"\x03\0\0\0\x01\0a b";
+
+    // The wanted text, which begins with the preamble.
+    const TEXT: &[u8] = b".ie \\n(.g .ds Aq \\(aq\n.el .ds Aq '\na b";
+
+    // In a line of three columns the console writes `a b`, in two it folds; in a room of two bytes 13 is met.
+    #[test]
+    fn texts_and_refusals(rt: HostRuntime) {
+        let no_room = Refused {
+            number: 13,
+            place: 0,
+        };
+        assert!(rt; agrees(b'c', 3, 512, DOCUMENT, Ok(TEXT)));
+        assert!(rt; !agrees(b'c', 2, 512, DOCUMENT, Ok(TEXT)));
+        assert!(rt;
+            !agrees(b'c', 3, 513, DOCUMENT, Ok(TEXT)),
+            "a room of 513 bytes"
+        );
+        assert!(rt; agrees(b'c', 3, 2, DOCUMENT, Err(no_room)));
+        assert!(rt; !agrees(b'x', 3, 512, DOCUMENT, Ok(TEXT)), "no call");
+        assert!(rt; agrees_in(b'c', 3, 512, DOCUMENT, Ok(38), TEXT));
+        assert!(rt;
+            !agrees_in(b'c', 3, 512, DOCUMENT, Ok(37), TEXT),
+            "one byte less"
+        );
+    }
+
+    // A refusal with the number 0, which no call answers; for `agrees_in` an empty text is wanted then.
+    #[test]
+    fn number_0(rt: HostRuntime) {
+        let none = Refused {
+            number: 0,
+            place: 0,
+        };
+        assert!(rt; !agrees(b'k', 3, 512, DOCUMENT, Err(none)));
+        assert!(rt; agrees_in(b'k', 3, 512, DOCUMENT, Err(none), TEXT));
+    }
 }

@@ -55,7 +55,7 @@ impl<'a, W: Write> State<'a, W> {
     // Whether the call of a letter answers as wanted.
     fn agrees(&self, letter: u8) -> bool {
         let document = written(&self.document);
-        sample_calls::agrees(
+        sample_calls::agrees_in(
             letter,
             self.width,
             self.room,

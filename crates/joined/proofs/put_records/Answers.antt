@@ -1,6 +1,6 @@
 use Rattle.joined.proofs.Names.{ap, ◌∙◌}
 use Rattle.joined_check.specs.Listed.{left}
-use Rattle.joined.proofs.Writing.{sharing_start, sharing_more, sharing_done}
+use Rattle.joined.proofs.Writing.{sharing_start, sharing_more_six, sharing_done}
 use Rattle.joined.proofs.put_records.Goals as goal
 
 pub loop-s-init : goal.loop-s-init
@@ -9,7 +9,7 @@ loop-s-init c =
 
 pub loop-s-preserved : goal.loop-s-preserved
 loop-s-preserved c =
-    sharing_more c.loop-s.invariant c.in-Some.ensures.steps.0 c.size.ensures.0 _ _ c.put_all.ensures c.put_all-in-loop-s.ensures c.split_at.ensures.front
+    sharing_more_six c.loop-s.invariant c.in-Some.ensures.steps.0 c.size.ensures.0 _ _ c.put_all.ensures c.put_all-in-loop-s.ensures c.split_at.ensures.front
     c.split_at.ensures.back
 
 pub returns : goal.returns
