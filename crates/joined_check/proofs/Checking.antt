@@ -89,15 +89,14 @@ module _ (j : List ℕ) where
   heads-by e = rw e (refl, refl)
 
   -- the first of them, and the others
-  pub left_part : (at : ℕ) → at < length j → {h : List ℕ} → h ≡ part j at (at + 6) → heads_from j at ≡ h ∷ heads_from j (at + 6)
-  left_part at l e =
-      heads_next j at l ∙ ap (λ (k : ℕ). take k (drop at j) ∷ heads_from j (at + 6)) (let z : 6 ≡ at + 6 - at = omega arith in z)
-      ∙ ap (λ (h : List ℕ). h ∷ heads_from j (at + 6)) (sym e)
-
   left_first : (at : ℕ) → at < length j → {h : List ℕ} → h ≡ take 6 (drop at j) → heads_from j at ≡ h ∷ heads_from j (at + 6)
-  left_first at l e = left_part at l (e ∙ ap (λ (k : ℕ). take k (drop at j)) (let z : 6 ≡ at + 6 - at = omega arith in z))
+  left_first at l e = heads_next j at l ∙ ap (λ (h : List ℕ). h ∷ heads_from j (at + 6)) (sym e)
 
-  -- .. all that is left, where that is under six bytes, or else the first six of it
+  -- .. told as a part
+  pub left_part : (at : ℕ) → at < length j → {h : List ℕ} → h ≡ part j at (at + 6) → heads_from j at ≡ h ∷ heads_from j (at + 6)
+  left_part at l e = left_first at l (e ∙ ap (λ (k : ℕ). take k (drop at j)) (let z : at + 6 - at ≡ 6 = omega arith in z))
+
+  -- .. told as all that is left, where that is under six bytes, or else as the first six of it
   module _ (at : ℕ) (l : at < length j) where
     all_left : take (length j - at) (drop at j) ≡ drop at j
     all_left = take_all (length j - at) (drop at j) (omega (arith, length-drop at j))

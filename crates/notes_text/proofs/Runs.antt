@@ -8,7 +8,7 @@ use Rattle.room.specs.Lent.{Lent, with_bytes}
 use Rattle.room.proofs.Lents.{with_both}
 use Rattle.notes_rules.specs.Notes.{Styled, styled_as, Stretch, stretch, grown, stretches, records}
 use Rattle.notes_text.specs.declared.Run.{Run}
-use Rattle.notes_text.specs.InnerParts.{Last, RunsLast}
+use Rattle.notes_text.specs.InnerParts.{Last, KeepsLast}
 use Rattle.notes_text.proofs.Ticks.{last_behind}
 use lib.Seq.{take_all}
 use Rattle.notes_rules.proofs.Texts.{styled-pair, styled_byte}
@@ -128,6 +128,17 @@ module _ (b : ℕ) (x : List ℕ) (w : Bool) where
 none-left : (x : List ℕ) → length x ≡ 0 → x ≡ []
 none-left x e = drop_of_length-le x {i = 0} (omega arith)
 
+-- the last backtick, where a byte stands first
+pub last_rest : {s x : List ℕ} {b n : ℕ} → s ≡ b ∷ x → Last s n → Last x n
+last_rest {s} {x} {b} {n} c l = last_behind {s = b ∷ x} 1 (rw c at l)
+
+-- .. stays in what stands behind that byte, and in what stands m bytes further on
+pub keeps_byte : {s x y q : List ℕ} {b : ℕ} → x ≡ b ∷ y → q ≡ y → KeepsLast s x → KeepsLast s q
+keeps_byte c i k n l = rw i (last_rest c (k n l))
+
+pub keeps_span : {s x y q : List ℕ} {b : ℕ} → x ≡ b ∷ y → (m : ℕ) → q ≡ drop m y → KeepsLast s x → KeepsLast s q
+keeps_span c m i k n l = rw i (last_behind m (last_rest c (k n l)))
+
 -- A run that is written
 
 -- So many bytes of style l were written, after which those that lead what is left follow.
@@ -175,36 +186,6 @@ module _ {s : List ℕ} {l : Bool} {old new : Lent} {r : Run} (g : Ran s l old n
   pub ran_end : with_bytes [] new ≡ new → length r.rest.now ≡ 0 → (new ≡ with_bytes (lead l (styled l s)) old) × Runs s l r
   unfolding lead behind styled
   ran_end z e = let n = none-left r.rest.now e in ran_done z (rw n refl) (rw n refl)
-
--- .. where the last backtick stays
-
--- the last backtick, where a byte stands first
-pub last_rest : {s x : List ℕ} {b n : ℕ} → s ≡ b ∷ x → Last s n → Last x n
-last_rest {s} {x} {b} {n} c l = last_behind {s = b ∷ x} 1 (rw c at l)
-
-pub record RanLast (s : List ℕ) (l : Bool) (old new : Lent) (r : Run) : Type 0 where
-  pub ran : Ran s l old new r
-  pub last : (n : ℕ) → Last s n → Last r.rest.now n
-
-module _ {s : List ℕ} {l : Bool} {old new : Lent} {r : Run} (g : RanLast s l old new r) where
-  module _ {b : ℕ} {x : List ℕ} (c : r.rest.now ≡ b ∷ x) where
-    pub ran_pair_last : (q : Run) → q.rest.now ≡ x → q.within ≡ not r.within → Pair b x r.within ≡ true → RanLast s l old new q
-    ran_pair_last q i j e = record { ran = ran_pair g.ran c q i j e; last = λ n h. rw i (last_rest c (g.last n h)) }
-
-    pub ran_span_last : Pair b x r.within ≡ false → r.within ≡ l → (n : ℕ) → Tick x n → (q : Run) → q.rest.now ≡ drop n x → q.within ≡ r.within
-        → (next : Lent) → next ≡ with_bytes (b ∷ take n x) new → RanLast s l old next q
-    ran_span_last p e n t q i j next v =
-        record { ran = ran_span g.ran c p e n t q i j next v; last = λ k a. rw i (last_behind n (last_rest c (g.last k a))) }
-
-  runs_last : (new ≡ with_bytes (lead l (styled l s)) old) × Runs s l r → (new ≡ with_bytes (lead l (styled l s)) old) × RunsLast s l r
-  runs_last h = (h.0, record { runs = h.1; last = g.last })
-
-  pub ran_other_last : {b : ℕ} {x : List ℕ} → with_bytes [] new ≡ new → r.rest.now ≡ b ∷ x → Pair b x r.within ≡ false → (r.within ≡ l → ⊥)
-      → (new ≡ with_bytes (lead l (styled l s)) old) × RunsLast s l r
-  ran_other_last z c p n = runs_last (ran_other g.ran z c p n)
-
-  pub ran_end_last : with_bytes [] new ≡ new → length r.rest.now ≡ 0 → (new ≡ with_bytes (lead l (styled l s)) old) × RunsLast s l r
-  ran_end_last z e = runs_last (ran_end g.ran z e)
 
 -- The records of a text
 
@@ -288,17 +269,3 @@ module _ {s : List ℕ} {old new : Lent} {r : Run} (l : Leaves s old new r) wher
   leaves_none z e =
       let n = ap (λ (x : List ℕ). records_of x r.within) (none-left r.rest.now e) ∙ records-none r.within in
       sym z ∙ ap (λ (y : List ℕ). with_bytes y new) (sym n) ∙ l.text
-
--- .. where the last backtick stays
-
-pub record LeavesLast (s : List ℕ) (old new : Lent) (r : Run) : Type 0 where
-  pub leaves : Leaves s old new r
-  pub last : (n : ℕ) → Last s n → Last r.rest.now n
-
-module _ {s : List ℕ} {old new : Lent} {r : Run} (l : LeavesLast s old new r) {b : ℕ} {x : List ℕ} (c : r.rest.now ≡ b ∷ x) where
-  pub leaves_pair_last : (q : Run) → q.rest.now ≡ x → q.within ≡ not r.within → Pair b x r.within ≡ true → LeavesLast s old new q
-  leaves_pair_last q i j e = record { leaves = leaves_pair l.leaves c q i j e; last = λ n h. rw i (last_rest c (l.last n h)) }
-
-  pub leaves_run_last : Pair b x r.within ≡ false → (q : Run) → RunsLast r.rest.now r.within q → (next : Lent)
-      → next ≡ with_bytes (run_record r.within (lead r.within (styled r.within r.rest.now))) new → LeavesLast s old next q
-  leaves_run_last p q h next e = record { leaves = leaves_run l.leaves c p q h.runs next e; last = λ n a. h.last n (l.last n a) }

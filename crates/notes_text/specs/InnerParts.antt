@@ -36,10 +36,9 @@ pub record Runs (s : List ℕ) (within : Bool) (r : Run) : Type 0 where
   pub rest : styled r.within r.rest.now ≡ behind within (styled within s)
   pub moved : length r.rest.now + length (lead within (styled within s)) ≤ length s
 
--- .. and the last backtick stays
-pub record RunsLast (s : List ℕ) (within : Bool) (r : Run) : Type 0 where
-  pub runs : Runs s within r
-  pub last : (n : ℕ) → Last s n → Last r.rest.now n
+-- of what is left of a text s, x: what is Last of s is Last of x too (a last backtick that is in x stays the last one)
+abbrev pub KeepsLast : List ℕ → List ℕ → Type 0
+KeepsLast s x = (n : ℕ) → Last s n → Last x n
 
 -- the record of some bytes in the style of a stretch
 abbrev pub run_record : Bool → List ℕ → List ℕ

@@ -5,7 +5,7 @@
 ghost use Rattle.std.specs.Prelude.{◌≡◌, ◌&&◌, ◌||◌, eqb};
 ghost use Rattle.room.specs.Lent.{text_of, with_bytes};
 ghost use Rattle.notes_rules.specs.Notes.{ticked, styled, style_of, text_records};
-ghost use Rattle.notes_text.specs.InnerParts.{Tick, Free, Last, lead, RunsLast, run_record};
+ghost use Rattle.notes_text.specs.InnerParts.{Tick, Free, Last, lead, Runs, KeepsLast, run_record};
 
 use record_writer::{head_of, set_head};
 use records::Style;
@@ -101,7 +101,8 @@ fn style_of(literal: bool) -> Style
 fn put_run<'a>(t: &mut Text, s: &'a [u8], literal: bool, after: usize) -> Run<'a>
     requires { Last s.now after }
     ensures text { text_of t.new ≡ with_bytes (lead literal (styled literal s.now)) (text_of t.old) }
-    ensures run { RunsLast s.now literal result }
+    ensures run { Runs s.now literal result }
+    ensures last { KeepsLast s.now result.rest.now }
 {
     let mut run = Run {
         rest: s,
@@ -129,7 +130,8 @@ fn put_run<'a>(t: &mut Text, s: &'a [u8], literal: bool, after: usize) -> Run<'a
 fn put_record<'a>(t: &mut Text, s: &'a [u8], literal: bool, after: usize) -> Run<'a>
     requires { Last s.now after }
     ensures text { text_of t.new ≡ with_bytes (run_record literal (lead literal (styled literal s.now))) (text_of t.old) }
-    ensures run { RunsLast s.now literal result }
+    ensures run { Runs s.now literal result }
+    ensures last { KeepsLast s.now result.rest.now }
 {
     let kind = style_of(literal).number();
     let start = t.len;
